@@ -1,0 +1,113 @@
+ghost use Rattle.std.specs.Prelude.{◌≡◌, ◌↔◌, List, ℕ, IsTrue, IfOk, Some, nat_eq, refl};
+ghost use Rattle.std.specs.Cmp.Lexicographic.{pointwise, slice_cmp, nat_list_eq_equiv, nat_list_cmp_total, texts_ties, texts_po};
+ghost use Rattle.std.specs.Ordering.{nat_cmp};
+ghost use Rattle.std.specs.Cmp;
+
+use crate::fault::NoMemory;
+use std::alloc::Global;
+use std::cmp::Ordering;
+use std::fmt;
+use std::marker::Model;
+use std::sync::ArcStr;
+
+/// A text of UTF-8, of any length in bytes. Its copies share the bytes.
+#[derive(Drop)]
+pub struct Label {
+    text: ArcStr,
+}
+
+impl Model for Label {
+    ghost use Rattle.std.specs.Prelude.{List, ℕ};
+    ghost use Rattle.std.specs.Arc.{arc_str_bytes};
+
+    ghost Value = { List ℕ };
+
+    ghost view = { λ label. arc_str_bytes label.text };
+}
+
+impl Label {
+    /// The label of a text.
+    pub fn new(alloc: Global, text: &str) -> Result<Label, NoMemory>
+        ensures { IfOk result (λ label. label ≡ text.now) }
+    {
+        Ok(Label {
+            text: ArcStr::from_str(alloc, text)?,
+        })
+    }
+
+    /// The text.
+    pub fn as_str(&self) -> &str
+        ensures { result.now ≡ self.now }
+    {
+        self.text.as_str()
+    }
+
+    /// An equal label. It copies no bytes.
+    pub fn copy(&self) -> Result<Label, NoMemory>
+        ensures { IfOk result (λ label. label ≡ self.now) }
+    {
+        Ok(Label {
+            text: self.text.clone()?,
+        })
+    }
+
+    /// Whether the two have the same bytes.
+    pub fn same(&self, other: &Label) -> bool
+        ensures { IsTrue result ↔ (self.now ≡ other.now) }
+    {
+        self.as_str() == other.as_str()
+    }
+}
+
+impl PartialEq for Label {
+    ghost eq = { pointwise nat_eq };
+
+    ghost laws = { Cmp.partial_equiv_from_equiv nat_list_eq_equiv };
+
+    fn eq(&self, other: &Label) -> bool {
+        self.as_str() == other.as_str()
+    }
+}
+
+impl Eq for Label {
+    ghost laws = { nat_list_eq_equiv };
+}
+
+// Labels are ordered by their bytes.
+impl PartialOrd for Label {
+    ghost partial_cmp = { λ x y. Some (slice_cmp nat_cmp x y) };
+
+    ghost laws = { texts_po };
+
+    fn partial_cmp(&self, other: &Label) -> Option<Ordering> {
+        Some(self.cmp(other))
+    }
+}
+
+impl Ord for Label {
+    ghost cmp = { slice_cmp nat_cmp };
+
+    ghost total = { nat_list_cmp_total };
+
+    ghost matches_partial_cmp = { λ x y. refl };
+
+    ghost matches_eq = { texts_ties };
+
+    fn cmp(&self, other: &Label) -> Ordering {
+        self.as_str().cmp(other.as_str())
+    }
+}
+
+impl fmt::Debug for Label {
+    fn fmt<W: fmt::Write>(&self, f: &mut fmt::Formatter<W>) -> fmt::Result {
+        fmt::Debug::fmt(&self.as_str(), f)
+    }
+}
+
+impl fmt::Display for Label {
+    ghost output = { λ label. Some label };
+
+    fn fmt<W: fmt::Write>(&self, f: &mut fmt::Formatter<W>) -> fmt::Result {
+        f.pad(self.as_str())
+    }
+}

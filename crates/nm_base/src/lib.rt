@@ -1,0 +1,17 @@
+//! Numbers, masks, labels, error tags and decimals: the words that every layer above shares.
+//!
+//! Stands on `std` alone. The layers above rely on each number's range, on masks as sets of numbers,
+//! on labels as their bytes, and on decimals read and written as one spelling.
+#![tactic(auto)]
+
+pub mod fault;
+pub mod label;
+pub mod number;
+pub mod steps;
+pub mod tag;
+
+pub use fault::{Failed, NoMemory};
+pub use label::Label;
+pub use number::{ChangeNo, DeviceNo, EditNo, SelectNo, SessionId};
+pub use steps::Steps;
+pub use tag::Tag;
