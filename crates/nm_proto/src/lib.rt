@@ -5,9 +5,11 @@
 #![tactic(auto)]
 
 pub mod content;
+pub mod flat;
 pub mod message;
 pub mod number_map;
 
 pub use content::{ApplyFault, CheckFault, Content, Show, Tables};
+pub use flat::{FlatConfig, FlatContent, FlatEdit, FlatNode};
 pub use message::{DefaultOperation, Marks, Reply, Request, Store};
 pub use number_map::NumberMap;
