@@ -1,6 +1,7 @@
 ghost use Rattle.std.specs.Prelude.{◌≡◌, ◌↔◌, ◌≤◌, OnOk, OnErr, IsErr};
 ghost use Rattle.nm_io.specs.Memory.{called, faulted, Fails};
 
+use crate::count::count_fault;
 use nm_base::Failed;
 use std::marker::Model;
 
@@ -51,7 +52,6 @@ impl PlannedCalls {
         ensures count { self.old.faults ≤ self.new.faults }
         ensures fault { self.new ≡ faulted self.old }
     {
-        self.faults = self.faults.saturating_add(1);
-        Failed
+        count_fault(&mut self.faults)
     }
 }

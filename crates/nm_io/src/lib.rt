@@ -5,6 +5,7 @@
 #![tactic(auto)]
 
 mod calls;
+mod count;
 pub mod memory;
 pub mod reading;
 pub mod sink;

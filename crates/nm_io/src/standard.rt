@@ -2,6 +2,7 @@ ghost use Rattle.std.specs.Prelude.{◌≡◌, ◌≤◌, ◌<◌, ◌+◌, ℕ,
 ghost use Rattle.std.specs.Io.KnownBytes.{prepend_known, append_known, IsAtEnd};
 ghost use Rattle.nm_io.specs.Count.{Rose, raised};
 
+use crate::count::count_fault;
 use crate::sink::Sink;
 use crate::source::Source;
 use nm_base::Failed;
@@ -43,10 +44,7 @@ impl<T: Read> Source for StdSource<T> {
     {
         match self.from.read(into) {
             Ok(count) => Ok(count),
-            Err(_) => {
-                self.faults = self.faults.saturating_add(1);
-                Err(Failed)
-            }
+            Err(_) => Err(count_fault(&mut self.faults)),
         }
     }
 }
@@ -88,10 +86,7 @@ impl<T: Write> Sink for StdSink<T> {
     {
         match self.to.write(piece) {
             Ok(count) if 0 < count || piece.is_empty() => Ok(count),
-            _ => {
-                self.faults = self.faults.saturating_add(1);
-                Err(Failed)
-            }
+            _ => Err(count_fault(&mut self.faults)),
         }
     }
 }

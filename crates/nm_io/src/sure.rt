@@ -64,7 +64,9 @@ fn copy_front(from: &[u8], into: &mut [u8]) -> usize
 pub struct SureSink {}
 
 impl SureSink {
-    pub fn new() -> SureSink {
+    pub fn new() -> SureSink
+        ensures { result ≡ record {} }
+    {
         SureSink {}
     }
 }
