@@ -1,6 +1,4 @@
-ghost use Rattle.std.specs.Prelude.{◌≡◌, ◌≤◌, ◌<◌, ◌+◌, ◌-◌, ◌++◌, ◌↔◌, List, [], ℕ, length, take, drop, min, Ok, Some, IfOk, OnOk, OnErr, IsErr};
-ghost use Rattle.std.specs.Io.KnownBytes.{prepend_known, append_known, IsAtEnd};
-ghost use Rattle.nm_io.specs.Count.{Rose};
+ghost use Rattle.std.specs.Prelude.{◌≡◌, ◌≤◌, ◌<◌, ◌+◌, ◌-◌, ◌++◌, ◌↔◌, [], length, take, drop, min, Some, IfOk, OnOk, OnErr, IsErr};
 ghost use Rattle.nm_io.specs.Memory.{first_calls, called, faulted, Fails, Refuses};
 
 use crate::calls::PlannedCalls;

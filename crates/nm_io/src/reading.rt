@@ -1,5 +1,5 @@
-ghost use Rattle.std.specs.Prelude.{◌≡◌, ◌≤◌, ◌<◌, ◌+◌, ◌*◌, List, ℕ, length, IfOk, OnOk, IfSome, IsErrOf, vec_len, vec_capacity, [], Ok};
-ghost use Rattle.std.specs.Io.KnownBytes.{prepend_known, IsAtEnd};
+ghost use Rattle.std.specs.Prelude.{◌≡◌, ◌≤◌, ◌<◌, length, IfOk, OnOk, IfSome, IsErrOf, vec_capacity, []};
+ghost use Rattle.std.specs.Io.KnownBytes.{IsAtEnd};
 ghost use Rattle.nm_io.specs.Count.{Rose};
 ghost use Rattle.nm_io.specs.Bytes.{ReadsFront};
 ghost use Rattle.nm_io.specs.declared.reading.ReadAllFault.TheVariants.{NoMemory};
