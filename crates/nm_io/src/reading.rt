@@ -1,4 +1,4 @@
-ghost use Rattle.std.specs.Prelude.{◌≡◌, ◌≤◌, ◌<◌, length, IfOk, OnOk, IfSome, IsErrOf, vec_capacity, []};
+ghost use Rattle.std.specs.Prelude.{◌≡◌, ◌≤◌, ◌<◌, List, ℕ, IsErr, length, IfOk, OnOk, IfSome, IsErrOf, vec_capacity, []};
 ghost use Rattle.std.specs.Io.KnownBytes.{IsAtEnd};
 ghost use Rattle.nm_io.specs.Count.{Rose};
 ghost use Rattle.nm_io.specs.Bytes.{ReadsFront};
@@ -58,6 +58,7 @@ pub fn read_all<S: Source>(
 
     ensures read_fault { IsErrOf result ReadAllFault.ReadFault → Rose (S.faults from.old) (S.faults from.new) }
     ensures too_long { IsErrOf result ReadAllFault.TooLong → IfSome (S.left from.old) (λ told. limit < length told) }
+    ensures above_limit { (told : List ℕ) → S.left from.old ≡ Some told → limit < length told → IsErr result }
     ensures no_memory { IsErrOf result ReadAllFault.NoMemory → from.new ≡ from.old }
 
     ensures front { ReadsFront (S.left from.old) (S.left from.new) }
@@ -83,7 +84,8 @@ fn fill<S: Source>(
     ensures fits { IfOk result (λ all. length all.items ≤ limit) }
     ensures read_fault { IsErrOf result ReadAllFault.ReadFault → Rose (S.faults from.old) (S.faults from.new) }
     ensures too_long { IsErrOf result ReadAllFault.TooLong → IfSome (S.left from.old) (λ told. limit < length told) }
-    ensures some_memory { IsErrOf result ReadAllFault.NoMemory → ⊥ }
+    ensures above_limit { (told : List ℕ) → S.left from.old ≡ Some told → limit < length told → IsErr result }
+    ensures has_memory { IsErrOf result ReadAllFault.NoMemory → ⊥ }
     ensures front { ReadsFront (S.left from.old) (S.left from.new) }
     ensures count { S.faults from.old ≤ S.faults from.new }
 {

@@ -26,6 +26,7 @@ impl<T> Model for StdSource<T> {
 }
 
 impl<T> StdSource<T> {
+    /// The reader as a source that had no error yet.
     pub fn new(from: T) -> StdSource<T>
         ensures { result ≡ fresh from }
     {
@@ -67,6 +68,7 @@ impl<T> Model for StdSink<T> {
 }
 
 impl<T> StdSink<T> {
+    /// The writer as a sink that had no error yet.
     pub fn new(to: T) -> StdSink<T>
         ensures { result ≡ fresh to }
     {

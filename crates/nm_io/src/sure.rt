@@ -62,6 +62,7 @@ fn copy_front(from: &[u8], into: &mut [u8]) -> usize
 pub struct SureSink {}
 
 impl SureSink {
+    /// A sink that takes all.
     pub fn new() -> SureSink
         ensures { result ≡ record {} }
     {
