@@ -8,6 +8,8 @@ pub mod content;
 pub mod flat;
 pub mod message;
 pub mod number_map;
+#[cfg(test)]
+mod tests;
 
 pub use content::{ApplyFault, CheckFault, Content, Show, Tables};
 pub use flat::{FlatConfig, FlatContent, FlatEdit, FlatNode};
