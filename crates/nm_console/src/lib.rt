@@ -1,0 +1,10 @@
+//! The program's commands, from the bytes of a scenario to the bytes of its text.
+//!
+//! Stands on the reader of scenarios, on contents and messages, and on sources and sinks. `console` is the top call:
+//! its contract says which bytes it writes for which bytes it reads.
+#![tactic(auto)]
+
+pub mod course;
+pub mod device;
+pub mod link;
+pub mod outcome;
