@@ -4,7 +4,11 @@
 //! its contract says which bytes it writes for which bytes it reads.
 #![tactic(auto)]
 
+pub mod command;
+pub mod console;
 pub mod course;
 pub mod device;
 pub mod link;
 pub mod outcome;
+pub mod status;
+mod text;
