@@ -4,5 +4,6 @@ pub mod World
 pub mod Outcome
 pub mod Status
 pub mod Words
+pub mod Report
 pub mod Text
 pub mod Console

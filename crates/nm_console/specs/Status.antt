@@ -5,6 +5,7 @@ use Rattle.nm_console.specs.declared.status.Status.TheVariants as status
 
 abbrev pub status_code : Status → ℕ
 status_code status.Ok = 0
+status_code status.Differ = 1
 status_code status.Usage = 2
 status_code status.Scenario = 3
 status_code status.ReadFault = 4
@@ -15,6 +16,7 @@ status_code status.Unsettled = 10
 -- the whole answer was written
 abbrev pub is_whole : Status → Bool
 is_whole status.Ok = true
+is_whole status.Differ = true
 is_whole status.Usage = true
 is_whole status.Scenario = true
 is_whole status.ReadFault = false

@@ -10,5 +10,6 @@ pub mod course;
 pub mod device;
 pub mod link;
 pub mod outcome;
+pub mod report;
 pub mod status;
 mod text;

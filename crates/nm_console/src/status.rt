@@ -5,6 +5,8 @@ ghost use Rattle.std.specs.Prelude.{◌≡◌};
 pub enum Status {
     /// The text was written whole, and each device has what it should.
     Ok,
+    /// The text was written whole, and a device lost a change set that was to be committed.
+    Differ,
     /// The words are not words of the program.
     Usage,
     /// The input is no scenario.
@@ -28,6 +30,7 @@ impl Status {
     {
         match self {
             Status::Ok => 0,
+            Status::Differ => 1,
             Status::Usage => 2,
             Status::Scenario => 3,
             Status::ReadFault => 4,
