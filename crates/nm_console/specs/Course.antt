@@ -120,6 +120,11 @@ abbrev pub fewest_from : ℕ → List Link → Option Choice
 fewest_from place [] = None
 fewest_from place (link ∷ links) = fewer (choice_of place (sent_since link)) (fewest_from (place + 1) links)
 
+-- a count and its place, as the code carries them
+abbrev pub chosen : Option (ℕ × ℕ) → Option Choice
+chosen None = None
+chosen (Some best) = Some (record { count = best.0; place = best.1 })
+
 -- ---- what comes next
 
 abbrev pub send_at : Option ℕ → Action

@@ -1,7 +1,8 @@
 -- A device as one session of the manager meets it: one case for each request, its tests in order, then what it does
 -- (RFC 6241 sections 7 and 8). The code moves configurations; these are functions of the whole state.
-use Rattle.std.specs.Prelude.{◌≡◌, ℕ, ◌+◌, ◌-◌, ◌^◌, ◌==◌, List, [], ◌∷◌, ◌++◌, Bool, true, false, not, Option, Some, None, IfSome, is_some, unwrap_or, slice_get, Result, Ok, Err, if◌then◌else◌}
+use Rattle.std.specs.Prelude.{◌≡◌, ℕ, ◌+◌, ◌-◌, ◌^◌, ◌==◌, List, [], ◌∷◌, ◌++◌, Bool, true, false, ◌&&◌, Option, Some, None, IfSome, is_some, unwrap_or, slice_get, Result, Ok, Err, if◌then◌else◌}
 use Rattle.std.specs.Str.{bytes_eq}
+use Rattle.nm_base.specs.declared.fault.NoMemory.{NoMemory}
 use Rattle.nm_base.specs.declared.number.EditNo.{EditNo}
 use Rattle.nm_base.specs.declared.tag.Tag.{Tag}
 use Rattle.nm_base.specs.declared.tag.Tag.TheVariants.{InUse, InvalidValue, LockDenied, AccessDenied, DataExists, DataMissing, OperationFailed, ResourceDenied, UnknownElement, BadAttribute, MissingElement}
@@ -15,6 +16,7 @@ use Rattle.nm_proto.specs.declared.message.Reply.{Reply}
 use Rattle.nm_proto.specs.declared.message.Reply.TheVariants.{Done, Opened, Error}
 use Rattle.nm_proto.specs.Content.{Meaning, Refusal}
 use Rattle.nm_console.specs.declared.device.Noted.{Noted}
+use Rattle.nm_console.specs.Course.{is_done}
 
 -- a device: its datastores (RFC 8342 section 5), the last session id given, the sessions that own the global locks, the
 -- token of a pending confirmed commit (RFC 6241 section 8.4), and its history, oldest first. A candidate that is None
@@ -27,6 +29,22 @@ pub record DeviceState (Config : Type 0) : Type 0 where
   pub candidate_lock : Option ℕ
   pub pending : Option (List ℕ)
   pub history : List Noted
+
+abbrev pub is_commit : Request → Bool
+is_commit (Commit confirmed timeout persist persist_id) = true
+is_commit (OpenSession user) = false
+is_commit (Lock store) = false
+is_commit (Unlock store) = false
+is_commit (PartialLock select) = false
+is_commit (PartialUnlock id) = false
+is_commit (Edit edit operation marks) = false
+is_commit Validate = false
+is_commit (CancelCommit persist_id) = false
+is_commit Discard = false
+is_commit (HasMark change) = false
+is_commit GetConfig = false
+is_commit (Kill session) = false
+is_commit CloseSession = false
 
 -- a device that has a running configuration and nothing else
 abbrev pub fresh_device : {Config : Type 0} → Config → DeviceState Config
@@ -123,6 +141,21 @@ closed s = done (record s { candidate = None; running_lock = None; candidate_loc
 -- the state after a step, with the step in its history
 abbrev pub noted : {Config : Type 0} → Request → Stepped Config → DeviceState Config
 noted request stepped = record stepped.after { history = stepped.after.history ++ record { request = request; reply = stepped.reply } ∷ [] }
+
+-- the state with one entry more in its history
+abbrev pub with_noted : {Config : Type 0} → DeviceState Config → Request → Reply → DeviceState Config
+with_noted s request reply = record s { history = s.history ++ record { request = request; reply = reply } ∷ [] }
+
+-- a call that does a request: it answers the reply and leaves the state after it, with the step in its history. Where
+-- there is no memory, nothing changes
+abbrev pub Does : {Config : Type 0} → Result Reply NoMemory → DeviceState Config → DeviceState Config → Request → Stepped Config → Type 0
+Does (Ok reply) old new request stepped = (reply ≡ stepped.reply) × (new ≡ noted request stepped)
+Does (Err fault) old new request stepped = new ≡ old
+
+-- a commit that was answered Done
+abbrev pub is_done_commit : Request → Result Reply NoMemory → Bool
+is_done_commit request (Ok reply) = is_commit request && is_done (Some reply)
+is_done_commit request (Err fault) = false
 
 module _ {Config TheEdit Node : Type 0} (m : Meaning Config TheEdit Node) (edits : List TheEdit) where
   -- an edit of a number that no table has is refused

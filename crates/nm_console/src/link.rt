@@ -1,5 +1,9 @@
+ghost use Rattle.std.specs.Prelude.{◌≡◌, option_copied};
+ghost use Rattle.nm_console.specs.Course.{is_error, is_done};
+
 use nm_proto::{Reply, Request};
 use nm_scenario::{Listed, PlannedEdit};
+use std::alloc::Global;
 
 /// The manager's connection to one device for a change set. It carries one NETCONF session.
 #[derive(Drop)]
@@ -12,4 +16,118 @@ pub struct Link {
     pub replies: Listed<Reply>,
     /// How many of the replies the manager has handled.
     pub handled: usize,
+}
+
+/// How many requests of a link come before the decision: the last of them is the confirmed commit.
+pub const BEFORE_DECISION: usize = 6;
+
+/// How many requests a link carries in all: the commit is confirmed, and the session closes.
+pub const IN_ALL: usize = 8;
+
+impl Link {
+    ghost use Rattle.nm_console.specs.Course.{unused, outstanding, is_member, awaits, is_refused, is_acknowledged, is_settled, wants_acknowledgement, wants_settling, may_act, sent_since};
+
+    /// A link that nothing was sent on. It takes no memory.
+    pub fn new(alloc: Global, edit: Option<PlannedEdit>) -> Link
+        ensures { result ≡ unused edit }
+    {
+        Link {
+            edit,
+            sent: Listed::new(alloc),
+            replies: Listed::new(alloc),
+            handled: 0,
+        }
+    }
+
+    /// The one request that isn't delivered.
+    pub fn outstanding(&self) -> Option<&Request>
+        ensures { option_copied result ≡ outstanding self.now }
+    {
+        self.sent.get(self.replies.len())
+    }
+
+    /// Whether the device is one of the change set.
+    pub fn is_member(&self) -> bool
+        ensures { result ≡ is_member self.now }
+    {
+        self.edit.is_some()
+    }
+
+    /// Whether a reply is awaited.
+    pub fn awaits(&self) -> bool
+        ensures { result ≡ awaits self.now }
+    {
+        self.handled < self.sent.len()
+    }
+
+    /// Whether the manager has handled an error.
+    pub fn is_refused(&self) -> bool
+        ensures { result ≡ is_refused self.now }
+    {
+        self.replies
+            .as_slice()
+            .iter()
+            .take(self.handled)
+            .any(is_error)
+    }
+
+    /// Whether the manager has handled a Done to the confirmed commit.
+    pub fn is_acknowledged(&self) -> bool
+        ensures { result ≡ is_acknowledged self.now }
+    {
+        BEFORE_DECISION <= self.handled && is_done(self.replies.get(BEFORE_DECISION - 1))
+    }
+
+    /// Whether the manager has handled the reply to the close of the session.
+    pub fn is_settled(&self) -> bool
+        ensures { result ≡ is_settled self.now }
+    {
+        IN_ALL <= self.handled
+    }
+
+    /// Whether the device is one of the change set that hasn't acknowledged.
+    pub fn wants_acknowledgement(&self) -> bool
+        ensures { result ≡ wants_acknowledgement self.now }
+    {
+        self.is_member() && !self.is_acknowledged()
+    }
+
+    /// Whether the device is one of the change set that isn't settled.
+    pub fn wants_settling(&self) -> bool
+        ensures { result ≡ wants_settling self.now }
+    {
+        self.is_member() && !self.is_settled()
+    }
+
+    /// Whether the manager may act on the link once it has decided.
+    pub fn may_act(&self) -> bool
+        ensures { result ≡ may_act self.now }
+    {
+        self.wants_settling() && !self.is_refused() && !self.awaits()
+    }
+
+    /// How many requests were sent since the decision, where the manager may act on the link.
+    pub fn sent_since(&self) -> Option<usize>
+        ensures { result ≡ sent_since self.now }
+    {
+        if self.may_act() {
+            Some(self.sent.len().saturating_sub(BEFORE_DECISION))
+        } else {
+            None
+        }
+    }
+}
+
+/// Whether a reply is an error.
+pub fn is_error(reply: &Reply) -> bool
+    ensures { result ≡ is_error reply.now }
+{
+    matches!(reply, Reply::Error { .. })
+}
+
+/// Whether there is a reply, and it is Done.
+pub fn is_done(reply: Option<&Reply>) -> bool
+    ensures { result ≡ is_done (option_copied reply.entry) }
+{
+    matches!(reply, Some(Reply::Done))
 }
