@@ -4,6 +4,7 @@
 //! its contract says which bytes it writes for which bytes it reads.
 #![tactic(auto)]
 
+mod change_text;
 pub mod command;
 pub mod console;
 pub mod course;
