@@ -70,36 +70,40 @@ fn maps_ascend(rt: HostRuntime) -> Result<(), Fail> {
     Ok(())
 }
 
-// The text of `{"7":1,"8":5}` after an edit and its marks.
-fn text_after(
-    alloc: Global,
-    operation: DefaultOperation,
-    changes: &[(u32, Option<u64>)],
-    marks: Marks,
-) -> Result<Vec<u8>, ApplyFault> {
+// Whether `{"7":1,"8":5}` has this text after `{"7":2,"8":null}`, with the mark of change set 1.
+fn becomes(alloc: Global, operation: DefaultOperation, want: &str) -> Result<bool, ApplyFault> {
     let content = FlatContent::new(alloc);
     let config = FlatConfig::new(alloc, cells_of(alloc, &[(7, 1), (8, 5)])?);
-    let edit = edit_of(alloc, changes)?;
-    let edited = content.apply(&config, &edit, operation, Some(marks))?;
-    Ok(content.text(&edited)?)
+    let edit = edit_of(alloc, &[(7, Some(2)), (8, None)])?;
+    let marks = ChangeNo::new(1).map(|add| Marks {
+        add,
+        remove: ChangeMask(0),
+    });
+    let edited = content.apply(&config, &edit, operation, marks)?;
+    Ok(content.text(&edited)?.as_slice() == want.as_bytes())
 }
 
 // Each default operation of RFC 6241 section 7.2, worked out by hand.
 #[test]
 fn edits_give_their_texts(rt: HostRuntime) -> Result<(), Fail> {
-    let marks = Marks {
-        add: ChangeNo::new(1).ok_or("1")?,
-        remove: ChangeMask(0),
-    };
-    let changes = [(7, Some(2)), (8, None)];
-    for (operation, want) in [
-        (DefaultOperation::Merge, "{\"7\":2,\"marks\":[1]}"),
-        (DefaultOperation::Replace, "{\"7\":2,\"marks\":[1]}"),
-        (DefaultOperation::Nothing, "{\"7\":1,\"8\":5,\"marks\":[1]}"),
-    ] {
-        let text = text_after(rt.alloc(), operation, &changes, marks)?;
-        assert_eq!(rt; text.as_slice(), want.as_bytes());
-    }
+    let merged = becomes(
+        rt.alloc(),
+        DefaultOperation::Merge,
+        "{\"7\":2,\"marks\":[1]}",
+    )?;
+    let replaced = becomes(
+        rt.alloc(),
+        DefaultOperation::Replace,
+        "{\"7\":2,\"marks\":[1]}",
+    )?;
+    let kept = becomes(
+        rt.alloc(),
+        DefaultOperation::Nothing,
+        "{\"7\":1,\"8\":5,\"marks\":[1]}",
+    )?;
+    assert!(rt; merged);
+    assert!(rt; replaced);
+    assert!(rt; kept);
     Ok(())
 }
 
@@ -138,9 +142,9 @@ fn refusal_of(answer: Result<FlatConfig, ApplyFault>) -> Option<(Tag, Label)> {
 
 #[test]
 fn refusals_name_the_least_key(rt: HostRuntime) -> Result<(), Fail> {
-    let content = FlatContent::new(rt.alloc());
     let config = FlatConfig::new(rt.alloc(), cells_of(rt.alloc(), &[(7, 1)])?);
     let edit = edit_of(rt.alloc(), &[(11, None), (7, Some(2)), (10, Some(3))])?;
+    let content = FlatContent::new(rt.alloc());
     let answer = content.apply(&config, &edit, DefaultOperation::Nothing, None);
     let (tag, path) = refusal_of(answer).ok_or("applied")?;
     assert_eq!(rt; tag, Tag::DataMissing);
@@ -157,17 +161,25 @@ fn violation_of(answer: Result<(), CheckFault>) -> Option<(Tag, Label)> {
     }
 }
 
+// What `check` says of some cells: None where they are valid.
+fn violation_at(alloc: Global, pairs: &[(u32, u64)]) -> Result<Option<(Tag, Label)>, NoMemory> {
+    let content = FlatContent::new(alloc);
+    let config = FlatConfig::new(alloc, cells_of(alloc, pairs)?);
+    Ok(violation_of(content.check(&content.copy(&config)?)))
+}
+
 // A cell holds at most 1,000,000.
 #[test]
 fn violations_name_the_least_key(rt: HostRuntime) -> Result<(), Fail> {
-    let content = FlatContent::new(rt.alloc());
-    let pairs = [(7, 1_000_000), (8, 1_000_001), (9, 1_000_002)];
-    let config = FlatConfig::new(rt.alloc(), cells_of(rt.alloc(), &pairs)?);
-    let (tag, path) = violation_of(content.check(&config)).ok_or("valid")?;
+    let greatest = violation_at(rt.alloc(), &[(7, 1_000_000)])?;
+    assert!(rt; greatest.is_none());
+    let above = violation_at(
+        rt.alloc(),
+        &[(9, 1_000_002), (8, 1_000_001), (7, 1_000_000)],
+    )?;
+    let (tag, path) = above.ok_or("valid")?;
     assert_eq!(rt; tag, Tag::InvalidValue);
     assert_eq!(rt; path.as_str(), "8");
-    let config = FlatConfig::new(rt.alloc(), cells_of(rt.alloc(), &[(7, 1_000_000)])?);
-    content.check(&content.copy(&config)?)?;
     Ok(())
 }
 
