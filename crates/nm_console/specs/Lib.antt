@@ -2,3 +2,4 @@ pub mod Device
 pub mod Course
 pub mod World
 pub mod Outcome
+pub mod Support
