@@ -12,5 +12,6 @@ pub mod device;
 pub mod link;
 pub mod outcome;
 pub mod report;
+pub mod safety;
 pub mod status;
 mod text;
