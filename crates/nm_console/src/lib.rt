@@ -14,4 +14,6 @@ pub mod outcome;
 pub mod report;
 pub mod safety;
 pub mod status;
+#[cfg(test)]
+mod tests;
 mod text;
