@@ -8,3 +8,4 @@ pub mod course;
 pub mod device;
 pub mod link;
 pub mod outcome;
+pub mod world;
