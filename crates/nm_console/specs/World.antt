@@ -2,6 +2,7 @@
 -- nothing (this project's own). The code changes its parts in place; these are functions of the whole.
 use Rattle.std.specs.Prelude.{ℕ, zero, suc, ◌+◌, ◌-◌, ◌==◌, List, [], ◌∷◌, ◌++◌, Bool, ◌&&◌, nat_lt, nat_le, length, map, find, Option, Some, None, slice_get, slice_set, if◌then◌else◌}
 use Rattle.nm_proto.specs.declared.message.Request.{Request}
+use Rattle.nm_proto.specs.declared.message.Reply.{Reply}
 use Rattle.nm_proto.specs.Content.{Meaning}
 use Rattle.nm_scenario.specs.declared.scenario.Event.{Event}
 use Rattle.nm_scenario.specs.declared.scenario.Event.TheVariants.{Submit, Turn, Deliver, Answer, Round}
@@ -30,6 +31,10 @@ with_sent link (Some request) = record link { sent = link.sent ++ request ∷ []
 abbrev pub with_handled : Link → ℕ → Link
 with_handled link number =
     if number == link.handled + 1 && nat_le number (length link.replies) then record link { handled = number } else link
+
+-- the device's reply is sent on a link
+abbrev pub with_reply : Link → Reply → Link
+with_reply link reply = record link { replies = link.replies ++ reply ∷ [] }
 
 -- how many replies were sent on a link
 abbrev pub replies_on : Option Link → ℕ
@@ -121,3 +126,47 @@ links_from device (suc count) edits = unused (planned_for device edits) ∷ link
 -- devices with these running configurations, and nothing submitted
 abbrev pub start : {Config : Type 0} → List Config → List PlannedEdit → WorldState Config
 start running edits = record { devices = map fresh_device running; links = links_from 1 (length running) edits; entries = [] }
+
+-- ---- the parts that the code changes in place
+
+-- the links after a request more is sent at a place
+abbrev pub links_with_sent : Course → List Link → ℕ → Option Link → List Link
+links_with_sent course links place None = links
+links_with_sent course links place (Some link) = slice_set links place (with_sent link (next_request course link))
+
+-- the links after a reply is sent at a place
+abbrev pub links_with_reply : List Link → ℕ → Option Link → Reply → List Link
+links_with_reply links place None reply = links
+links_with_reply links place (Some link) reply = slice_set links place (with_reply link reply)
+
+-- the links after a reply is handled at a place
+abbrev pub links_with_handled : List Link → ℕ → ℕ → Option Link → List Link
+links_with_handled links place number None = links
+links_with_handled links place number (Some link) = slice_set links place (with_handled link number)
+
+-- the request that is outstanding at a place
+abbrev pub outstanding_on : Option Link → Option Request
+outstanding_on None = None
+outstanding_on (Some link) = outstanding link
+
+module _ {Config TheEdit Node : Type 0} (m : Meaning Config TheEdit Node) (edits : List TheEdit) where
+  -- what the device at a place, if there is one, replies
+  abbrev pub reply_of : Option (DeviceState Config) → Request → Option Reply
+  reply_of None request = None
+  reply_of (Some device) request = Some (reply_to m edits device request)
+
+  -- the devices after the one at a place does a request
+  abbrev pub devices_after : List (DeviceState Config) → ℕ → Option (DeviceState Config) → Request → List (DeviceState Config)
+  devices_after devices place None request = devices
+  devices_after devices place (Some device) request = slice_set devices place (device_after m edits device request)
+
+-- a world as the code holds it: its content, the edits of its tables, the course of its change set, and its state
+pub record Whole (TheContent Config TheEdit : Type 0) : Type 0 where
+  pub content : TheContent
+  pub edits : List TheEdit
+  pub course : Course
+  pub state : WorldState Config
+
+-- the same world in another state
+abbrev pub with_state : {TheContent Config TheEdit : Type 0} → Whole TheContent Config TheEdit → WorldState Config → Whole TheContent Config TheEdit
+with_state w state = record w { state = state }

@@ -17,3 +17,4 @@ pub mod status;
 #[cfg(test)]
 mod tests;
 mod text;
+pub mod world;

@@ -1,6 +1,8 @@
-ghost use Rattle.std.specs.Prelude.{◌≡◌, option_copied};
+ghost use Rattle.std.specs.Prelude.{◌≡◌, option_copied, OnOk, OnErr};
 ghost use Rattle.nm_console.specs.Course.{is_error, is_done};
 
+use crate::course::Course;
+use nm_base::NoMemory;
 use nm_proto::{Reply, Request};
 use nm_scenario::{Listed, PlannedEdit};
 use std::alloc::Global;
@@ -114,6 +116,39 @@ impl Link {
             Some(self.sent.len().saturating_sub(BEFORE_DECISION))
         } else {
             None
+        }
+    }
+}
+
+impl Link {
+    ghost use Rattle.nm_console.specs.Course.{next_request};
+    ghost use Rattle.nm_console.specs.World.{with_sent, with_handled, with_reply};
+
+    /// Sends the next request of the course, where one is left.
+    pub fn send(&mut self, course: &Course) -> Result<(), NoMemory>
+        ensures sent { OnOk result (self.new ≡ with_sent self.old (next_request course.now self.old)) }
+        ensures unchanged { OnErr result (self.new ≡ self.old) }
+    {
+        match course.next_request(self)? {
+            Some(request) => self.sent.push(request),
+            None => Ok(()),
+        }
+    }
+
+    /// Takes a reply of the device.
+    pub fn take_reply(&mut self, reply: Reply) -> Result<(), NoMemory>
+        ensures taken { OnOk result (self.new ≡ with_reply self.old reply) }
+        ensures unchanged { OnErr result (self.new ≡ self.old) }
+    {
+        self.replies.push(reply)
+    }
+
+    /// The manager handles a reply, by its number from 1. Any but the next one changes nothing.
+    pub fn handle(&mut self, number: usize)
+        ensures { self.new ≡ with_handled self.old number }
+    {
+        if self.handled < number && number - self.handled == 1 && number <= self.replies.len() {
+            self.handled = number;
         }
     }
 }
