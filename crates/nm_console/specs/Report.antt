@@ -1,6 +1,6 @@
 -- What is reported of a change set: its outcome at each device, read from the histories, the devices where it was
 -- undone though it was to be committed, and those that aren't settled (this project's own).
-use Rattle.std.specs.Prelude.{ℕ, ◌+◌, List, [], ◌∷◌, Bool, true, false, ◌&&◌, not, is_none, filter, map, if◌then◌else◌}
+use Rattle.std.specs.Prelude.{ℕ, ◌+◌, List, [], ◌∷◌, Bool, true, false, ◌&&◌, not, filter, if◌then◌else◌}
 use Rattle.nm_console.specs.declared.outcome.Outcome.{Outcome}
 use Rattle.nm_console.specs.declared.outcome.Outcome.TheVariants.{Never, Pending, Confirmed, Undone}
 use Rattle.nm_console.specs.declared.link.Link.{Link}
@@ -9,15 +9,9 @@ use Rattle.nm_console.specs.declared.report.DeviceReport.{DeviceReport}
 use Rattle.nm_console.specs.declared.status.Status.{Status}
 use Rattle.nm_console.specs.declared.status.Status.TheVariants as status
 use Rattle.nm_console.specs.Device.{DeviceState}
-use Rattle.nm_console.specs.Course.{outstanding, is_member, is_submitted, is_decided}
-use Rattle.nm_console.specs.Outcome.{outcome_of}
+use Rattle.nm_console.specs.Course.{is_member, is_submitted, is_decided}
+use Rattle.nm_console.specs.Outcome.{outcome_of, is_settled_at}
 use Rattle.nm_console.specs.World.{WorldState}
-
-abbrev pub is_pending : Outcome → Bool
-is_pending Never = false
-is_pending Pending = true
-is_pending Confirmed = false
-is_pending Undone = false
 
 abbrev pub is_undone : Outcome → Bool
 is_undone Never = false
@@ -25,12 +19,8 @@ is_undone Pending = false
 is_undone Confirmed = false
 is_undone Undone = true
 
--- nothing is pending, and no request is on its way
-abbrev pub is_settled_with : Link → Outcome → Bool
-is_settled_with link outcome = not (is_pending outcome) && is_none (outstanding link)
-
 abbrev pub report_on : ℕ → Link → Outcome → DeviceReport
-report_on device link outcome = record { device = device; outcome = outcome; is_settled = is_settled_with link outcome }
+report_on device link outcome = record { device = device; outcome = outcome; is_settled = is_settled_at link outcome }
 
 -- the devices of the change set, ascending, from a number on
 abbrev pub reports_from : {Config : Type 0} → List ℕ → ℕ → List Link → List (DeviceState Config) → List DeviceReport
