@@ -1,6 +1,6 @@
 -- What has become of a change set at a device, read from the device's history alone (this project's own, over
 -- RFC 6241 section 8.4), and what a whole run keeps of it.
-use Rattle.std.specs.Prelude.{◌≡◌, ◌≢◌, ℕ, List, [], ◌∷◌, Bool, true, false, ◌&&◌, not, Option, Some, None, slice_get, if◌then◌else◌}
+use Rattle.std.specs.Prelude.{◌≡◌, ◌≢◌, ℕ, List, [], ◌∷◌, Bool, true, false, ◌&&◌, not, Option, Some, None, is_some, slice_get, if◌then◌else◌}
 use Rattle.std.specs.Str.{bytes_eq}
 use Rattle.nm_proto.specs.declared.message.Request.{Request}
 use Rattle.nm_proto.specs.declared.message.Request.TheVariants.{OpenSession, Lock, Unlock, PartialLock, PartialUnlock, Edit, Validate, Commit, CancelCommit, Discard, HasMark, GetConfig, Kill, CloseSession}
@@ -11,7 +11,7 @@ use Rattle.nm_console.specs.declared.outcome.Outcome.TheVariants.{Never, Pending
 use Rattle.nm_console.specs.declared.link.Link.{Link}
 use Rattle.nm_console.specs.declared.course.Course.{Course}
 use Rattle.nm_console.specs.Device.{DeviceState}
-use Rattle.nm_console.specs.Course.{is_done, is_member, is_decided}
+use Rattle.nm_console.specs.Course.{is_done, is_member, is_decided, outstanding}
 use Rattle.nm_console.specs.World.{WorldState}
 
 -- what a request that was answered Done does to pending commits: a commit that is confirmed begins one, one that
@@ -73,6 +73,16 @@ standing_from token standing (entry ∷ history) = standing_from token (standing
 -- the outcome of the change set with this token at the device with this history
 abbrev pub outcome_of : List ℕ → List Noted → Outcome
 outcome_of token history = (standing_from token (record { outcome = Never; other = false }) history).outcome
+
+abbrev pub is_pending : Outcome → Bool
+is_pending Never = false
+is_pending Pending = true
+is_pending Confirmed = false
+is_pending Undone = false
+
+-- nothing more can become of the change set at a device: nothing is pending, and no request is outstanding
+abbrev pub is_settled_at : Link → Outcome → Bool
+is_settled_at link outcome = not (is_pending outcome) && not (is_some (outstanding link))
 
 -- ---- what holds of a world
 
