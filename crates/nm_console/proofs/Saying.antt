@@ -59,4 +59,4 @@ too_long_says left status text h tells =
       tells = subst (λ read. Tells (replayed read) status text) (sym (scenario_of-too_long (unwrap_or left more) (too_long left h))) tells;
     }
 
-pub ruleset saying = (usage_says, too_long_says, bytes_say)
+pub ruleset saying = (usage_says, too_long_says)

@@ -80,6 +80,12 @@ is_pending Pending = true
 is_pending Confirmed = false
 is_pending Undone = false
 
+abbrev pub is_undone : Outcome → Bool
+is_undone Never = false
+is_undone Pending = false
+is_undone Confirmed = false
+is_undone Undone = true
+
 -- nothing more can become of the change set at a device: nothing is pending, and no request is outstanding
 abbrev pub is_settled_at : Link → Outcome → Bool
 is_settled_at link outcome = not (is_pending outcome) && not (is_some (outstanding link))

@@ -1,6 +1,6 @@
 -- What is reported of a change set: its outcome at each device, read from the histories, the devices where it was
 -- undone though it was to be committed, and those that aren't settled (this project's own).
-use Rattle.std.specs.Prelude.{ℕ, ◌+◌, List, [], ◌∷◌, Bool, true, false, ◌&&◌, not, filter, if◌then◌else◌}
+use Rattle.std.specs.Prelude.{ℕ, ◌+◌, List, [], ◌∷◌, ◌++◌, Option, Some, None, option_to_list, slice_get, Bool, true, false, ◌&&◌, not, filter, if◌then◌else◌}
 use Rattle.nm_console.specs.declared.outcome.Outcome.{Outcome}
 use Rattle.nm_console.specs.declared.outcome.Outcome.TheVariants.{Never, Pending, Confirmed, Undone}
 use Rattle.nm_console.specs.declared.link.Link.{Link}
@@ -10,28 +10,24 @@ use Rattle.nm_console.specs.declared.status.Status.{Status}
 use Rattle.nm_console.specs.declared.status.Status.TheVariants as status
 use Rattle.nm_console.specs.Device.{DeviceState}
 use Rattle.nm_console.specs.Course.{is_member, is_submitted, is_decided}
-use Rattle.nm_console.specs.Outcome.{outcome_of, is_settled_at}
+use Rattle.nm_console.specs.Outcome.{outcome_of, is_settled_at, is_undone}
 use Rattle.nm_console.specs.World.{WorldState}
-
-abbrev pub is_undone : Outcome → Bool
-is_undone Never = false
-is_undone Pending = false
-is_undone Confirmed = false
-is_undone Undone = true
 
 abbrev pub report_on : ℕ → Link → Outcome → DeviceReport
 report_on device link outcome = record { device = device; outcome = outcome; is_settled = is_settled_at link outcome }
 
--- the devices of the change set, ascending, from a number on
-abbrev pub reports_from : {Config : Type 0} → List ℕ → ℕ → List Link → List (DeviceState Config) → List DeviceReport
-reports_from token device [] states = []
-reports_from token device (link ∷ links) [] = []
-reports_from token device (link ∷ links) (state ∷ states) =
-    if is_member link then report_on device link (outcome_of token state.history) ∷ reports_from token (device + 1) links states
-    else reports_from token (device + 1) links states
+-- the report on the device at a place, from 0, where it is one of the change set
+abbrev pub report_at : {Config : Type 0} → List ℕ → ℕ → Link → Option (DeviceState Config) → Option DeviceReport
+report_at token place link None = None
+report_at token place link (Some state) = if is_member link then Some (report_on (place + 1) link (outcome_of token state.history)) else None
+
+-- the devices of the change set, ascending, from a place on
+abbrev pub reports_from : {Config : Type 0} → List ℕ → List (DeviceState Config) → ℕ → List Link → List DeviceReport
+reports_from token states place [] = []
+reports_from token states place (link ∷ links) = option_to_list (report_at token place link (slice_get states place)) ++ reports_from token states (place + 1) links
 
 abbrev pub reports_of : {Config : Type 0} → Course → WorldState Config → List DeviceReport
-reports_of course w = reports_from course.token 1 w.links w.devices
+reports_of course w = reports_from course.token w.devices 0 w.links
 
 abbrev pub differs : Bool → DeviceReport → Bool
 differs decided report = decided && is_undone report.outcome

@@ -62,7 +62,7 @@ state_text submitted decided ended =
     else (if not decided then codes "undecided"
     else (if not ended then codes "commit" else codes "commit ended"))
 
-abbrev pub change_line : ℕ → List Entry → List ℕ
+unfoldable pub change_line : ℕ → List Entry → List ℕ
 change_line change entries = codes "change " ++ decimal change ++ codes " " ++ state_text (is_submitted entries) (is_decided entries) (is_ended entries) ++ codes "\n"
 
 -- a change set and a device
@@ -83,13 +83,20 @@ abbrev pub pair_lines : List ℕ → ℕ → List DeviceReport → List ℕ
 pair_lines word change [] = word ++ codes " none\n"
 pair_lines word change (report ∷ reports) = flat_map (pair_line word change) (report ∷ reports)
 
+-- what stands before the running configurations
+abbrev pub head_text : ℕ → List Entry → List DeviceReport → List ℕ
+head_text change entries reports = heading ++ change_line change entries ++ outcome_lines change reports
+
+-- a text with a change set: what the journal says, the outcomes, the running configurations, and the two lists
+abbrev pub text_of : {Config : Type 0} → (Config → List ℕ) → ℕ → List Entry → List Config → List DeviceReport → List DeviceReport → List DeviceReport → List ℕ
+text_of shown change entries configs reports differ unsettled =
+    head_text change entries reports ++ running_lines shown 1 configs ++ pair_lines (codes "differ") change differ ++ pair_lines (codes "unsettled") change unsettled
+
 -- the text of a world with a change set
 abbrev pub world_text : {Config : Type 0} → (Config → List ℕ) → Course → WorldState Config → List ℕ
 world_text shown course w =
-    heading ++ change_line course.change w.entries ++ outcome_lines course.change (reports_of course w)
-    ++ running_lines shown 1 (map (λ s. s.running) w.devices)
-    ++ pair_lines (codes "differ") course.change (differing (is_decided w.entries) (reports_of course w))
-    ++ pair_lines (codes "unsettled") course.change (unsettled (is_submitted w.entries) (reports_of course w))
+    text_of shown course.change w.entries (map (λ s. s.running) w.devices) (reports_of course w)
+    (differing (is_decided w.entries) (reports_of course w)) (unsettled (is_submitted w.entries) (reports_of course w))
 
 -- the text of devices without a change set
 abbrev pub devices_text : {Config : Type 0} → (Config → List ℕ) → List Config → List ℕ

@@ -1,15 +1,20 @@
-ghost use Rattle.std.specs.Prelude.{◌≡◌, ◌++◌, OnOk};
+ghost use Rattle.std.specs.Prelude.{◌≡◌, ◌++◌, IfOk, OnOk, All, map};
+ghost use Rattle.nm_console.specs.Device.{IsSound};
 ghost use Rattle.std.specs.List.{flat_map};
 ghost use Rattle.nm_console.specs.Course.{is_submitted, is_decided, is_ended};
-ghost use Rattle.nm_console.specs.Text.{state_text, change_line, pair_text, outcome_line, outcome_lines, pair_line, pair_lines, outcome_word};
+ghost use Rattle.nm_console.specs.Text.{state_text, change_line, pair_text, outcome_line, outcome_lines, pair_line, pair_lines, outcome_word, head_text, text_of};
 
 use crate::course::{Entry, is_decided, is_ended, is_submitted};
 use crate::outcome::Outcome;
 use crate::report::DeviceReport;
-use crate::text::put;
+use crate::text::{HEADING, put, write_devices_running};
+use crate::world::World;
 use nm_base::{ChangeNo, NoMemory, write_decimal};
+use nm_proto::Show;
+use std::alloc::Global;
 
 /// The line of a change set, with what the journal says of it.
+#[tactic(auto, unfolding(crate::specs::Text::change_line))]
 pub fn write_change(out: &mut Vec<u8>, change: ChangeNo, entries: &[Entry]) -> Result<(), NoMemory>
     ensures { OnOk result (out.new.items ≡ out.old.items ++ change_line change entries.now) }
 {
@@ -122,4 +127,57 @@ pub fn write_pairs(
         }
         _ => write_some_pairs(out, word, change, reports),
     }
+}
+
+// Appends what stands before the running configurations.
+fn put_head(
+    out: &mut Vec<u8>,
+    change: ChangeNo,
+    entries: &[Entry],
+    reports: &[DeviceReport],
+) -> Result<(), NoMemory>
+    ensures { OnOk result (out.new.items ≡ out.old.items ++ head_text change entries.now reports.now) }
+{
+    put(out, HEADING)?;
+    write_change(out, change, entries)?;
+    write_outcomes(out, change, reports)
+}
+
+// Appends the text of a world with a change set.
+fn put_world<C: Show + Drop>(
+    out: &mut Vec<u8>,
+    content: &C,
+    world: &World<C>,
+    reports: &[DeviceReport],
+    differing: &[DeviceReport],
+    unsettled: &[DeviceReport],
+) -> Result<(), NoMemory>
+    requires { All (IsSound (C.Content.meaning content.now)) world.now.state.devices }
+    ensures { OnOk result (out.new.items ≡ out.old.items ++ text_of (C.shown content.now) world.now.course.change world.now.state.entries
+        (map (λ s. s.running) world.now.state.devices) reports.now differing.now unsettled.now) }
+{
+    let change = world.course().change;
+    put_head(out, change, world.entries(), reports)?;
+    write_devices_running(out, content, world.devices())?;
+    write_pairs(out, "differ", change, differing)?;
+    write_pairs(out, "unsettled", change, unsettled)
+}
+
+/// The text of a world with a change set: its outcomes, the running configurations, and the devices that these lists
+/// name.
+pub fn write_world<C: Show + Drop>(
+    alloc: Global,
+    content: &C,
+    world: &World<C>,
+    reports: &[DeviceReport],
+    differing: &[DeviceReport],
+    unsettled: &[DeviceReport],
+) -> Result<Vec<u8>, NoMemory>
+    requires { All (IsSound (C.Content.meaning content.now)) world.now.state.devices }
+    ensures { IfOk result (λ text. text.items ≡ text_of (C.shown content.now) world.now.course.change world.now.state.entries
+        (map (λ s. s.running) world.now.state.devices) reports.now differing.now unsettled.now) }
+{
+    let mut text = Vec::new(alloc);
+    put_world(&mut text, content, world, reports, differing, unsettled)?;
+    Ok(text)
 }

@@ -3,16 +3,26 @@ ghost use Rattle.nm_io.specs.Count.{Rose};
 ghost use Rattle.nm_scenario.specs.Scenario.{scenario_of};
 ghost use Rattle.nm_console.specs.Words.{command_of, texts_of};
 ghost use Rattle.nm_console.specs.Status.{is_whole};
-ghost use Rattle.nm_console.specs.Console.{Answers, CutOff, Says, Tells, answer, devices_told, faulted, replayed, told};
+ghost use Rattle.nm_console.specs.Console.{Answers, CutOff, Says, Tells, answer, course_of, devices_told, faulted, replayed, told, world_of, world_told};
 
+use crate::change_text::write_world;
 use crate::command::{Command, command_of};
+use crate::course::{Course, is_decided, is_submitted};
+use crate::report::{differing, reports_of, status_for, unsettled};
 use crate::status::Status;
 use crate::text::{USAGE, put, write_devices, write_fault};
-use nm_base::NoMemory;
+use crate::world::World;
+use nm_base::token::token_of;
+use nm_base::{ChangeNo, Label, NoMemory};
 use nm_io::{ReadAllFault, Sink, Source, read_all, write_all};
-use nm_proto::{FlatConfig, FlatContent};
-use nm_scenario::{BYTE_LIMIT, ReadError, Scenario, ScenarioKind, read_scenario};
+use nm_proto::{FlatConfig, FlatContent, FlatEdit};
+use nm_scenario::{
+    BYTE_LIMIT, ChangePlan, Event, Listed, ReadError, Scenario, ScenarioKind, read_scenario,
+};
 use std::alloc::Global;
+
+/// The user of the manager's sessions. No operator may have this name.
+const MANAGER: &str = "netm";
 
 /// A status and a text.
 #[derive(Drop)]
@@ -119,7 +129,7 @@ fn say_bytes(alloc: Global, bytes: &[u8]) -> Result<Said, NoMemory>
     ensures { IfOk result (λ said. Tells (replayed (scenario_of bytes.now)) said.status said.text.items) }
 {
     match read_scenario(alloc, bytes) {
-        Ok(scenario) => say_scenario(alloc, &scenario),
+        Ok(scenario) => say_scenario(alloc, scenario),
         Err(ReadError::Bad(fault)) => say_fault(alloc, fault.kind),
         Err(ReadError::NoMemory) => Err(NoMemory),
     }
@@ -136,13 +146,82 @@ fn say_fault(alloc: Global, kind: ScenarioKind) -> Result<Said, NoMemory>
     })
 }
 
-fn say_scenario(alloc: Global, scenario: &Scenario) -> Result<Said, NoMemory>
-    ensures { IfOk result (λ said. Tells (told scenario.now) said.status said.text.items) }
+// The answer to a scenario: its world, where it has a change set, and else its devices.
+fn say_scenario(alloc: Global, scenario: Scenario) -> Result<Said, NoMemory>
+    ensures { IfOk result (λ said. Tells (told scenario) said.status said.text.items) }
 {
-    if scenario.changes.len() > 0 {
-        return say_fault(alloc, ScenarioKind::NotBuilt);
+    let Scenario {
+        devices,
+        edits,
+        mut changes,
+        events,
+    } = scenario;
+    match changes.take_first() {
+        None => say_devices(alloc, devices.as_slice()),
+        Some(plan) => say_change(alloc, devices, edits, &plan, events.as_slice()),
     }
-    say_devices(alloc, scenario.devices.as_slice())
+}
+
+// The course of change set 1.
+fn course_of(alloc: Global, plan: &ChangePlan) -> Result<Course, NoMemory>
+    ensures { IfOk result (λ course. course ≡ course_of plan.now) }
+{
+    let change = ChangeNo::new(1).unwrap();
+    Ok(Course {
+        change,
+        timeout: plan.timeout,
+        user: Label::new(alloc, MANAGER)?,
+        token: token_of(alloc, change)?,
+    })
+}
+
+// The answer of the world that the events lead to.
+fn say_change(
+    alloc: Global,
+    devices: Listed<FlatConfig>,
+    edits: Listed<FlatEdit>,
+    plan: &ChangePlan,
+    events: &[Event],
+) -> Result<Said, NoMemory>
+    ensures { IfOk result (λ said. Tells (world_told (course_of plan.now) (world_of devices edits plan.now events.now)) said.status said.text.items) }
+{
+    let content = FlatContent::new(alloc);
+    let course = course_of(alloc, plan)?;
+    let mut world = World::new(
+        alloc,
+        content,
+        edits,
+        devices,
+        course,
+        plan.edits.as_slice(),
+    )?;
+    world.run(events)?;
+    say_world(alloc, &content, &world)
+}
+
+// The text and the status of a world.
+fn say_world(
+    alloc: Global,
+    content: &FlatContent,
+    world: &World<FlatContent>,
+) -> Result<Said, NoMemory>
+    ensures { IfOk result (λ said. Tells (world_told world.now.course world.now.state) said.status said.text.items) }
+{
+    let course = world.course();
+    let entries = world.entries();
+    let reports = reports_of(alloc, &course.token, world.links(), world.devices())?;
+    let differing = differing(alloc, is_decided(entries), reports.as_slice())?;
+    let unsettled = unsettled(alloc, is_submitted(entries), reports.as_slice())?;
+    let status = status_for(unsettled.as_slice(), differing.as_slice());
+    let text = write_world(
+        alloc,
+        content,
+        world,
+        reports.as_slice(),
+        differing.as_slice(),
+        unsettled.as_slice(),
+    )?;
+    Ok(Said { status, text })
 }
 
 fn say_devices(alloc: Global, devices: &[FlatConfig]) -> Result<Said, NoMemory>

@@ -1,6 +1,6 @@
 ghost use Rattle.std.specs.Prelude.{◌≡◌, List, ℕ};
 ghost use Rattle.nm_console.specs.Outcome.Effect.{Begins, Ends};
-ghost use Rattle.nm_console.specs.Outcome.{outcome_of, standing_after, noted_effect, is_token, is_pending, is_settled_at};
+ghost use Rattle.nm_console.specs.Outcome.{outcome_of, standing_after, noted_effect, is_token, is_pending, is_undone, is_settled_at};
 
 use crate::device::Noted;
 use crate::link::{Link, is_done};
@@ -26,6 +26,13 @@ impl Outcome {
         ensures { result ≡ is_pending self }
     {
         matches!(self, Outcome::Pending)
+    }
+
+    /// Whether the commit was undone.
+    pub fn is_undone(self) -> bool
+        ensures { result ≡ is_undone self }
+    {
+        matches!(self, Outcome::Undone)
     }
 }
 

@@ -1,5 +1,6 @@
-ghost use Rattle.std.specs.Prelude.{◌≡◌, IfOk, filter};
-ghost use Rattle.nm_console.specs.Report.{reports_from, differs, is_undone, is_unsettled, differing, unsettled, status_for};
+ghost use Rattle.std.specs.Prelude.{◌≡◌, ◌<◌, ◌-◌, ◌^◌, ◌++◌, IfOk, OnOk, IsTrue, option_copied, option_to_list, slice_get};
+ghost use Rattle.nm_console.specs.Report.{report_at, reports_from, differing, unsettled, status_for};
+ghost use Rattle.nm_console.specs.Status.{is_whole};
 
 use crate::device::Device;
 use crate::link::Link;
@@ -33,6 +34,47 @@ impl DeviceReport {
     }
 }
 
+// The report on the device at a place, from 0, where it is one of the change set.
+fn report_at<C: Content>(
+    token: &Label,
+    place: usize,
+    link: &Link,
+    device: Option<&Device<C>>,
+) -> Option<DeviceReport>
+    requires { place < 2 ^ 64 - 1 }
+    ensures { result ≡ report_at token.now place link.now (option_copied device.entry) }
+{
+    match device {
+        Some(device) if link.edit.is_some() => Some(DeviceReport::new(
+            place as u64 + 1,
+            link,
+            outcome_of(token, device.history()),
+        )),
+        _ => None,
+    }
+}
+
+fn report_in<C: Content>(
+    token: &Label,
+    place: usize,
+    link: &Link,
+    devices: &[Device<C>],
+) -> Option<DeviceReport>
+    requires { place < 2 ^ 64 - 1 }
+    ensures { result ≡ report_at token.now place link.now (slice_get devices.now place) }
+{
+    report_at(token, place, link, devices.get(place))
+}
+
+fn push_found(reports: &mut Vec<DeviceReport>, found: Option<DeviceReport>) -> Result<(), NoMemory>
+    ensures { OnOk result (reports.new.items ≡ reports.old.items ++ option_to_list found) }
+{
+    if let Some(report) = found {
+        reports.push(report)?;
+    }
+    Ok(())
+}
+
 /// Reports on the devices of the change set with this token, ascending.
 pub fn reports_of<C: Content>(
     alloc: Global,
@@ -40,17 +82,11 @@ pub fn reports_of<C: Content>(
     links: &[Link],
     devices: &[Device<C>],
 ) -> Result<Vec<DeviceReport>, NoMemory>
-    ensures { IfOk result (λ reports. reports.items ≡ reports_from token.now 1 links.now devices.now) }
+    ensures { IfOk result (λ reports. reports.items ≡ reports_from token.now devices.now 0 links.now) }
 {
     let mut reports = Vec::new(alloc);
     for (place, link) in links.iter().enumerate() {
-        if place >= devices.len() {
-            break;
-        }
-        if link.edit.is_some() {
-            let outcome = outcome_of(token, devices[place].history());
-            reports.push(DeviceReport::new(place as u64 + 1, link, outcome))?;
-        }
+        push_found(&mut reports, report_in(token, place, link, devices))?;
     }
     Ok(reports)
 }
@@ -63,11 +99,13 @@ pub fn differing(
 ) -> Result<Vec<DeviceReport>, NoMemory>
     ensures { IfOk result (λ found. found.items ≡ differing decided reports.now) }
 {
-    Ok(reports
-        .iter()
-        .filter(|report| decided && report.outcome.is_undone())
-        .copied()
-        .collect(alloc)?)
+    Ok(
+        reports
+            .iter()
+            .filter(|report| decided && report.outcome.is_undone())
+            .copied()
+            .collect(alloc)?,
+    )
 }
 
 /// The devices that aren't settled, of a change set that was submitted.
@@ -78,16 +116,19 @@ pub fn unsettled(
 ) -> Result<Vec<DeviceReport>, NoMemory>
     ensures { IfOk result (λ found. found.items ≡ unsettled submitted reports.now) }
 {
-    Ok(reports
-        .iter()
-        .filter(|report| submitted && !report.is_settled)
-        .copied()
-        .collect(alloc)?)
+    Ok(
+        reports
+            .iter()
+            .filter(|report| submitted && !report.is_settled)
+            .copied()
+            .collect(alloc)?,
+    )
 }
 
 /// The status of a text that names these devices.
 pub fn status_for(unsettled: &[DeviceReport], differing: &[DeviceReport]) -> Status
-    ensures { result ≡ status_for unsettled.now differing.now }
+    ensures value { result ≡ status_for unsettled.now differing.now }
+    ensures whole { IsTrue (is_whole result) }
 {
     match (unsettled, differing) {
         ([], []) => Status::Ok,

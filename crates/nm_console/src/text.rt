@@ -1,6 +1,8 @@
-ghost use Rattle.std.specs.Prelude.{◌≡◌, ◌++◌, OnOk, IfOk, codes, All};
+ghost use Rattle.std.specs.Prelude.{◌≡◌, ◌++◌, OnOk, IfOk, All, map};
+ghost use Rattle.nm_console.specs.Device.{IsSound};
 ghost use Rattle.nm_console.specs.Text.{fault_text, heading, running_line, running_lines, clean, devices_text};
 
+use crate::device::Device;
 use nm_base::{NoMemory, write_decimal};
 use nm_proto::Show;
 use nm_scenario::ScenarioKind;
@@ -8,6 +10,9 @@ use std::alloc::Global;
 
 /// The usage line.
 pub const USAGE: &str = "usage: netm check, replay, run, make, stress, journal\n";
+
+/// The first line of a text.
+pub const HEADING: &str = "netm 1\n";
 
 /// Appends a text.
 pub fn put(out: &mut Vec<u8>, text: &str) -> Result<(), NoMemory>
@@ -60,6 +65,21 @@ pub fn write_runnings<C: Show>(
     Ok(())
 }
 
+/// The lines of the devices' running configurations; the first is that of device 1.
+pub fn write_devices_running<C: Show>(
+    out: &mut Vec<u8>,
+    content: &C,
+    devices: &[Device<C>],
+) -> Result<(), NoMemory>
+    requires { All (IsSound (C.Content.meaning content.now)) devices.now }
+    ensures { OnOk result (out.new.items ≡ out.old.items ++ running_lines (C.shown content.now) 1 (map (λ s. s.running) devices.now)) }
+{
+    for (place, device) in devices.iter().enumerate() {
+        write_running(out, content, place as u64 + 1, device.running())?;
+    }
+    Ok(())
+}
+
 /// The text of devices without a change set.
 pub fn write_devices<C: Show>(
     alloc: Global,
@@ -70,7 +90,7 @@ pub fn write_devices<C: Show>(
     ensures { IfOk result (λ text. text.items ≡ devices_text (C.shown content.now) configs.now) }
 {
     let mut out = Vec::new(alloc);
-    put(&mut out, "netm 1\n")?;
+    put(&mut out, HEADING)?;
     write_runnings(&mut out, content, configs)?;
     put(&mut out, "differ none\nunsettled none\n")?;
     Ok(out)
