@@ -8,4 +8,6 @@ pub mod course;
 pub mod device;
 pub mod link;
 pub mod outcome;
+#[cfg(test)]
+mod tests;
 pub mod world;
