@@ -18,3 +18,5 @@ pub mod status;
 mod tests;
 mod text;
 pub mod world;
+#[cfg(test)]
+mod world_tests;

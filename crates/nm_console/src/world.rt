@@ -92,7 +92,8 @@ impl<C: Content + Drop> World<C> {
 
     /// The devices, device 1 first.
     pub fn devices(&self) -> &[Device<C>]
-        ensures { result.now ≡ self.now.state.devices }
+        ensures value { result.now ≡ self.now.state.devices }
+        ensures sound { All (IsSound (C.meaning self.now.content)) self.now.state.devices }
     {
         self.devices.as_slice()
     }
