@@ -15,6 +15,7 @@ use Rattle.std.specs.FinMap.{FinMap, get, insert, remove, entries, empty, len, e
 use Rattle.std.specs.FinMap.Entries.{find, is_sorted, below_all}
 use Rattle.std.specs.Option.{option_or}
 use Rattle.nm_proto.specs.NumberMap.{with_entries}
+use Rattle.nm_proto.specs.Flat.{changed, all_changed, value_after}
 
 both : (a b : Bool) → T a → T b → T (a && b)
 both true b p q = q
@@ -103,3 +104,21 @@ module _ {X : Type 0} where
   pub with_own_entries : (m : FinMap nat_cmp X) → with_entries empty (entries m) ≡ m
   with_own_entries m = same_map nat_cmp_total nat_cmp-IsAntisymmetric _ _ (λ q.
       get-with_entries (entries m) (entries_sorted m) empty q ∙ ap (option_or (find nat_cmp q (entries m))) (get-empty nat_cmp q) ∙ or_none _ ∙ sym (get-entries m q))
+
+get-changed : (m : FinMap nat_cmp ℕ) (k : ℕ) (change : Option ℕ) (q : ℕ) → get (changed m k change) q ≡ cond (eq_by_cmp nat_cmp q k) change (get m q)
+get-changed m k None q = get-remove nat_cmp_total m k q
+get-changed m k (Some v) q = get-insert nat_cmp_total m k v q
+
+said_later : (b : Bool) (change : Option ℕ) (found : Option (Option ℕ)) (had : Option ℕ) → (b ≡ true → found ≡ None) → value_after found (cond b change had) ≡ value_after (cond b (Some change) found) had
+said_later true change found had h = ap (λ o. value_after o change) (h refl)
+said_later false change found had h = refl
+
+get-changes : (es : List (ℕ × Option ℕ)) → T (is_sorted nat_cmp es) → (m : FinMap nat_cmp ℕ) (q : ℕ) → get (all_changed m es) q ≡ value_after (find nat_cmp q es) (get m q)
+get-changes [] h m q = refl
+get-changes (e ∷ es) h m q = get-changes es (second _ _ h) (changed m e.0 e.1) q
+    ∙ ap (value_after (find nat_cmp q es)) (get-changed m e.0 e.1 q)
+    ∙ said_later (eq_by_cmp nat_cmp q e.0) e.1 (find nat_cmp q es) (get m q) (λ t. ap (λ k. find nat_cmp k es) (nat_cmp-IsAntisymmetric q e.0 (equal (nat_cmp q e.0) t)) ∙ find_above e.0 es (first _ _ h))
+
+-- each key has after an edit what the edit says of it, and else its old value
+pub get-all_changed : (m : FinMap nat_cmp ℕ) (edit : FinMap nat_cmp (Option ℕ)) (q : ℕ) → get (all_changed m (entries edit)) q ≡ value_after (get edit q) (get m q)
+get-all_changed m edit q = get-changes (entries edit) (entries_sorted edit) m q ∙ ap (λ o. value_after o (get m q)) (sym (get-entries edit q))

@@ -35,6 +35,11 @@ abbrev pub all_changed : FinMap nat_cmp ℕ → List (ℕ × Option ℕ) → Fin
 all_changed cells [] = cells
 all_changed cells (e ∷ es) = all_changed (changed cells e.0 e.1) es
 
+-- the value of a key after an edit: what the edit says of it, and else the old one. `all_changed` gives it at each key
+abbrev pub value_after : Option (Option ℕ) → Option ℕ → Option ℕ
+value_after None old = old
+value_after (Some change) old = change
+
 -- the least key that an edit names and the cells lack
 abbrev pub least_absent : FinMap nat_cmp ℕ → FinMap nat_cmp (Option ℕ) → Option ℕ
 least_absent cells edit = option_map (λ e. e.0) (find (λ e. not (contains_key cells e.0)) (entries edit))

@@ -109,9 +109,12 @@ pub enum Request {
 }
 
 impl Request {
-    /// An equal request. It copies no bytes of a text.
+    ghost use Rattle.nm_proto.specs.Message.{asks_with_text};
+
+    /// An equal request. It copies no bytes of a text, and only one that holds a text may find no memory.
     pub fn copy(&self) -> Result<Request, NoMemory>
         ensures value { IfOk result (λ request. request ≡ self.now) }
+        ensures without_text { asks_with_text self.now ≡ false → IsOk result }
     {
         match self {
             Request::OpenSession { user } => Ok(Request::OpenSession { user: user.copy()? }),

@@ -1,4 +1,4 @@
-ghost use Rattle.std.specs.Prelude.{◌≡◌, ◌↔◌, ℕ, IsTrue, IfOk, OnOk, OnErr, MatchResult};
+ghost use Rattle.std.specs.Prelude.{◌≡◌, ◌↔◌, ℕ, IsTrue, IfOk, OnOk, OnErr, None};
 ghost use Rattle.std.specs.Ordering.{nat_cmp};
 ghost use Rattle.std.specs.FinMap as map;
 ghost use Rattle.std.specs.Map.Iter.{ShowsInOrder, deref_pair};
@@ -67,10 +67,11 @@ impl<V: Copy> NumberMap<V> {
         self.len() == 0
     }
 
-    /// Gives the number this value, and answers the one before.
+    /// Gives the number this value, and answers the one before. Only a new number may find no memory.
     pub fn insert(&mut self, number: u32, value: V) -> Result<Option<V>, NoMemory>
         ensures before { IfOk result (λ before. before ≡ map.get self.old number) }
         ensures ok { OnOk result (self.new ≡ map.insert self.old number value) }
+        ensures only_new { OnErr result (map.get self.old number ≡ None) }
         ensures err { OnErr result (self.new ≡ self.old) }
     {
         Ok(self.tree.insert(number, value)?)
