@@ -14,6 +14,8 @@ mod numbering;
 mod read;
 mod reader;
 pub mod scenario;
+#[cfg(test)]
+mod tests;
 mod values;
 
 pub use fault::{Fault, ReadError, ScenarioKind, Step};
