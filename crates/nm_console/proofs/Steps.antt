@@ -1,5 +1,5 @@
 -- Steps of a world, from the steps of its parts.
-use Rattle.std.proofs.Common.{◌≡◌, ℕ, suc, ◌+◌, ◌-◌, ◌<◌, List, ◌∷◌, Option, Some, None, slice_get, map, refl, arith}
+use Rattle.std.proofs.Common.{◌≡◌, ℕ, suc, ◌+◌, ◌-◌, ◌<◌, List, ◌∷◌, Option, Some, None, map, refl, arith}
 use Rattle.std.specs.List.{All}
 use Rattle.std.proofs.lemmas.List.Elements.{All-map}
 use Rattle.nm_proto.specs.declared.message.Request.{Request}
@@ -9,8 +9,8 @@ use Rattle.nm_scenario.specs.declared.scenario.PlannedEdit.{PlannedEdit}
 use Rattle.nm_console.specs.declared.link.Link.{Link}
 use Rattle.nm_console.specs.declared.course.Course.{Course}
 use Rattle.nm_console.specs.Device.{DeviceState, IsSound, fresh_device}
-use Rattle.nm_console.specs.Course.{unused, outstanding}
-use Rattle.nm_console.specs.World.{WorldState, delivered, delivered_at, delivered_to, round, rounds, links_from, planned_for, outstanding_on, reply_of, devices_after, links_with_reply}
+use Rattle.nm_console.specs.Course.{unused}
+use Rattle.nm_console.specs.World.{WorldState, delivered_at, round, rounds, links_from, planned_for, outstanding_on, reply_of, devices_after, links_with_reply}
 
 module _ {Config TheEdit Node : Type 0} (m : Meaning Config TheEdit Node) (edits : List TheEdit) where
   -- one of the rounds that are left

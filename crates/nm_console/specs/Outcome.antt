@@ -4,7 +4,6 @@ use Rattle.std.specs.Prelude.{◌≡◌, ◌≢◌, ℕ, List, [], ◌∷◌, Bo
 use Rattle.std.specs.Str.{bytes_eq}
 use Rattle.nm_proto.specs.declared.message.Request.{Request}
 use Rattle.nm_proto.specs.declared.message.Request.TheVariants.{OpenSession, Lock, Unlock, PartialLock, PartialUnlock, Edit, Validate, Commit, CancelCommit, Discard, HasMark, GetConfig, Kill, CloseSession}
-use Rattle.nm_proto.specs.declared.message.Reply.{Reply}
 use Rattle.nm_console.specs.declared.device.Noted.{Noted}
 use Rattle.nm_console.specs.declared.outcome.Outcome.{Outcome}
 use Rattle.nm_console.specs.declared.outcome.Outcome.TheVariants.{Never, Pending, Confirmed, Undone}

@@ -1,6 +1,6 @@
 -- The world: devices, links and the journal, and what each event does to it. An event that doesn't apply changes
 -- nothing (this project's own). The code changes its parts in place; these are functions of the whole.
-use Rattle.std.specs.Prelude.{ℕ, zero, suc, ◌+◌, ◌-◌, ◌==◌, List, [], ◌∷◌, ◌++◌, Bool, ◌&&◌, nat_lt, nat_le, length, map, find, Option, Some, None, slice_get, slice_set, if◌then◌else◌}
+use Rattle.std.specs.Prelude.{ℕ, zero, suc, ◌+◌, ◌-◌, ◌==◌, List, [], ◌∷◌, ◌++◌, ◌&&◌, nat_le, length, map, find, Option, Some, None, slice_get, slice_set, if◌then◌else◌}
 use Rattle.nm_proto.specs.declared.message.Request.{Request}
 use Rattle.nm_proto.specs.declared.message.Reply.{Reply}
 use Rattle.nm_proto.specs.Content.{Meaning}

@@ -1,4 +1,4 @@
-use Rattle.std.proofs.Common.{◌≡◌, ◌+◌, arith}
+use Rattle.std.proofs.Common.{◌+◌, arith}
 use Rattle.std.proofs.lemmas.Grind.{common_steps}
 use Rattle.nm_console.proofs.Steps.{links_from-left}
 use Rattle.nm_console.proofs.world.fresh_links.Goals as goal
