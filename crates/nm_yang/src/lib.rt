@@ -1,0 +1,16 @@
+//! YANG module text: what a module's bytes spell, and one spelling of a statement.
+//!
+//! Stands on `nm_base` alone. The layers above rely on a statement's keyword, argument and place, and on
+//! the first fault of a text that is no module.
+#![tactic(auto)]
+
+mod blank;
+mod byte;
+mod fault;
+mod quote;
+mod reader;
+mod statement;
+mod word;
+
+pub use fault::{YangFault, YangKind};
+pub use statement::Statement;
