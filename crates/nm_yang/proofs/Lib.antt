@@ -1,1 +1,4 @@
 pub mod Texts
+pub mod Quotes
+pub mod Joins
+pub mod Runs

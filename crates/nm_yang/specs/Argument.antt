@@ -36,16 +36,24 @@ more_at page ending (suc n) bytes = if begins bytes 43 then (added_at page endin
 unfoldable pub quoted_at : Page → Fault → List ℕ → Result (List ℕ × List ℕ) Fault
 quoted_at page ending bytes = piece_at page bytes >>= λ s. with_front s.0 (more_at page ending (length s.1) s.1)
 
+-- the text of quoted strings, and the rest after them
+unfoldable pub quoted_label : Page → Fault → List ℕ → Result (List ℕ × List ℕ) Fault
+quoted_label page ending bytes = do
+  s ← quoted_at page ending bytes
+  text ← text_at (bad (place_of page bytes) NotUtf8) s.0
+  Ok (text, s.1)
+
+-- the text of an argument without quotes, and the rest after it
+unfoldable pub bare_label : Page → List ℕ → Result (List ℕ × List ℕ) Fault
+bare_label page bytes = do
+  s ← bare_at page bytes
+  text ← text_at (bad (place_of page bytes) NotUtf8) s.0
+  rest ← skip page plain s.1
+  Ok (text, rest)
+
 -- an argument or none, and the rest after it and the blanks that follow
 unfoldable pub argument_at : Page → Fault → List ℕ → Result (Option (List ℕ) × List ℕ) Fault
 argument_at page ending [] = Err ending
 argument_at page ending (b ∷ bytes) = if b == 59 || b == 123 then Ok (None, b ∷ bytes) else (
   if b == 125 then Err (bad (place_of page (b ∷ bytes)) BadToken) else (
-  if is_quote b then (do
-    s ← quoted_at page ending (b ∷ bytes)
-    text ← text_at (bad (place_of page (b ∷ bytes)) NotUtf8) s.0
-    Ok (Some text, s.1)) else (do
-    s ← bare_at page (b ∷ bytes)
-    text ← text_at (bad (place_of page (b ∷ bytes)) NotUtf8) s.0
-    rest ← skip page plain s.1
-    Ok (Some text, rest))))
+  (if is_quote b then quoted_label page ending (b ∷ bytes) else bare_label page (b ∷ bytes)) >>= λ s. Ok (Some s.0, s.1)))

@@ -1,9 +1,12 @@
 -- Statements within statements, and a whole module (RFC 7950 sections 6.3 and 7.1).
-use Rattle.std.specs.Prelude.{ℕ, zero, suc, List, [], ◌∷◌, length, drop, take, codes, Bool, true, false, ◌==◌, ◌&&◌, ◌||◌, nat_lt, min, Option, Some, None, Result, Ok, Err, if◌then◌else◌}
+use Rattle.std.specs.Prelude.{◌≡◌, ◌++◌, ◌-◌, slice_index, ℕ, zero, suc, List, [], ◌∷◌, length, drop, take, codes, Bool, true, false, ◌==◌, ◌&&◌, ◌||◌, nat_lt, Option, Some, None, Result, Ok, Err, if◌then◌else◌}
 use Rattle.std.specs.Str.{bytes_eq}
 use Rattle.std.specs.Str.Lossy.{utf8_valid_len}
 use Rattle.nm_yang.specs.declared.fault.Fault.{Fault}
+use Rattle.nm_yang.specs.declared.fault.YangFault.{YangFault}
+use Rattle.nm_yang.specs.declared.fault.YangFault.TheVariants as errors
 use Rattle.nm_yang.specs.declared.fault.YangKind.TheVariants.{BadToken, UnclosedBrace, NotModule, Trailing, NotUtf8, TooLong, TooDeep}
+use Rattle.nm_yang.specs.declared.module.Heading.{Heading as Written}
 use Rattle.nm_yang.specs.Tree.{Tree, statement, trees_of}
 use Rattle.nm_yang.specs.Page.{Page, bad, place_of, at_end, ◌>>=◌}
 use Rattle.nm_yang.specs.Byte.{begins}
@@ -17,6 +20,15 @@ Run = List Tree × Result (List ℕ) Fault
 
 abbrev pub failed : Fault → Run
 failed fault = ([], Err fault)
+
+-- statements were appended as a run says, and it ended so, unless memory ran out
+abbrev pub Stops : YangFault → List Tree → List Tree → Run → Type 0
+Stops errors.NoMemory old new run = Unit {0}
+Stops (errors.Bad place kind) old new run = (run.1 ≡ Err (bad place kind)) × (new ≡ old ++ run.0)
+
+abbrev pub Runs : {X : Type 0} → (X → List ℕ) → Result X YangFault → List Tree → List Tree → Run → Type 0
+Runs view (Ok x) old new run = (run.1 ≡ Ok (view x)) × (new ≡ old ++ run.0)
+Runs view (Err e) old new run = Stops e old new run
 
 -- a run that begins with the rest of a reader
 abbrev pub then_run : Result (List ℕ) Fault → (List ℕ → Run) → Run
@@ -35,12 +47,18 @@ pub record Heading : Type 0 where
   pub place : ℕ
   pub rest : List ℕ
 
+-- a heading of the code, and the rest after it
+abbrev pub heading : Written → List ℕ → Heading
+heading h rest = record { keyword = h.keyword; argument = h.argument; place = h.place; rest = rest }
+
+-- a keyword as a text, and the rest after it
 unfoldable pub label_at : Page → Fault → List ℕ → Result (List ℕ × List ℕ) Fault
 label_at page ending bytes = do
   k ← keyword_at page ending bytes
   text ← text_at (bad (place_of page bytes) NotUtf8) k.0
   Ok (text, k.1)
 
+-- the argument after a keyword, and the rest after it
 unfoldable pub after_keyword : Page → Fault → List ℕ → Result (Option (List ℕ) × List ℕ) Fault
 after_keyword page ending bytes = do
   rest ← skip page plain bytes
@@ -115,3 +133,43 @@ with_heading (Err fault) go = ([], Err fault)
 
 unfoldable pub module_at : Page → Found
 module_at page = with_heading (skip page plain page.text >>= λ start. heading_at page start) (λ h. ((body_at page h).0, closed_at page h (body_at page h)))
+
+-- ---- which backslashes are faults, and where the text is cut off
+
+abbrev pub argument_is : Option (List ℕ) → List ℕ → Bool
+argument_is None bytes = false
+argument_is (Some a) bytes = bytes_eq a bytes
+
+-- a statement that says that the module is of version 1.1 (RFC 7950 section 7.1.2)
+abbrev pub says_1_1 : Tree → Bool
+says_1_1 (statement keyword argument place below) = bytes_eq keyword (codes "yang-version") && argument_is argument (codes "1.1")
+
+abbrev pub any_says_1_1 : List Tree → Bool
+any_says_1_1 [] = false
+any_says_1_1 (t ∷ ts) = says_1_1 t || any_says_1_1 ts
+
+-- how many bytes a text may have: a limit of this project
+abbrev pub most_long : ℕ
+most_long = 262144
+
+-- whether the last byte within the limit is a `/`, which may open a comment only with the next byte
+abbrev pub slash_at_limit : List ℕ → Bool
+slash_at_limit text = slice_index text (most_long - 1) == 47
+
+-- how many bytes are read: those that are UTF-8 and within the limit
+abbrev pub front_len : List ℕ → ℕ
+front_len text = if nat_lt (utf8_valid_len text) most_long then utf8_valid_len text else (
+  if nat_lt most_long (length text) && slash_at_limit text then most_long - 1 else most_long)
+
+-- what is wrong where reading is cut off: nothing where the text ends there
+abbrev pub stop_of : List ℕ → Option Fault
+stop_of text = if nat_lt (utf8_valid_len text) most_long && nat_lt (utf8_valid_len text) (length text) then Some (bad (utf8_valid_len text) NotUtf8) else (
+  if nat_lt most_long (length text) then Some (bad most_long TooLong) else None)
+
+abbrev pub page_of : Bool → List ℕ → Page
+page_of strict text = record { text = take (front_len text) text; stop = stop_of text; strict = strict }
+
+-- The module or the first fault. A backslash that begins no escape stands for itself, unless the module's
+-- yang-version statement, wherever it stands before another fault, says 1.1 (RFC 7950 sections 6.1.3 and 12).
+unfoldable pub reading : List ℕ → Result Tree Fault
+reading text = if any_says_1_1 (module_at (page_of false text)).0 then (module_at (page_of true text)).1 else (module_at (page_of false text)).1

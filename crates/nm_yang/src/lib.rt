@@ -4,9 +4,11 @@
 //! the first fault of a text that is no module.
 #![tactic(auto)]
 
+mod argument;
 mod blank;
 mod byte;
 mod fault;
+mod module;
 mod quote;
 mod reader;
 mod statement;

@@ -97,7 +97,7 @@ fn double_end<'a>(reader: &Reader<'_>, opener: u32, bytes: &'a [u8]) -> Result<&
 }
 
 /// Appends what stands between double quotes means, after a line break without `room` columns of blanks.
-#[tactic(auto, unfolding(crate::specs::Quote::meaning))]
+#[tactic(auto, using(crate::proofs::Quotes::rejoined), unfolding(crate::specs::Quote::meaning))]
 fn put_meaning(out: &mut Vec<u8>, room: u32, bytes: &[u8]) -> Result<(), NoMemory>
     ensures { OnOk result (out.new.items ≡ out.old.items ++ spec.meaning room 0 false [] bytes.now) }
 {
@@ -111,27 +111,36 @@ fn put_meaning(out: &mut Vec<u8>, room: u32, bytes: &[u8]) -> Result<(), NoMemor
         if after_backslash {
             out.push(escaped(*byte))?;
             after_backslash = false;
-        } else if *byte == b'\n' {
+            left = 0;
+            solid = out.len();
+            continue;
+        }
+        if *byte == b'\n' {
             out.truncate(solid);
             out.push(*byte)?;
             left = room;
-        } else if 0 < left && *byte == b' ' {
+            solid = out.len();
+            continue;
+        }
+        if 0 < left && *byte == b' ' {
             left -= 1;
             continue;
-        } else if 0 < left && *byte == b'\t' {
+        }
+        if 0 < left && *byte == b'\t' {
             left = left.saturating_sub(8);
             continue;
-        } else if is_loose(*byte) {
-            out.push(*byte)?;
-            left = 0;
-            continue;
-        } else if *byte == b'\\' && begins_escape(after) {
-            after_backslash = true;
-            left = 0;
-        } else {
-            out.push(*byte)?;
-            left = 0;
         }
+        left = 0;
+        if is_loose(*byte) {
+            out.push(*byte)?;
+            continue;
+        }
+        if *byte == b'\\' && begins_escape(after) {
+            after_backslash = true;
+            solid = out.len();
+            continue;
+        }
+        out.push(*byte)?;
         solid = out.len();
     }
     Ok(())

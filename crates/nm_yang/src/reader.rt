@@ -86,6 +86,13 @@ impl<'a> Reader<'a> {
         self.strict
     }
 
+    /// What is wrong where the text is cut off.
+    pub fn stop(&self) -> Option<Fault>
+        ensures { result ≡ self.now.stop }
+    {
+        self.stop
+    }
+
     /// How many bytes stand before the rest.
     pub fn place(&self, rest: &[u8]) -> u32
         ensures { result ≡ place_of self.now rest.now }
