@@ -115,15 +115,20 @@ most_deep = 64
 unfoldable pub body_at : Page → Heading → Run
 body_at page h = end_at (inside most_deep page) page (not_module page) h.rest
 
+-- what follows the module: blanks
+unfoldable pub finish_at : Page → List ℕ → Result (List ℕ) Fault
+finish_at page rest = do
+  after ← skip page plain rest
+  done_at page page.stop after
+
 -- the module with these statements
 unfoldable pub closed_at : Page → Heading → Run → Result Tree Fault
 closed_at page h body = do
   rest ← body.1
-  after ← skip page plain rest
-  end ← done_at page page.stop after
+  end ← finish_at page rest
   Ok (statement h.keyword h.argument h.place (trees_of body.0))
 
--- the statements of the module that were read, and the module or the first fault
+-- statements that were read, and the module or the fault at which reading ended
 abbrev pub Found : Type 0
 Found = List Tree × Result Tree Fault
 
@@ -131,8 +136,24 @@ abbrev pub with_heading : Result Heading Fault → (Heading → Found) → Found
 with_heading (Ok h) go = go h
 with_heading (Err fault) go = ([], Err fault)
 
+-- what stands before the statements of the module
+unfoldable pub begin_at : Page → Result Heading Fault
+begin_at page = do
+  start ← skip page plain page.text
+  heading_at page start
+
+-- the module that a heading and these statements make, or the fault
+abbrev pub outcome : Result Written Fault → List Tree → Result Tree Fault
+outcome (Ok h) below = Ok (statement h.keyword h.argument h.place (trees_of below))
+outcome (Err fault) below = Err fault
+
+-- reading came so far, and ended so
+abbrev pub Ends : Result Written Fault → List Tree → Found → Type 0
+Ends end below found = (found.0 ≡ below) × (found.1 ≡ outcome end below)
+
+-- the statements of the module that were read, and the module or the first fault
 unfoldable pub module_at : Page → Found
-module_at page = with_heading (skip page plain page.text >>= λ start. heading_at page start) (λ h. ((body_at page h).0, closed_at page h (body_at page h)))
+module_at page = with_heading (begin_at page) (λ h. ((body_at page h).0, closed_at page h (body_at page h)))
 
 -- ---- which backslashes are faults, and where the text is cut off
 
@@ -152,24 +173,24 @@ any_says_1_1 (t ∷ ts) = says_1_1 t || any_says_1_1 ts
 abbrev pub most_long : ℕ
 most_long = 262144
 
--- whether the last byte within the limit is a `/`, which may open a comment only with the next byte
-abbrev pub slash_at_limit : List ℕ → Bool
-slash_at_limit text = slice_index text (most_long - 1) == 47
-
--- how many bytes are read: those that are UTF-8 and within the limit
-abbrev pub front_len : List ℕ → ℕ
-front_len text = if nat_lt (utf8_valid_len text) most_long then utf8_valid_len text else (
-  if nat_lt most_long (length text) && slash_at_limit text then most_long - 1 else most_long)
+-- how many bytes are read: those that are UTF-8 and within the limit. A `/` that stands last there may open a
+-- comment with the byte beyond the limit, so it isn't read.
+abbrev pub front_len : ℕ → List ℕ → ℕ
+front_len limit text = if nat_lt (utf8_valid_len text) limit then utf8_valid_len text else (
+  if nat_lt limit (length text) && slice_index text (limit - 1) == 47 then limit - 1 else limit)
 
 -- what is wrong where reading is cut off: nothing where the text ends there
-abbrev pub stop_of : List ℕ → Option Fault
-stop_of text = if nat_lt (utf8_valid_len text) most_long && nat_lt (utf8_valid_len text) (length text) then Some (bad (utf8_valid_len text) NotUtf8) else (
-  if nat_lt most_long (length text) then Some (bad most_long TooLong) else None)
+abbrev pub stop_of : ℕ → List ℕ → Option Fault
+stop_of limit text = if nat_lt (utf8_valid_len text) limit then (if utf8_valid_len text == length text then None else Some (bad (utf8_valid_len text) NotUtf8)) else (
+  if limit == length text then None else Some (bad limit TooLong))
 
-abbrev pub page_of : Bool → List ℕ → Page
-page_of strict text = record { text = take (front_len text) text; stop = stop_of text; strict = strict }
+abbrev pub page_of : ℕ → Bool → List ℕ → Page
+page_of limit strict text = record { text = take (front_len limit text) text; stop = stop_of limit text; strict = strict }
 
 -- The module or the first fault. A backslash that begins no escape stands for itself, unless the module's
 -- yang-version statement, wherever it stands before another fault, says 1.1 (RFC 7950 sections 6.1.3 and 12).
+abbrev pub reading_within : ℕ → List ℕ → Result Tree Fault
+reading_within limit text = if any_says_1_1 (module_at (page_of limit false text)).0 then (module_at (page_of limit true text)).1 else (module_at (page_of limit false text)).1
+
 unfoldable pub reading : List ℕ → Result Tree Fault
-reading text = if any_says_1_1 (module_at (page_of false text)).0 then (module_at (page_of true text)).1 else (module_at (page_of false text)).1
+reading text = reading_within most_long text

@@ -12,7 +12,9 @@ mod module;
 mod quote;
 mod reader;
 mod statement;
+mod text;
 mod word;
 
 pub use fault::{YangFault, YangKind};
 pub use statement::Statement;
+pub use text::read_module;

@@ -184,3 +184,43 @@ fn done_at<'a>(reader: &Reader<'_>, bytes: &'a [u8]) -> Result<&'a [u8], YangFau
         Some(stop) => Err(refused(stop)),
     }
 }
+
+#[tactic(auto, unfolding(crate::specs::Module::finish_at))]
+pub fn finish_at<'a>(reader: &Reader<'_>, rest: &'a [u8]) -> Result<&'a [u8], YangFault>
+    ensures { Gives (λ r. r.now) result (spec.finish_at reader.now rest.now) }
+{
+    let after = skip(reader, rest)?;
+    done_at(reader, after)
+}
+
+#[tactic(auto, unfolding(crate::specs::Module::begin_at))]
+pub fn begin_at<'a>(
+    alloc: Global,
+    reader: &mut Reader<'a>,
+) -> Result<(Heading, &'a [u8]), YangFault>
+    ensures read { Gives (λ x. heading_seen x.0 x.1.now) result (spec.begin_at reader.old) }
+    ensures same { reader.new ≡ reader.old }
+{
+    let start = skip(reader, reader.text())?;
+    heading_at(alloc, reader, start)
+}
+
+/// The statements of the module that were appended, and how reading ended after the heading.
+#[tactic(auto, unfolding(crate::specs::Module::body_at))]
+pub fn body_at<'a>(
+    alloc: Global,
+    reader: &mut Reader<'_>,
+    below: &mut Vec<Statement>,
+    heading: &Heading,
+    rest: &'a [u8],
+) -> Result<&'a [u8], YangFault>
+    ensures read { Runs (λ r. r.now) result below.old.items below.new.items (spec.body_at reader.old (heading_seen heading.now rest.now)) }
+    ensures same { reader.new ≡ reader.old }
+{
+    let none = Fault {
+        place: 0,
+        kind: YangKind::NotModule,
+    };
+    let ending = reader.at_end(none);
+    end_at(alloc, reader, DEPTH, ending, below, rest)
+}
