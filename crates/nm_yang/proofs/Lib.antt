@@ -2,3 +2,4 @@ pub mod Texts
 pub mod Quotes
 pub mod Joins
 pub mod Runs
+pub mod Writes

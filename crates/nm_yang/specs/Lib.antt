@@ -6,3 +6,4 @@ pub mod Word
 pub mod Quote
 pub mod Argument
 pub mod Module
+pub mod Written

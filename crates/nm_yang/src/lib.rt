@@ -14,7 +14,12 @@ mod reader;
 mod statement;
 mod text;
 mod word;
+mod writing;
 
 pub use fault::{YangFault, YangKind};
 pub use statement::Statement;
 pub use text::read_module;
+pub use writing::write_module;
+
+#[cfg(test)]
+mod tests;
