@@ -1,5 +1,5 @@
 -- Strings that `+` joins, one after the other as a loop reads them.
-use Rattle.std.proofs.Common.{◌≡◌, ℕ, zero, suc, ◌-◌, ◌+◌, ◌≤◌, ◌<◌, Bool, true, false, List, [], ◌∷◌, ◌++◌, length, Result, Ok, Err, refl, sym, ap, subst, ◌∙◌, append_assoc, arith}
+use Rattle.std.proofs.Common.{◌≡◌, ℕ, zero, suc, ◌-◌, ◌≤◌, ◌<◌, true, false, List, [], ◌∷◌, ◌++◌, length, Result, Ok, Err, refl, sym, ap, ◌∙◌, append_assoc, arith}
 use Rattle.std.proofs.lemmas.List.{append-nil}
 use Rattle.nm_yang.specs.declared.fault.Fault.{Fault}
 use Rattle.nm_yang.specs.declared.fault.YangFault.{YangFault}
@@ -41,7 +41,7 @@ more-suc page ending n out bytes plus le =
     let lt = begins-length bytes 43 plus in
     let k : n ≡ suc (n - 1) = omega arith in
     let one : with_front out (more_at page ending (suc (n - 1)) bytes) ≡ (with_front out (added_at page ending bytes) >>= λ s. with_front s.0 (more_at page ending (n - 1) s.1)) =
-        rw plus (fold_front out (added_at page ending bytes) (λ r. more_at page ending (n - 1) r)) in
+    rw plus (fold_front out (added_at page ending bytes) (λ r. more_at page ending (n - 1) r)) in
     ap (λ (m : ℕ). with_front out (more_at page ending m bytes)) k ∙ one
 
 pub next_piece : (page : Page) (ending : Fault) (n : ℕ) (out bytes now rest : List ℕ) (total : Read) → begins bytes 43 ≡ true → length bytes ≤ n → with_front out (added_at page ending bytes) ≡ Ok (now, rest)

@@ -1,9 +1,9 @@
 -- What stands between quotes.
-use Rattle.std.proofs.Common.{◌≡◌, ℕ, zero, suc, ◌≤◌, ◌-◌, Bool, true, false, cond, eqb, ltb, List, [], ◌∷◌, ◌++◌, take, drop, length, get_or, refl, ap, sym, subst, ◌∙◌, append_assoc, arith}
+use Rattle.std.proofs.Common.{◌≡◌, ℕ, ◌≤◌, ◌-◌, Bool, true, false, eqb, ltb, List, [], ◌∷◌, ◌++◌, take, drop, length, get_or, refl, ap, sym, subst, ◌∙◌, append_assoc, arith}
 use Rattle.std.specs.Prelude.{◌&&◌, ◌||◌}
 use Rattle.std.proofs.lemmas.List.{take-append-drop, take_rest, append-nil}
 use Rattle.std.proofs.Math.Seq.{take-append_seam, drop-append_seam}
-use Rattle.nm_yang.specs.Quote.{meaning, begins_escape, is_loose, escaped}
+use Rattle.nm_yang.specs.Quote.{meaning, begins_escape, is_loose}
 
 -- a list that was cut, and what follows it
 pub rejoined : (s : ℕ) (xs x : List ℕ) → take s xs ++ (drop s xs ++ x) ≡ xs ++ x
@@ -42,7 +42,7 @@ kept_escape room left solid backslash out (b ∷ tail) total le off is escape so
     let t : take (length (b ∷ tail) - 1) tail ≡ tail = take_rest (b ∷ tail) 1 in
     let e : begins_escape tail ≡ true = subst (λ (l : List ℕ). begins_escape l ≡ true) t escape in
     let one : take solid out ++ meaning room left backslash (drop solid out) (b ∷ tail) ≡ out ++ meaning room 0 true [] tail =
-        rw (off, is, meaning-escape room left (drop solid out) tail e) (rejoined solid out (meaning room 0 true [] tail)) in
+    rw (off, is, meaning-escape room left (drop solid out) tail e) (rejoined solid out (meaning room 0 true [] tail)) in
     rw t (whole out (λ l. meaning room 0 true l tail) ∙ sym one ∙ so_far)
 
 pub kept_other : (room left solid : ℕ) (backslash : Bool) (out rest total : List ℕ) → 1 ≤ length rest → backslash ≡ false → eqb (get_or rest 0 0) 10 ≡ false → is_loose (get_or rest 0 0) ≡ false → (eqb (get_or rest 0 0) 92 && begins_escape (take (length rest - 1) (drop 1 rest))) ≡ false
@@ -53,5 +53,5 @@ kept_other room left solid backslash out (b ∷ tail) total le off line blank es
     let t : take (length (b ∷ tail) - 1) tail ≡ tail = take_rest (b ∷ tail) 1 in
     let e : (eqb b 92 && begins_escape tail) ≡ false = subst (λ (l : List ℕ). (eqb b 92 && begins_escape l) ≡ false) t escape in
     let one : take solid out ++ meaning room left backslash (drop solid out) (b ∷ tail) ≡ out ++ b ∷ meaning room 0 false [] tail =
-        rw (off, meaning-other room left b (drop solid out) tail line blank e) (rejoined solid out (b ∷ meaning room 0 false [] tail)) in
+    rw (off, meaning-other room left b (drop solid out) tail line blank e) (rejoined solid out (b ∷ meaning room 0 false [] tail)) in
     rw (t, off) (whole (out ++ b ∷ []) (λ l. meaning room 0 false l tail) ∙ append_assoc out (b ∷ []) (meaning room 0 false [] tail) ∙ sym one ∙ so_far)

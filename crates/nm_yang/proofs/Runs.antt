@@ -1,5 +1,5 @@
 -- Statements within braces, one after the other as a loop reads them.
-use Rattle.std.proofs.Common.{◌≡◌, ℕ, zero, suc, ◌-◌, ◌+◌, ◌≤◌, ◌<◌, Bool, true, false, List, [], ◌∷◌, ◌++◌, length, drop, Result, Ok, Err, refl, sym, ap, subst, ◌∙◌, append_assoc, arith}
+use Rattle.std.proofs.Common.{◌≡◌, ℕ, zero, suc, ◌-◌, ◌≤◌, ◌<◌, true, false, List, [], ◌∷◌, ◌++◌, length, drop, Result, Ok, Err, refl, sym, ap, ◌∙◌, append_assoc, arith}
 use Rattle.std.proofs.lemmas.List.{append-nil}
 use Rattle.nm_yang.specs.declared.fault.Fault.{Fault}
 use Rattle.nm_yang.specs.declared.fault.YangFault.{YangFault}
@@ -7,11 +7,11 @@ use Rattle.nm_yang.specs.declared.fault.YangFault.TheVariants as errors
 use Rattle.nm_yang.specs.declared.fault.YangKind.{YangKind}
 use Rattle.nm_yang.specs.declared.fault.YangKind.TheVariants.{TooDeep}
 use Rattle.nm_yang.specs.Tree.{Tree}
-use Rattle.nm_yang.specs.Page.{Page, ◌>>=◌, bad, place_of, Fails}
+use Rattle.nm_yang.specs.Page.{Page, bad, place_of, Fails}
 use Rattle.nm_yang.specs.Byte.{begins}
 use Rattle.nm_yang.specs.Blank.{skip, plain}
 use Rattle.nm_yang.specs.Word.{keyword_at, name_at}
-use Rattle.nm_yang.specs.Module.{Run, Stops, Runs, failed, cons_run, then_run, label_at, statement_at, each_at, inside, open_brace}
+use Rattle.nm_yang.specs.Module.{Run, Stops, failed, cons_run, then_run, label_at, statement_at, each_at, inside, open_brace}
 
 -- a run behind statements that were read before
 abbrev pub behind : List Tree → Run → Run

@@ -1,5 +1,5 @@
 -- Texts that are UTF-8, and columns.
-use Rattle.std.proofs.Common.{◌≡◌, ℕ, List, [], ◌∷◌, ◌++◌, ◌+◌, ◌≤◌, ◌-◌, Bool, true, false, refl, sym, ap, ◌∙◌, take, drop, length, arith}
+use Rattle.std.proofs.Common.{◌≡◌, ℕ, List, [], ◌∷◌, ◌++◌, ◌+◌, ◌≤◌, ◌-◌, Bool, true, false, refl, sym, ap, ◌∙◌, take, drop, arith}
 use Rattle.std.specs.Prelude.{IsUtf8}
 use Rattle.std.specs.Str.{is_utf8}
 use Rattle.std.proofs.lemmas.Str.{IsUtf8-from_is_utf8}

@@ -55,5 +55,5 @@ bare_label page bytes = do
 unfoldable pub argument_at : Page → Fault → List ℕ → Result (Option (List ℕ) × List ℕ) Fault
 argument_at page ending [] = Err ending
 argument_at page ending (b ∷ bytes) = if b == 59 || b == 123 then Ok (None, b ∷ bytes) else (
-  if b == 125 then Err (bad (place_of page (b ∷ bytes)) BadToken) else (
-  (if is_quote b then quoted_label page ending (b ∷ bytes) else bare_label page (b ∷ bytes)) >>= λ s. Ok (Some s.0, s.1)))
+    if b == 125 then Err (bad (place_of page (b ∷ bytes)) BadToken) else (
+    (if is_quote b then quoted_label page ending (b ∷ bytes) else bare_label page (b ∷ bytes)) >>= λ s. Ok (Some s.0, s.1)))

@@ -17,8 +17,8 @@ pub data Mode : Type 0 where
 unfoldable pub skip : Page → Mode → List ℕ → Result (List ℕ) Fault
 skip page plain [] = Ok []
 skip page plain (b ∷ rest) = if is_white b then skip page plain rest else (
-  if b == 47 && begins rest 47 then skip page line rest else (
-  if b == 47 && begins rest 42 then skip page (star (place_of page (b ∷ rest))) rest else Ok (b ∷ rest)))
+    if b == 47 && begins rest 47 then skip page line rest else (
+    if b == 47 && begins rest 42 then skip page (star (place_of page (b ∷ rest))) rest else Ok (b ∷ rest)))
 skip page line [] = Ok []
 skip page line (b ∷ rest) = if b == 10 then skip page plain rest else skip page line rest
 skip page (star opener) [] = Err (at_end page (bad opener UnclosedComment))

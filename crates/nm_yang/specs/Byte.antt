@@ -1,5 +1,5 @@
 -- The bytes that part a text (RFC 7950 sections 6.1 and 6.2).
-use Rattle.std.specs.Prelude.{ℕ, List, [], ◌∷◌, Bool, false, true, ◌==◌, ◌&&◌, ◌||◌, nat_le}
+use Rattle.std.specs.Prelude.{ℕ, List, [], ◌∷◌, Bool, false, ◌==◌, ◌&&◌, ◌||◌, nat_le}
 
 -- space, tab, carriage return and line feed
 abbrev pub is_white : ℕ → Bool

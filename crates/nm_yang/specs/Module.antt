@@ -177,12 +177,12 @@ most_long = 262144
 -- comment with the byte beyond the limit, so it isn't read.
 abbrev pub front_len : ℕ → List ℕ → ℕ
 front_len limit text = if nat_lt (utf8_valid_len text) limit then utf8_valid_len text else (
-  if nat_lt limit (length text) && slice_index text (limit - 1) == 47 then limit - 1 else limit)
+    if nat_lt limit (length text) && slice_index text (limit - 1) == 47 then limit - 1 else limit)
 
 -- what is wrong where reading is cut off: nothing where the text ends there
 abbrev pub stop_of : ℕ → List ℕ → Option Fault
 stop_of limit text = if nat_lt (utf8_valid_len text) limit then (if utf8_valid_len text == length text then None else Some (bad (utf8_valid_len text) NotUtf8)) else (
-  if limit == length text then None else Some (bad limit TooLong))
+    if limit == length text then None else Some (bad limit TooLong))
 
 abbrev pub page_of : ℕ → Bool → List ℕ → Page
 page_of limit strict text = record { text = take (front_len limit text) text; stop = stop_of limit text; strict = strict }

@@ -32,7 +32,7 @@ unfoldable pub double_end : Page → ℕ → Bool → List ℕ → Result (List 
 double_end page opener after_backslash [] = Err (at_end page (bad opener UnclosedQuote))
 double_end page opener true (b ∷ rest) = double_end page opener false rest
 double_end page opener false (b ∷ rest) = if b == 34 then Ok (b ∷ rest) else (
-  if b == 92 && page.strict && begins_other rest then Err (bad (place_of page (b ∷ rest)) BadEscape) else double_end page opener (b == 92) rest)
+    if b == 92 && page.strict && begins_other rest then Err (bad (place_of page (b ∷ rest)) BadEscape) else double_end page opener (b == 92) rest)
 
 -- blanks that go before a line break
 abbrev pub is_loose : ℕ → Bool
@@ -55,7 +55,7 @@ meaning room left false loose (b ∷ rest) = if b == 10 then b ∷ meaning room 
 unfoldable pub string_at : Page → List ℕ → Result (List ℕ × List ℕ) Fault
 string_at page [] = Ok ([], [])
 string_at page (quote ∷ bytes) = if quote == 39 then (do
-    rest ← single_end page (place_of page (quote ∷ bytes)) bytes
-    Ok (front bytes rest, drop 1 rest)) else (do
+  rest ← single_end page (place_of page (quote ∷ bytes)) bytes
+  Ok (front bytes rest, drop 1 rest)) else (do
     rest ← double_end page (place_of page (quote ∷ bytes)) false bytes
     Ok (meaning (column_of page (quote ∷ bytes) + 1) 0 false [] (front bytes rest), drop 1 rest))

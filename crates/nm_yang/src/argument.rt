@@ -15,11 +15,7 @@ use nm_base::Label;
 use std::alloc::Global;
 
 #[tactic(auto, unfolding(crate::specs::Argument::quote_at))]
-fn quote_at<'a>(
-    reader: &Reader<'_>,
-    ending: Fault,
-    bytes: &'a [u8],
-) -> Result<&'a [u8], YangFault>
+fn quote_at<'a>(reader: &Reader<'_>, ending: Fault, bytes: &'a [u8]) -> Result<&'a [u8], YangFault>
     ensures rest { Gives (λ r. r.now) result (spec.quote_at reader.now ending bytes.now) }
     ensures shorter { IfOk result (λ r. length r.now ≤ length bytes.now) }
 {

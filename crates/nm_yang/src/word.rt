@@ -25,11 +25,7 @@ fn name_end(bytes: &[u8]) -> &[u8]
 }
 
 #[tactic(auto, unfolding(crate::specs::Word::name_at))]
-fn name_at<'a>(
-    reader: &Reader<'_>,
-    ending: Fault,
-    bytes: &'a [u8],
-) -> Result<&'a [u8], YangFault>
+fn name_at<'a>(reader: &Reader<'_>, ending: Fault, bytes: &'a [u8]) -> Result<&'a [u8], YangFault>
     ensures rest { Gives (λ r. r.now) result (spec.name_at reader.now ending bytes.now) }
     ensures shorter { IfOk result (λ r. length r.now < length bytes.now) }
 {
@@ -45,11 +41,7 @@ fn name_at<'a>(
 }
 
 #[tactic(auto, unfolding(crate::specs::Word::colon_at))]
-fn colon_at<'a>(
-    reader: &Reader<'_>,
-    ending: Fault,
-    bytes: &'a [u8],
-) -> Result<&'a [u8], YangFault>
+fn colon_at<'a>(reader: &Reader<'_>, ending: Fault, bytes: &'a [u8]) -> Result<&'a [u8], YangFault>
     ensures rest { Gives (λ r. r.now) result (spec.colon_at reader.now ending bytes.now) }
     ensures shorter { IfOk result (λ r. length r.now ≤ length bytes.now) }
 {
@@ -60,11 +52,7 @@ fn colon_at<'a>(
 }
 
 #[tactic(auto, unfolding(crate::specs::Word::parted))]
-fn parted<'a>(
-    reader: &Reader<'_>,
-    ending: Fault,
-    bytes: &'a [u8],
-) -> Result<&'a [u8], YangFault>
+fn parted<'a>(reader: &Reader<'_>, ending: Fault, bytes: &'a [u8]) -> Result<&'a [u8], YangFault>
     ensures rest { Gives (λ r. r.now) result (spec.parted reader.now ending bytes.now) }
     ensures shorter { IfOk result (λ r. length r.now ≤ length bytes.now) }
 {
@@ -123,10 +111,7 @@ fn begins_close(bytes: &[u8]) -> bool
 
 /// An argument without quotes, and what is left after it.
 #[tactic(auto, unfolding(crate::specs::Word::bare_at))]
-pub fn bare_at<'a>(
-    reader: &Reader<'_>,
-    bytes: &'a [u8],
-) -> Result<(&'a [u8], &'a [u8]), YangFault>
+pub fn bare_at<'a>(reader: &Reader<'_>, bytes: &'a [u8]) -> Result<(&'a [u8], &'a [u8]), YangFault>
     ensures read { Gives (λ x. (x.0.now, x.1.now)) result (spec.bare_at reader.now bytes.now) }
     ensures shorter { IfOk result (λ x. length x.1.now ≤ length bytes.now) }
 {

@@ -1,4 +1,4 @@
-use Rattle.std.proofs.Common.{◌≡◌, ◌-◌, ◌∙◌, length, sym, arith}
+use Rattle.std.proofs.Common.{◌-◌, ◌∙◌, length, sym, arith}
 use Rattle.nm_yang.proofs.Joins.{first_piece, next_piece, next_fails, no_more}
 use Rattle.nm_yang.proofs.argument.quoted_at.Goals as goal
 

@@ -1,4 +1,4 @@
-use Rattle.std.proofs.Common.{◌≡◌, ◌≤◌, ◌<◌, ◌+◌, ◌*◌, ℕ, length, Err}
+use Rattle.std.proofs.Common.{◌≡◌, ◌≤◌, ℕ, length}
 use Rattle.nm_yang.specs.Page.{with_front}
 use Rattle.nm_yang.specs.Argument.{more_at, quoted_at}
 use Rattle.nm_yang.proofs.argument.quoted_at.Given as goal

@@ -1,4 +1,4 @@
-use Rattle.std.proofs.Common.{◌≡◌, ◌≤◌, ◌<◌, ◌+◌, ◌*◌, ℕ, length, Err, false}
+use Rattle.std.proofs.Common.{◌≡◌, ◌≤◌, ℕ, length, false}
 use Rattle.nm_yang.specs.Page.{Page}
 use Rattle.nm_yang.specs.Blank.{skip, block}
 use Rattle.nm_yang.proofs.blank.after_block.Given as goal

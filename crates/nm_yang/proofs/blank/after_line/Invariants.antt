@@ -1,4 +1,4 @@
-use Rattle.std.proofs.Common.{◌≡◌, ◌≤◌, ◌<◌, ◌+◌, ◌*◌, ℕ, length, Err}
+use Rattle.std.proofs.Common.{◌≡◌, ◌≤◌, length}
 use Rattle.nm_yang.specs.Page.{Page}
 use Rattle.nm_yang.specs.Blank.{skip, line}
 use Rattle.nm_yang.proofs.blank.after_line.Given as goal

@@ -1,4 +1,4 @@
-use Rattle.std.proofs.Common.{◌≡◌, ◌≤◌, ◌<◌, ◌+◌, ◌*◌, ℕ, length, Err}
+use Rattle.std.proofs.Common.{◌≡◌, ◌≤◌, length}
 use Rattle.nm_yang.specs.Blank.{skip, plain}
 use Rattle.nm_yang.proofs.blank.skip.Given as goal
 

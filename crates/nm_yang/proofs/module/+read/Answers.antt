@@ -1,7 +1,7 @@
-use Rattle.std.proofs.Common.{◌≡◌, ◌≤◌, ◌<◌, ◌-◌, length, sym, ap, ◌∙◌, refl, arith}
+use Rattle.std.proofs.Common.{◌-◌, length, sym, ap, ◌∙◌, refl, arith}
 use Rattle.std.proofs.lemmas.Result.{err_from_is_err_and}
 use Rattle.nm_yang.proofs.Runs.{too_deep, start_fails, starts, statement_fails, blanks_fail, goes_on, closes}
-use Rattle.nm_yang.specs.Page.{bad, at_end}
+use Rattle.nm_yang.specs.Page.{at_end}
 use Rattle.nm_yang.proofs.module.+read.Goals as goal
 
 pub inside-returns-then-depth-eq0-clause-read : goal.inside-returns-then-depth-eq0-clause-read

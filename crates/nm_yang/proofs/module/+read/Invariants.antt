@@ -1,4 +1,4 @@
-use Rattle.std.proofs.Common.{◌≡◌, ◌≤◌, ◌<◌, ◌++◌, length, ℕ, ◌+◌, ◌-◌, ◌*◌}
+use Rattle.std.proofs.Common.{◌≡◌, ◌≤◌, length, ℕ, ◌+◌, ◌*◌}
 use Rattle.nm_yang.specs.Module.{inside}
 use Rattle.nm_yang.proofs.Runs.{behind, left_at}
 use Rattle.nm_yang.proofs.module.+read.Given as goal

@@ -1,4 +1,4 @@
-use Rattle.std.proofs.Common.{◌≡◌, ◌≤◌, ◌<◌, ◌+◌, ◌*◌, ℕ, length, false}
+use Rattle.std.proofs.Common.{◌≡◌, ◌≤◌, length, false}
 use Rattle.nm_yang.specs.Quote.{double_end}
 use Rattle.nm_yang.proofs.quote.double_end.Given as goal
 

@@ -1,7 +1,4 @@
-use Rattle.std.proofs.Common.{◌≡◌, Err, subst, sym}
 use Rattle.std.proofs.lemmas.Str.{is_utf8-from_IsUtf8}
-use Rattle.nm_yang.specs.Page.{Fails, bad}
-use Rattle.nm_yang.specs.Word.{text_at}
 use Rattle.nm_yang.proofs.Texts.{is_utf8-false}
 use Rattle.nm_yang.proofs.word.label_of.Goals as goal
 

@@ -1,4 +1,4 @@
-use Rattle.std.proofs.Common.{◌≡◌, ◌≤◌, ◌<◌, ◌+◌, ◌*◌, ℕ, length, Err}
+use Rattle.std.proofs.Common.{◌≡◌, ◌≤◌, length}
 use Rattle.nm_yang.specs.Word.{name_end}
 use Rattle.nm_yang.proofs.word.name_end.Given as goal
 

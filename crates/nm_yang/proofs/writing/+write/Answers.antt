@@ -1,5 +1,4 @@
-use Rattle.std.proofs.Common.{◌≡◌, ◌<◌, ◌++◌, ◌∷◌, [], length, sym, ap, ◌∙◌, arith, rules}
-use Rattle.std.proofs.lemmas.Bool.Decides.{nat_tests}
+use Rattle.std.proofs.Common.{◌≡◌, ◌<◌, ◌++◌, length, ◌∙◌, rules}
 use Rattle.std.specs.List.{flat_map}
 use Rattle.nm_yang.specs.Written.{written_argument, spaced}
 use Rattle.nm_yang.proofs.Writes.{written_empty, written_within}

@@ -1,4 +1,4 @@
-use Rattle.std.proofs.Common.{◌≡◌, ◌≤◌, ◌+◌, ◌*◌, ◌-◌, ℕ, length, take, drop, refl, ap, subst, sym, ◌∙◌, arith, length-take, length-drop}
+use Rattle.std.proofs.Common.{◌≡◌, ◌≤◌, ◌*◌, ℕ, take, refl, subst, ◌∙◌, arith, length-take, length-drop}
 use Rattle.nm_yang.specs.Page.{Page, column_from, column_of, place_of}
 use Rattle.nm_yang.proofs.Texts.{columns_over}
 use Rattle.nm_yang.proofs.reader.Reader.column.Goals as goal
@@ -7,23 +7,23 @@ use Rattle.nm_yang.proofs.reader.Reader.column.Goals.{then-self-place, else-self
 value : (c : goal.After-self-2-1) → c.columns-column.result ≡ column_from 0 (take c.saturating_sub-place.result c.self.inside.text.now)
 value c =
     elim c.if-self-place.branch [
-      then-self-place w ↦
-        let e = columns_over c.self.inside.text.now c.self.inside.marked c.saturating_sub-place.result c.self.inside.column (omega arith) c.self.invariant.2 in
-        c.columns-column.ensures.value ∙ rw w.from-is e
-    | else-self-place w ↦
-        let e = columns_over c.self.inside.text.now 0 c.saturating_sub-place.result 0 (omega arith) refl in
-        c.columns-column.ensures.value ∙ rw w.from-is e
+      | then-self-place w ↦
+          let e = columns_over c.self.inside.text.now c.self.inside.marked c.saturating_sub-place.result c.self.inside.column (omega arith) c.self.invariant.2 in
+          c.columns-column.ensures.value ∙ rw w.from-is e
+      | else-self-place w ↦
+          let e = columns_over c.self.inside.text.now 0 c.saturating_sub-place.result 0 (omega arith) refl in
+          c.columns-column.ensures.value ∙ rw w.from-is e
     ]
 
 near : (c : goal.After-self-2-1) → c.columns-column.result ≤ 8 * c.saturating_sub-place.result
 near c =
     elim c.if-self-place.branch [
-      then-self-place w ↦
-        let h = rw w.from-is at c.columns-column.ensures.near in
-        omega (arith, length-take {A = ℕ}, length-drop {A = ℕ})
-    | else-self-place w ↦
-        let h = rw w.from-is at c.columns-column.ensures.near in
-        omega (arith, length-take {A = ℕ}, length-drop {A = ℕ})
+      | then-self-place w ↦
+          let h = rw w.from-is at c.columns-column.ensures.near in
+          omega (arith, length-take {A = ℕ}, length-drop {A = ℕ})
+      | else-self-place w ↦
+          let h = rw w.from-is at c.columns-column.ensures.near in
+          omega (arith, length-take {A = ℕ}, length-drop {A = ℕ})
     ]
 
 pub invariant_of-self : goal.invariant_of-self
