@@ -24,11 +24,11 @@ pub and_false : (a b : Bool) → b ≡ false → (a && b) ≡ false
 and_false true b e = e
 and_false false b e = refl
 
-meaning-escape : (room left : ℕ) (loose tail : List ℕ) → begins_escape tail ≡ true → meaning room left false loose (92 ∷ tail) ≡ loose ++ meaning room 0 true [] tail
+pub meaning-escape : (room left : ℕ) (loose tail : List ℕ) → begins_escape tail ≡ true → meaning room left false loose (92 ∷ tail) ≡ loose ++ meaning room 0 true [] tail
 unfolding meaning
 meaning-escape room left loose tail h = rw (and_false (ltb 0 left) false refl, h) refl
 
-meaning-other : (room left b : ℕ) (loose tail : List ℕ) → eqb b 10 ≡ false → is_loose b ≡ false → (eqb b 92 && begins_escape tail) ≡ false → meaning room left false loose (b ∷ tail) ≡ loose ++ b ∷ meaning room 0 false [] tail
+pub meaning-other : (room left b : ℕ) (loose tail : List ℕ) → eqb b 10 ≡ false → is_loose b ≡ false → (eqb b 92 && begins_escape tail) ≡ false → meaning room left false loose (b ∷ tail) ≡ loose ++ b ∷ meaning room 0 false [] tail
 unfolding meaning
 meaning-other room left b loose tail line blank escape =
     let p = or_false (eqb b 32 || eqb b 9) (eqb b 13) blank in

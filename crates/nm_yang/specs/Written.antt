@@ -1,6 +1,7 @@
 -- The one text that is written of a statement: each argument in double quotes on one line.
-use Rattle.std.specs.Prelude.{ℕ, List, [], ◌∷◌, ◌++◌, ◌==◌, ◌||◌, Option, Some, None, if◌then◌else◌}
+use Rattle.std.specs.Prelude.{◌≡◌, zero, suc, Bool, true, ◌&&◌, ◌⊎◌, IfSome, IsUtf8, ℕ, List, [], ◌∷◌, ◌++◌, ◌==◌, ◌||◌, Option, Some, None, if◌then◌else◌}
 use Rattle.std.specs.List.{flat_map}
+use Rattle.nm_yang.specs.Byte.{is_start, is_name}
 use Rattle.nm_yang.specs.Tree.{Tree, Trees, statement, none, more}
 
 -- a byte between double quotes: line feed, tab, `"` and `\` by their escapes (RFC 7950 section 6.1.3)
@@ -28,3 +29,44 @@ unfoldable mutual
 -- a statement and a space
 abbrev pub spaced : Tree → List ℕ
 spaced t = written t ++ 32 ∷ []
+
+-- ---- what a module can have
+
+-- bytes that an identifier goes on with
+abbrev pub names : List ℕ → Bool
+names [] = true
+names (b ∷ bytes) = is_name b && names bytes
+
+-- an identifier (RFC 7950 section 6.2)
+abbrev pub IsIdentifier : List ℕ → Type 0
+IsIdentifier [] = ⊥
+IsIdentifier (b ∷ bytes) = (is_start b ≡ true) × (names bytes ≡ true)
+
+-- an identifier, or a prefix, a colon and an identifier (RFC 7950 section 6.3)
+abbrev pub IsKeyword : List ℕ → Type 0
+IsKeyword keyword = IsIdentifier keyword ⊎ ((prefix : List ℕ) × (name : List ℕ) × (keyword ≡ prefix ++ 58 ∷ name) × IsIdentifier prefix × IsIdentifier name)
+
+-- the keywords and arguments are those that a module can have, and at most so many braces are open at once
+abbrev mutual
+  pub CanHave : ℕ → Tree → Type 0
+  CanHave depth (statement keyword argument place below) = IsKeyword keyword × IsUtf8 keyword × IfSome argument IsUtf8 × CanHold depth below
+
+  pub CanHold : ℕ → Trees → Type 0
+  CanHold depth none = Unit {0}
+  CanHold zero (more t ts) = ⊥
+  CanHold (suc depth) (more t ts) = CanHave depth t × CanHoldEach depth ts
+
+  pub CanHoldEach : ℕ → Trees → Type 0
+  CanHoldEach depth none = Unit {0}
+  CanHoldEach depth (more t ts) = CanHave depth t × CanHoldEach depth ts
+
+-- the same keywords and arguments, wherever they stand
+abbrev mutual
+  pub SameWords : Tree → Tree → Type 0
+  SameWords (statement k a p ts) (statement l b q us) = (k ≡ l) × (a ≡ b) × SameWordsEach ts us
+
+  pub SameWordsEach : Trees → Trees → Type 0
+  SameWordsEach none none = Unit {0}
+  SameWordsEach none (more u us) = ⊥
+  SameWordsEach (more t ts) none = ⊥
+  SameWordsEach (more t ts) (more u us) = SameWords t u × SameWordsEach ts us
