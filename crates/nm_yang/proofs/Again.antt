@@ -12,7 +12,7 @@ use Rattle.nm_yang.specs.Written.{names, IsIdentifier, IsKeyword}
 pub front-append : (a b : List ℕ) → front (a ++ b) b ≡ a
 front-append a b = take_at a b (length (a ++ b) - length b) (omega (arith, length-append a b))
 
-and_true : (a b : Bool) → (a && b) ≡ true → (a ≡ true) × (b ≡ true)
+pub and_true : (a b : Bool) → (a && b) ≡ true → (a ≡ true) × (b ≡ true)
 and_true true b e = (refl, e)
 and_true false b e = absurd cc
 

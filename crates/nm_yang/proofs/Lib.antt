@@ -6,3 +6,5 @@ pub mod Writes
 pub mod Again
 pub mod Quoted
 pub mod Stated
+pub mod Utf8
+pub mod Whole

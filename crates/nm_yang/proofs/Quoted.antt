@@ -31,10 +31,10 @@ form_by b false false true s e f g h = quote (eqb-true b 34 g)
 form_by b false false false true e f g h = backslash (eqb-true b 92 h)
 form_by b false false false false e f g h = other e f g h
 
-form : (b : ℕ) → Form b
+pub form : (b : ℕ) → Form b
 form b = form_by b (eqb b 10) (eqb b 9) (eqb b 34) (eqb b 92) refl refl refl refl
 
-escape_of-other : (b : ℕ) → eqb b 10 ≡ false → eqb b 9 ≡ false → eqb b 34 ≡ false → eqb b 92 ≡ false → escape_of b ≡ b ∷ []
+pub escape_of-other : (b : ℕ) → eqb b 10 ≡ false → eqb b 9 ≡ false → eqb b 34 ≡ false → eqb b 92 ≡ false → escape_of b ≡ b ∷ []
 escape_of-other b e f g h = rw (e, f, g, h) refl
 
 end-escape : (page : Page) (opener x : ℕ) (rest : List ℕ) → is_escape x ≡ true → double_end page opener false (92 ∷ x ∷ rest) ≡ double_end page opener false rest

@@ -17,7 +17,7 @@ use Rattle.nm_yang.proofs.Again.{Parts, keyword-again}
 use Rattle.nm_yang.proofs.Quoted.{argument-again}
 
 -- what follows the argument, without the space before a brace
-abbrev opened : Trees → List ℕ → List ℕ
+abbrev pub opened : Trees → List ℕ → List ℕ
 opened none rest = 59 ∷ rest
 opened (more t ts) rest = 123 ∷ 32 ∷ ((written t ++ 32 ∷ (written_each ts ++ 125 ∷ [])) ++ rest)
 
@@ -44,7 +44,7 @@ skip-quote : (page : Page) (rest : List ℕ) → skip page plain (32 ∷ 34 ∷ 
 unfolding skip
 skip-quote page rest = refl
 
-after-again : (page : Page) (ending : Fault) (argument : Option (List ℕ)) (ts : Trees) (rest : List ℕ) → IfSome argument IsUtf8 → after_keyword page ending (written_argument argument ++ (written_end ts ++ rest)) ≡ Ok (argument, opened ts rest)
+pub after-again : (page : Page) (ending : Fault) (argument : Option (List ℕ)) (ts : Trees) (rest : List ℕ) → IfSome argument IsUtf8 → after_keyword page ending (written_argument argument ++ (written_end ts ++ rest)) ≡ Ok (argument, opened ts rest)
 unfolding after_keyword
 after-again page ending None ts rest h = rw (skip-end page ts rest, argument-none page ending ts rest) refl
 after-again page ending (Some a) ts rest h =
@@ -64,6 +64,10 @@ unfolding written_end
 label-at page ending k None none rest h = keyword-again page ending k 59 rest h semicolon
 label-at page ending k None (more t ts) rest h = keyword-again page ending k 32 _ h space
 label-at page ending k (Some a) ts rest h = keyword-again page ending k 32 _ h space
+
+pub label-again : (page : Page) (ending : Fault) (k : List ℕ) (argument : Option (List ℕ)) (ts : Trees) (rest : List ℕ) → IsKeyword k → IsUtf8 k → label_at page ending (k ++ (written_argument argument ++ (written_end ts ++ rest))) ≡ Ok (k, written_argument argument ++ (written_end ts ++ rest))
+unfolding label_at
+label-again page ending k argument ts rest h text = rw (label-at page ending k argument ts rest h, is_utf8-from_IsUtf8 k text) refl
 
 start-plain : (b : ℕ) → is_start b ≡ true → (is_white b ≡ false) × (eqb b 47 ≡ false) × (eqb b 125 ≡ false)
 start-plain b h = (grind (arith, nat_tests), grind (arith, nat_tests), grind (arith, nat_tests))
@@ -86,11 +90,11 @@ skip-keyword page k rest h =
         (rw e s.0, rw e s.1, l)
     ]
 
-written-parts : (k : List ℕ) (argument : Option (List ℕ)) (place : ℕ) (ts : Trees) (rest : List ℕ) → written (statement k argument place ts) ++ rest ≡ k ++ (written_argument argument ++ (written_end ts ++ rest))
+pub written-parts : (k : List ℕ) (argument : Option (List ℕ)) (place : ℕ) (ts : Trees) (rest : List ℕ) → written (statement k argument place ts) ++ rest ≡ k ++ (written_argument argument ++ (written_end ts ++ rest))
 unfolding written
 written-parts k argument place ts rest = append_assoc k (written_argument argument ++ written_end ts) rest ∙ ap (λ (l : List ℕ). k ++ l) (append_assoc (written_argument argument) (written_end ts) rest)
 
-skip-written : (page : Page) (d : ℕ) (t : Tree) (rest : List ℕ) → CanHave d t → (skip page plain (written t ++ rest) ≡ Ok (written t ++ rest)) × (begins (written t ++ rest) 125 ≡ false) × (0 < length (written t ++ rest))
+pub skip-written : (page : Page) (d : ℕ) (t : Tree) (rest : List ℕ) → CanHave d t → (skip page plain (written t ++ rest) ≡ Ok (written t ++ rest)) × (begins (written t ++ rest) 125 ≡ false) × (0 < length (written t ++ rest))
 skip-written page d (statement k argument place ts) rest h =
     let e = written-parts k argument place ts rest in
     let tail : List ℕ = written_argument argument ++ (written_end ts ++ rest) in
@@ -130,7 +134,7 @@ each-none read page ending zero rest lt = absurd (omega arith)
 each-none read page ending (suc n) rest lt = refl
 
 -- what is within a statement, given how its statements are read
-within-again : (ts : Trees) (d : ℕ) (page : Page) (ending : Fault) (rest : List ℕ) → CanHold d ts
+pub within-again : (ts : Trees) (d : ℕ) (page : Page) (ending : Fault) (rest : List ℕ) → CanHold d ts
     → ((e : ℕ) (fault : Fault) (n : ℕ) → CanHoldEach e ts → length (written_each ts ++ 125 ∷ rest) ≤ n → Reads e page (each_at (statement_at (inside e page) page fault) page fault n (written_each ts ++ 125 ∷ rest)) ts rest)
     → Reads d page (end_at (inside d page) page ending (opened ts rest)) ts rest
 unfolding end_at inside written_each
@@ -155,7 +159,7 @@ mutual
           rw (label-at page ending k argument ts rest h.0, is_utf8-from_IsUtf8 k h.1, after-again page ending argument ts rest h.2, w.is) refl in
       record { found = statement k argument (place_of page bytes) (trees_of w.found); is = ap (statement_at (inside d page) page ending) (written-parts k argument place ts rest) ∙ one; same = (refl, refl, w.same) }
 
-  each-again : (ts : Trees) (d : ℕ) (page : Page) (ending : Fault) (n : ℕ) (rest : List ℕ) → CanHoldEach d ts → length (written_each ts ++ 125 ∷ rest) ≤ n → Reads d page (each_at (statement_at (inside d page) page ending) page ending n (written_each ts ++ 125 ∷ rest)) ts rest
+  pub each-again : (ts : Trees) (d : ℕ) (page : Page) (ending : Fault) (n : ℕ) (rest : List ℕ) → CanHoldEach d ts → length (written_each ts ++ 125 ∷ rest) ≤ n → Reads d page (each_at (statement_at (inside d page) page ending) page ending n (written_each ts ++ 125 ∷ rest)) ts rest
   each-again none d page ending n rest h le = record { found = []; is = each-none (statement_at (inside d page) page ending) page ending n rest (omega arith); same = tt }
   each-again (more t ts) d page ending n rest h le =
       let after : List ℕ = 32 ∷ (written_each ts ++ 125 ∷ rest) in

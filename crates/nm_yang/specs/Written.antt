@@ -1,7 +1,8 @@
 -- The one text that is written of a statement: each argument in double quotes on one line.
-use Rattle.std.specs.Prelude.{◌≡◌, zero, suc, Bool, true, ◌&&◌, ◌⊎◌, IfSome, IsUtf8, ℕ, List, [], ◌∷◌, ◌++◌, ◌==◌, ◌||◌, Option, Some, None, if◌then◌else◌}
+use Rattle.std.specs.Prelude.{◌≡◌, zero, suc, Bool, true, ◌&&◌, ◌⊎◌, IfSome, IsUtf8, codes, Ok, ℕ, List, [], ◌∷◌, ◌++◌, ◌==◌, ◌||◌, Option, Some, None, if◌then◌else◌}
 use Rattle.std.specs.List.{flat_map}
 use Rattle.nm_yang.specs.Byte.{is_start, is_name}
+use Rattle.nm_yang.specs.Module.{reading}
 use Rattle.nm_yang.specs.Tree.{Tree, Trees, statement, none, more}
 
 -- a byte between double quotes: line feed, tab, `"` and `\` by their escapes (RFC 7950 section 6.1.3)
@@ -70,3 +71,13 @@ abbrev mutual
   SameWordsEach none (more u us) = ⊥
   SameWordsEach (more t ts) none = ⊥
   SameWordsEach (more t ts) (more u us) = SameWords t u × SameWordsEach ts us
+
+-- a module: its keyword is `module`, and at most 64 braces are open at once
+abbrev pub IsModule : Tree → Type 0
+IsModule (statement keyword argument place below) = (keyword ≡ codes "module") × CanHave 64 (statement keyword argument place below)
+
+-- a text is read as a statement with the same keywords and arguments
+pub record ReadsAs (text : List ℕ) (t : Tree) : Type 0 where
+  pub found : Tree
+  pub is : reading text ≡ Ok found
+  pub same : SameWords found t

@@ -1,6 +1,6 @@
 //! A statement as text.
 
-ghost use Rattle.std.specs.Prelude.{◌≡◌, ◌++◌, IfOk, OnOk, length, ◌≢◌, ◌<◌};
+ghost use Rattle.std.specs.Prelude.{◌≡◌, ◌++◌, IfOk, OnOk, length, ◌≤◌};
 ghost use Rattle.std.specs.List.{flat_map};
 ghost use Rattle.nm_yang.specs.Tree.{trees_of};
 ghost use Rattle.nm_yang.specs.Written as spec;
@@ -76,8 +76,13 @@ fn put_statement(out: &mut Vec<u8>, statement: &Statement) -> Result<(), NoMemor
 }
 
 /// Writes a statement as the text of a module, each argument in double quotes on one line.
+///
+/// What is written of a module whose keywords and arguments a module can have is read again as the same keywords
+/// and arguments, where it isn't longer than a text may be.
 pub fn write_module(alloc: Global, statement: &Statement) -> Result<Vec<u8>, NoMemory>
-    ensures { IfOk result (λ text. text.items ≡ spec.written statement.now) }
+    ensures written { IfOk result (λ text. text.items ≡ spec.written statement.now) }
+    ensures read_again { IfOk result (λ text. spec.IsModule statement.now → length text.items ≤ 262144
+        → spec.ReadsAs text.items statement.now) }
 {
     let mut out = Vec::new(alloc);
     put_statement(&mut out, statement)?;
