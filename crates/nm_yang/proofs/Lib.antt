@@ -8,3 +8,7 @@ pub mod Quoted
 pub mod Stated
 pub mod Utf8
 pub mod Whole
+pub mod Blanked
+pub mod Worded
+pub mod Strings
+pub mod Arguments

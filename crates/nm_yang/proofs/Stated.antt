@@ -53,17 +53,17 @@ after-again page ending (Some a) ts rest h =
     ap go e ∙ rw (skip-quote page (flat_map escape_of a ++ 34 ∷ (written_end ts ++ rest)), argument-again page ending a (written_end ts ++ rest) (opened ts rest) (skip-end page ts rest) (opened-plus ts rest) h) refl
 
 -- the byte after a keyword
-space : Parts 32
-space = record { name = refl; colon = refl; ending = refl }
+space : (rest : List ℕ) → Parts 32 rest
+space rest = record { name = refl; colon = refl; ending = refl }
 
-semicolon : Parts 59
-semicolon = record { name = refl; colon = refl; ending = refl }
+semicolon : (rest : List ℕ) → Parts 59 rest
+semicolon rest = record { name = refl; colon = refl; ending = refl }
 
 label-at : (page : Page) (ending : Fault) (k : List ℕ) (argument : Option (List ℕ)) (ts : Trees) (rest : List ℕ) → IsKeyword k → keyword_at page ending (k ++ (written_argument argument ++ (written_end ts ++ rest))) ≡ Ok (k, written_argument argument ++ (written_end ts ++ rest))
 unfolding written_end
-label-at page ending k None none rest h = keyword-again page ending k 59 rest h semicolon
-label-at page ending k None (more t ts) rest h = keyword-again page ending k 32 _ h space
-label-at page ending k (Some a) ts rest h = keyword-again page ending k 32 _ h space
+label-at page ending k None none rest h = keyword-again page ending k 59 rest h (semicolon rest)
+label-at page ending k None (more t ts) rest h = keyword-again page ending k 32 _ h (space _)
+label-at page ending k (Some a) ts rest h = keyword-again page ending k 32 _ h (space _)
 
 pub label-again : (page : Page) (ending : Fault) (k : List ℕ) (argument : Option (List ℕ)) (ts : Trees) (rest : List ℕ) → IsKeyword k → IsUtf8 k → label_at page ending (k ++ (written_argument argument ++ (written_end ts ++ rest))) ≡ Ok (k, written_argument argument ++ (written_end ts ++ rest))
 unfolding label_at

@@ -7,3 +7,4 @@ pub mod Quote
 pub mod Argument
 pub mod Module
 pub mod Written
+pub mod Grammar
