@@ -64,7 +64,7 @@ added-takes page ending text value rest e =
     let p = piece-takes page b.0 value rest (rw (← q.0) q.1) b.2 in
     record { next = a.0; before = blanks-takes page (drop 1 text) a.0 a.1; piece = rw q.0 p }
 
-begins-is : (text : List ℕ) (k : ℕ) → begins text k ≡ true → text ≡ k ∷ drop 1 text
+pub begins-is : (text : List ℕ) (k : ℕ) → begins text k ≡ true → text ≡ k ∷ drop 1 text
 begins-is [] k e = absurd cc
 begins-is (b ∷ text) k e = ap (λ (x : ℕ). x ∷ text) (eqb-true b k e)
 
@@ -206,14 +206,14 @@ quote-firm : (text : List ℕ) → begins_quote text ≡ true → Firm text
 quote-firm [] q = tt
 quote-firm (b ∷ text) q = quote-plain b text (eqb b 34) refl q
 
-length-blanks : (rest text : List ℕ) → Blanks rest text → length rest ≤ length text
+pub length-blanks : (rest text : List ℕ) → Blanks rest text → length rest ≤ length text
 length-blanks rest _ g.ended = omega arith
 length-blanks rest _ (g.white b text w h) = omega (arith, length-blanks rest text h)
 length-blanks rest _ (g.line comment text n h) = omega (arith, length-blanks rest text h, length-append comment (10 ∷ text))
 length-blanks rest _ (g.last_line comment n e) = rw e (omega arith)
 length-blanks rest _ (g.block comment text n h) = omega (arith, length-blanks rest text h, length-append comment (42 ∷ 47 ∷ text))
 
-length-string : (page : Page) (text value rest : List ℕ) → IsString page text value rest → length rest < length text
+pub length-string : (page : Page) (text value rest : List ℕ) → IsString page text value rest → length rest < length text
 length-string page text value rest (g.single e h) = let l = ap length e in omega (arith, l, length-append value (39 ∷ rest))
 length-string page text value rest (g.double raw e h v) = let l = ap length e in omega (arith, l, length-append raw (34 ∷ rest))
 
@@ -228,6 +228,15 @@ record First (page : Page) (ending : Fault) (text value rest : List ℕ) : Type 
   pub whole : value ≡ first ++ others
   pub short : length bytes < length text
   pub more : (n : ℕ) → length bytes ≤ n → more_at page ending n bytes ≡ Ok (others, rest)
+
+pub length-joined : (page : Page) (rest text value : List ℕ) → Joined page rest text value → length rest ≤ length text
+length-joined page rest text value (g.one _ _ after s b) = omega (arith, length-blanks rest after b, length-string page text value after s)
+length-joined page rest text _ (g.plus _ first after more_text next others s b d j) = omega (arith, length-joined page rest next others j, length-blanks next more_text d, length-blanks (43 ∷ more_text) after b, length-string page text first after s)
+
+pub length-argument : (page : Page) (text : List ℕ) (argument : Option (List ℕ)) (rest : List ℕ) → IsArgument page text argument rest → length rest ≤ length text
+length-argument page text argument rest (g.absent a e) = rw e (omega arith)
+length-argument page text argument rest (g.word b w after a u e i l) = let n = ap length e in omega (arith, n, length-append (b ∷ w) after, length-blanks rest after l)
+length-argument page text argument rest (g.quoted value a u j) = length-joined page rest text value j
 
 none-more : (page : Page) (ending : Fault) (n : ℕ) (rest : List ℕ) → begins rest 43 ≡ false → more_at page ending n rest ≡ Ok ([], rest)
 unfolding more_at

@@ -12,3 +12,4 @@ pub mod Blanked
 pub mod Worded
 pub mod Strings
 pub mod Arguments
+pub mod Spelt
