@@ -13,3 +13,4 @@ pub mod Worded
 pub mod Strings
 pub mod Arguments
 pub mod Spelt
+pub mod Modules

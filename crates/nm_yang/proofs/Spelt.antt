@@ -166,7 +166,7 @@ keyword-utf8 k h =
 start-plain : (b : ℕ) → is_start b ≡ true → (is_white b ≡ false) × (eqb b 47 ≡ false) × (eqb b 125 ≡ false)
 start-plain b h = (grind (arith, nat_tests), grind (arith, nat_tests), grind (arith, nat_tests))
 
-record Begun (text after : List ℕ) : Type 0 where
+pub record Begun (text after : List ℕ) : Type 0 where
   pub firm : Firm text
   pub open_ : begins text 125 ≡ false
   pub shorter : length after < length text
@@ -187,11 +187,11 @@ keyword-begun text k after h =
         rw e (record { firm = b.firm; open_ = b.open_; shorter = omega (arith, b.shorter, length-append i.1 after) })
     ]
 
-label-read : (page : Page) (ending : Fault) (text k after : List ℕ) → IsKeywordAt text k after → label_at page ending text ≡ Ok (k, after)
+pub label-read : (page : Page) (ending : Fault) (text k after : List ℕ) → IsKeywordAt text k after → label_at page ending text ≡ Ok (k, after)
 unfolding label_at
 label-read page ending text k after h = rw (keyword-read page ending text k after h, is_utf8-from_IsUtf8 k (keyword-utf8 k h.keyword_is)) refl
 
-after-read : (page : Page) (ending : Fault) (after start : List ℕ) (argument : Option (List ℕ)) (rest : List ℕ) → IsClosing rest → Blanks start after → IsArgument page start argument rest → after_keyword page ending after ≡ Ok (argument, rest)
+pub after-read : (page : Page) (ending : Fault) (after start : List ℕ) (argument : Option (List ℕ)) (rest : List ℕ) → IsClosing rest → Blanks start after → IsArgument page start argument rest → after_keyword page ending after ≡ Ok (argument, rest)
 unfolding after_keyword
 after-read page ending after start argument rest c b a =
     let r = argument-read page ending start argument rest c a in
@@ -221,7 +221,7 @@ alone-read : (depth : ℕ) (page : Page) (ending : Fault) (text k after start re
 unfolding statement_at end_at
 alone-read depth page ending text k after start rest argument key b a = rw (label-read page ending text k after key, after-read page ending after start argument (59 ∷ rest) (semicolon rest) b a) refl
 
-inside-read : (depth : ℕ) (page : Page) (within first rest : List ℕ) (found : List Tree) → skip page plain within ≡ Ok first → each_at (statement_at (inside depth page) page (open_brace page (123 ∷ within))) page (open_brace page (123 ∷ within)) (length first) first ≡ (found, Ok rest)
+pub inside-read : (depth : ℕ) (page : Page) (within first rest : List ℕ) (found : List Tree) → skip page plain within ≡ Ok first → each_at (statement_at (inside depth page) page (open_brace page (123 ∷ within))) page (open_brace page (123 ∷ within)) (length first) first ≡ (found, Ok rest)
     → inside (suc depth) page (123 ∷ within) ≡ (found, Ok rest)
 unfolding inside
 inside-read depth page within first rest found s e = rw s e
@@ -233,7 +233,7 @@ holding-read depth page ending text k after start within rest argument found key
 
 mutual
   -- what begins so, and that it takes bytes
-  spells-begun : (page : Page) (depth : ℕ) (text rest : List ℕ) (t : Tree) → Spells page depth text rest t → Begun text rest
+  pub spells-begun : (page : Page) (depth : ℕ) (text rest : List ℕ) (t : Tree) → Spells page depth text rest t → Begun text rest
   spells-begun page _ text rest _ (g.alone depth _ k after start _ argument key b a) =
       let w = keyword-begun text k after key in
       record { firm = w.firm; open_ = w.open_; shorter = omega (arith, w.shorter, length-blanks start after b, length-argument page start argument (59 ∷ rest) a) }
@@ -245,7 +245,7 @@ mutual
   each-length page _ _ rest _ (g.closed depth _) = omega arith
   each-length page _ text rest _ (g.another depth _ after next _ t ts s b e) = omega (arith, (spells-begun page depth text after t s).shorter, length-blanks next after b, each-length page depth next rest ts e)
 
-each-firm : (page : Page) (depth : ℕ) (text rest : List ℕ) (ts : Trees) → Each page depth text rest ts → Firm text
+pub each-firm : (page : Page) (depth : ℕ) (text rest : List ℕ) (ts : Trees) → Each page depth text rest ts → Firm text
 each-firm page _ _ rest _ (g.closed depth _) = (refl, refl)
 each-firm page _ text rest _ (g.another depth _ after next _ t ts s b e) = (spells-begun page depth text after t s).firm
 

@@ -16,7 +16,7 @@ use Rattle.nm_yang.specs.Written.{written, written_argument, written_end, CanHav
 use Rattle.nm_yang.proofs.Stated.{opened, skip-written, written-parts, label-again, after-again, within-again, each-again}
 use Rattle.nm_yang.proofs.Utf8.{written-utf8}
 
-abbrev whole : List ℕ → Bool → Page
+abbrev pub whole : List ℕ → Bool → Page
 whole text strict = record { text = text; stop = None; strict = strict }
 
 -- what is read of a module
@@ -68,7 +68,7 @@ stop-whole limit text false valid le is =
     let e : eqb limit (length text) ≡ true = grind (arith, nat_tests) in
     rw (valid, is, e) refl
 
-page-whole : (limit : ℕ) (text : List ℕ) (strict : Bool) → IsUtf8 text → length text ≤ limit → page_of limit strict text ≡ whole text strict
+pub page-whole : (limit : ℕ) (text : List ℕ) (strict : Bool) → IsUtf8 text → length text ≤ limit → page_of limit strict text ≡ whole text strict
 page-whole limit text strict h le =
     let v = utf8_valid_len-IsUtf8 text h in
     rw (front-whole limit text (ltb (length text) limit) (ltb limit (length text)) v le refl refl, stop-whole limit text (ltb (length text) limit) v le refl) refl

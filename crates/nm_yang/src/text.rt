@@ -1,8 +1,10 @@
 //! A whole text: where it is cut off, and which backslashes are faults.
 
-ghost use Rattle.std.specs.Prelude.{◌≡◌, ◌≤◌, ◌<◌, length, [], IfOk, take};
+ghost use Rattle.std.specs.Prelude.{◌≡◌, ◌≤◌, ◌<◌, length, [], IfOk, Ok, take};
 ghost use Rattle.std.specs.Str.Lossy.{utf8_valid_len};
 ghost use Rattle.nm_yang.specs.Page.{Page, Gives};
+ghost use Rattle.nm_yang.specs.Tree.{Tree};
+ghost use Rattle.nm_yang.specs.Grammar.{SpellsModule};
 ghost use Rattle.nm_yang.specs.Module as spec;
 
 use crate::fault::{Fault, YangFault, YangKind};
@@ -145,7 +147,7 @@ fn statement_of(attempt: Attempt) -> Result<Statement, YangFault>
 fn read_within(alloc: Global, text: &[u8], limit: usize) -> Result<Statement, YangFault>
     requires low { 0 < limit }
     requires high { limit ≤ 262144 }
-    ensures read { Gives (λ s. s) result (spec.reading_within limit text.now) }
+    ensures { Gives (λ s. s) result (spec.reading_within limit text.now) }
 {
     let (front, stop) = cut(text, limit);
     let lenient = read_once(alloc, front, stop, false)?;
@@ -159,10 +161,19 @@ fn read_within(alloc: Global, text: &[u8], limit: usize) -> Result<Statement, Ya
 
 /// Reads the text of a module (RFC 7950 section 6).
 ///
-/// Places are bytes from 0. The text may have 262,144 bytes, and 64 braces may be open at once.
+/// Places are bytes from 0. The text may have 262,144 bytes, and 64 braces may be open at once. The answer is the
+/// statement that the text spells, or the first fault that is met reading forward.
 #[tactic(auto, unfolding(crate::specs::Module::reading))]
 pub fn read_module(alloc: Global, text: &[u8]) -> Result<Statement, YangFault>
-    ensures read { Gives (λ s. s) result (spec.reading text.now) }
+    ensures spelt { IfOk result (λ statement. SpellsModule text.now statement) }
+
+    // What is spelt is read, unless memory runs out, and no text spells two statements.
+    ensures all { (statement : Tree) → SpellsModule text.now statement → Gives (λ s. s) result (Ok statement) }
+    ensures one { (statement : Tree) (other : Tree) → SpellsModule text.now statement → SpellsModule text.now other
+        → statement ≡ other }
+
+    // Which fault it is.
+    ensures exact { Gives (λ s. s) result (spec.reading text.now) }
 {
     read_within(alloc, text, LIMIT)
 }
