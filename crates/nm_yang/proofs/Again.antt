@@ -1,13 +1,13 @@
 -- What is written is read again.
-use Rattle.std.proofs.Common.{◌≡◌, ℕ, zero, suc, ◌-◌, ◌+◌, ◌≤◌, ◌<◌, Bool, true, false, eqb, List, [], ◌∷◌, ◌++◌, length, take, drop, Result, Ok, Err, refl, sym, ap, subst, ◌∙◌, append_assoc, inl, inr, arith, length-append}
+use Rattle.std.proofs.Common.{◌≡◌, ℕ, ◌-◌, Bool, true, false, eqb, List, [], ◌∷◌, ◌++◌, length, Ok, refl, ap, ◌∙◌, append_assoc, inl, inr, arith, length-append}
 use Rattle.std.specs.Prelude.{◌&&◌, ◌||◌}
 use Rattle.std.proofs.lemmas.List.{take_at}
 use Rattle.std.proofs.lemmas.Bool.Decides.{nat_tests}
 use Rattle.nm_yang.specs.declared.fault.Fault.{Fault}
-use Rattle.nm_yang.specs.Page.{Page, ◌>>=◌, front}
+use Rattle.nm_yang.specs.Page.{Page, front}
 use Rattle.nm_yang.specs.Byte.{is_start, is_name, is_mark, is_ending, begins_mark, opens_comment}
 use Rattle.nm_yang.specs.Word.{name_end, name_at, colon_at, parted, keyword_at}
-use Rattle.nm_yang.specs.Written.{names, IsIdentifier, IsKeyword}
+use Rattle.nm_yang.specs.Grammar.{names, IsIdentifier, IsKeyword}
 
 pub front-append : (a b : List ℕ) → front (a ++ b) b ≡ a
 front-append a b = take_at a b (length (a ++ b) - length b) (omega (arith, length-append a b))
@@ -56,6 +56,6 @@ prefixed-again page ending prefix name b rest h i p =
 pub keyword-again : (page : Page) (ending : Fault) (k : List ℕ) (b : ℕ) (rest : List ℕ) → IsKeyword k → Parts b rest → keyword_at page ending (k ++ b ∷ rest) ≡ Ok (k, b ∷ rest)
 keyword-again page ending k b rest h p =
     elim h [
-      inl i ↦ identifier-again page ending k b rest i p
-    | inr i ↦ rw i.2 (prefixed-again page ending i.0 i.1 b rest i.3 i.4 p)
+      | inl i ↦ identifier-again page ending k b rest i p
+      | inr i ↦ rw i.2 (prefixed-again page ending i.0 i.1 b rest i.3 i.4 p)
     ]

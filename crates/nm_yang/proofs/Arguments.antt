@@ -1,6 +1,6 @@
 -- Arguments: what is read is one, and one is read.
-use Rattle.std.proofs.Common.{◌≡◌, ℕ, zero, suc, ◌-◌, ◌+◌, ◌≤◌, ◌<◌, Bool, true, false, cond, eqb, List, [], ◌∷◌, ◌++◌, length, drop, Option, Some, None, Result, Ok, Err, refl, sym, ap, subst, ◌∙◌, append_assoc, inl, inr, arith, length-append}
-use Rattle.std.specs.Prelude.{◌&&◌, ◌||◌, ◌⊎◌, IsUtf8, IfSome}
+use Rattle.std.proofs.Common.{◌≡◌, ℕ, zero, suc, ◌≤◌, ◌<◌, Bool, true, false, cond, eqb, List, [], ◌∷◌, ◌++◌, length, drop, Option, Some, None, Result, Ok, Err, refl, sym, ap, subst, ◌∙◌, inl, inr, arith, length-append}
+use Rattle.std.specs.Prelude.{◌||◌, IsUtf8}
 use Rattle.std.specs.Str.{is_utf8}
 use Rattle.std.proofs.lemmas.Bool.{eqb-true}
 use Rattle.std.proofs.lemmas.List.{append-nil}
@@ -14,9 +14,8 @@ use Rattle.nm_yang.specs.Quote.{string_at}
 use Rattle.nm_yang.specs.Argument.{quote_at, piece_at, added_at, more_at, quoted_at, quoted_label, bare_label, argument_at}
 use Rattle.nm_yang.specs.Grammar as g
 use Rattle.nm_yang.specs.Grammar.{Blanks, IsString, Joined, IsArgument, IsWord, ends_word}
-use Rattle.nm_yang.proofs.Quotes.{or_false, and_false}
-use Rattle.nm_yang.proofs.Again.{and_true}
-use Rattle.nm_yang.proofs.Blanked.{Firm, blanks-takes, blanks-again, blanks-firm}
+use Rattle.nm_yang.proofs.Quotes.{or_false}
+use Rattle.nm_yang.proofs.Blanked.{Firm, blanks-takes, blanks-again}
 use Rattle.nm_yang.proofs.Worded.{bind_ok, ok_same, chosen, guard_true, guard_false, bare-takes, bare-read}
 use Rattle.nm_yang.proofs.Strings.{string-takes, string-read}
 
@@ -84,19 +83,19 @@ more-takes page ending zero text after value first bytes rest s b e =
     subst (λ (x : List ℕ). Joined page rest text x) (sym (append-nil first) ∙ ap (λ (x : List ℕ). first ++ x) v) (g.one text first after s (subst (λ (x : List ℕ). Blanks x after) r b))
 more-takes page ending (suc n) text after value first bytes rest s b e =
     elim (chosen (begins bytes 43) (added_at page ending bytes >>= λ t. with_front t.0 (more_at page ending n t.1)) (Ok ([], bytes)) (Ok (value, rest)) e) [
-      inl c ↦
-        let a = bind_ok (added_at page ending bytes) (λ t. with_front t.0 (more_at page ending n t.1)) (value, rest) c.1 in
-        let d = added-takes page ending bytes a.0.0 a.0.1 a.1 in
-        let f = with_front-ok a.0.0 (more_at page ending n a.0.1) value rest a.2 in
-        let m = more-takes page ending n d.next d.piece.after f.0 a.0.0 a.0.1 rest d.piece.string d.piece.blanks f.1 in
-        let p = begins-is bytes 43 c.0 in
-        let j = g.plus text first after (drop 1 bytes) d.next (a.0.0 ++ f.0) s (subst (λ (x : List ℕ). Blanks x after) p b) d.before m in
-        subst (λ (x : List ℕ). Joined page rest text (first ++ x)) (sym f.2) j
-    | inr c ↦
-        let last = ok_same ([], bytes) (value, rest) c.1 in
-        let v : [] ≡ value = ap (λ (x : List ℕ × List ℕ). x.0) last in
-        let r : bytes ≡ rest = ap (λ (x : List ℕ × List ℕ). x.1) last in
-        subst (λ (x : List ℕ). Joined page rest text x) (sym (append-nil first) ∙ ap (λ (x : List ℕ). first ++ x) v) (g.one text first after s (subst (λ (x : List ℕ). Blanks x after) r b))
+      | inl c ↦
+          let a = bind_ok (added_at page ending bytes) (λ t. with_front t.0 (more_at page ending n t.1)) (value, rest) c.1 in
+          let d = added-takes page ending bytes a.0.0 a.0.1 a.1 in
+          let f = with_front-ok a.0.0 (more_at page ending n a.0.1) value rest a.2 in
+          let m = more-takes page ending n d.next d.piece.after f.0 a.0.0 a.0.1 rest d.piece.string d.piece.blanks f.1 in
+          let p = begins-is bytes 43 c.0 in
+          let j = g.plus text first after (drop 1 bytes) d.next (a.0.0 ++ f.0) s (subst (λ (x : List ℕ). Blanks x after) p b) d.before m in
+          subst (λ (x : List ℕ). Joined page rest text (first ++ x)) (sym f.2) j
+      | inr c ↦
+          let last = ok_same ([], bytes) (value, rest) c.1 in
+          let v : [] ≡ value = ap (λ (x : List ℕ × List ℕ). x.0) last in
+          let r : bytes ≡ rest = ap (λ (x : List ℕ × List ℕ). x.1) last in
+          subst (λ (x : List ℕ). Joined page rest text x) (sym (append-nil first) ∙ ap (λ (x : List ℕ). first ++ x) v) (g.one text first after s (subst (λ (x : List ℕ). Blanks x after) r b))
     ]
 
 quoted-takes : (page : Page) (ending : Fault) (text value rest : List ℕ) → begins_quote text ≡ true → quoted_at page ending text ≡ Ok (value, rest) → Joined page rest text value
@@ -130,7 +129,6 @@ quoted_label-takes page ending text value rest q e =
     let v : a.0.0 ≡ value = t.0 ∙ ap (λ (x : List ℕ × List ℕ). x.0) last in
     let r : a.0.1 ≡ rest = ap (λ (x : List ℕ × List ℕ). x.1) last in
     (subst (λ (x : List ℕ × List ℕ). Joined page x.1 text x.0) (ap (λ (x : List ℕ). (x, a.0.1)) v ∙ ap (λ (x : List ℕ). (value, x)) r) (quoted-takes page ending text a.0.0 a.0.1 q a.1), subst IsUtf8 (ap (λ (x : List ℕ × List ℕ). x.0) last) t.1)
-
 
 no_word : (b : ℕ) (bytes : List ℕ) → (eqb b 59 || eqb b 123) ≡ false → eqb b 125 ≡ false → is_quote b ≡ false → is_white b ≡ false → opens_comment b bytes ≡ false → (is_ending b || opens_comment b bytes) ≡ false
 no_word b bytes m n q w o =
@@ -172,12 +170,12 @@ unfolding argument_at
 argument-takes page ending [] argument rest f e = absurd cc
 argument-takes page ending (b ∷ bytes) argument rest f e =
     elim (chosen (eqb b 59 || eqb b 123) (Ok (None, b ∷ bytes)) _ (Ok (argument, rest)) e) [
-      inl c ↦
-        let last = ok_same (None, b ∷ bytes) (argument, rest) c.1 in
-        g.absent (sym (ap (λ (x : Option (List ℕ) × List ℕ). x.0) last)) (ap (λ (x : Option (List ℕ) × List ℕ). x.1) last)
-    | inr c ↦
-        let d = guard_false (eqb b 125) _ (cond (is_quote b) (quoted_label page ending (b ∷ bytes)) (bare_label page (b ∷ bytes)) >>= some_of) (argument, rest) c.1 in
-        argument-by page ending b bytes argument rest (is_quote b) refl c.0 d.0 f d.1
+      | inl c ↦
+          let last = ok_same (None, b ∷ bytes) (argument, rest) c.1 in
+          g.absent (sym (ap (λ (x : Option (List ℕ) × List ℕ). x.0) last)) (ap (λ (x : Option (List ℕ) × List ℕ). x.1) last)
+      | inr c ↦
+          let d = guard_false (eqb b 125) _ (cond (is_quote b) (quoted_label page ending (b ∷ bytes)) (bare_label page (b ∷ bytes)) >>= some_of) (argument, rest) c.1 in
+          argument-by page ending b bytes argument rest (is_quote b) refl c.0 d.0 f d.1
     ]
 
 -- ---- and back
@@ -264,8 +262,17 @@ first-of page ending rest text _ c (g.plus _ first after more_text next others s
     let f = first-of page ending rest next others c j in
     let q = (string-read page next f.first f.after f.string).1 in
     let n = blanks-again page next more_text d (quote-firm next q) in
-    record { first = first; after = after; bytes = 43 ∷ more_text; others = others; string = s; blanks = blanks-again page (43 ∷ more_text) after b (refl, refl); whole = refl; short = omega (arith, length-blanks (43 ∷ more_text) after b, length-string page text first after s);
-      more = λ k le. plus-more page ending k more_text next others rest f n (length-blanks next more_text d) le }
+    record {
+      first = first;
+      after = after;
+      bytes = 43 ∷ more_text;
+      others = others;
+      string = s;
+      blanks = blanks-again page (43 ∷ more_text) after b (refl, refl);
+      whole = refl;
+      short = omega (arith, length-blanks (43 ∷ more_text) after b, length-string page text first after s);
+      more = λ k le. plus-more page ending k more_text next others rest f n (length-blanks next more_text d) le;
+    }
 
 quoted-read : (page : Page) (ending : Fault) (text value rest : List ℕ) → IsClosing rest → Joined page rest text value → (quoted_at page ending text ≡ Ok (value, rest)) × (begins_quote text ≡ true)
 unfolding quoted_at piece_at

@@ -1,10 +1,10 @@
 -- White space and comments: what is skipped are blanks, and blanks are skipped.
-use Rattle.std.proofs.Common.{◌≡◌, ℕ, Bool, true, false, cond, eqb, List, [], ◌∷◌, ◌++◌, Result, Ok, Err, refl, sym, ap, subst, ◌∙◌, inl, inr}
+use Rattle.std.proofs.Common.{◌≡◌, ℕ, Bool, true, false, cond, eqb, List, [], ◌∷◌, ◌++◌, Result, Ok, refl, sym, ap, subst, ◌∙◌, inl, inr}
 use Rattle.std.specs.Prelude.{◌&&◌, ◌||◌, ◌⊎◌}
 use Rattle.std.proofs.lemmas.Bool.{eqb-true}
 use Rattle.nm_yang.specs.declared.fault.Fault.{Fault}
 use Rattle.nm_yang.specs.Page.{Page, place_of}
-use Rattle.nm_yang.specs.Byte.{is_white, begins, opens_comment, closes_comment}
+use Rattle.nm_yang.specs.Byte.{is_white, begins, opens_comment}
 use Rattle.nm_yang.specs.Blank.{Mode, plain, line, star, block, skip}
 use Rattle.nm_yang.specs.Grammar as g
 use Rattle.nm_yang.specs.Grammar.{Blanks, has, has_close}
@@ -108,8 +108,8 @@ ok_is x y e = cc
 with_line : (b : ℕ) (rest text : List ℕ) → eqb b 10 ≡ false → InMode line rest text → InMode line rest (b ∷ text)
 with_line b rest text off h =
     elim h [
-      inl l ↦ inl (record { comment = b ∷ l.comment; after = l.after; parts = ap (λ (t : List ℕ). b ∷ t) l.parts; one = rw (off, l.one) refl; blanks = l.blanks })
-    | inr l ↦ inr (record { one = rw (off, l.one) refl; rest_is = l.rest_is })
+      | inl l ↦ inl (record { comment = b ∷ l.comment; after = l.after; parts = ap (λ (t : List ℕ). b ∷ t) l.parts; one = rw (off, l.one) refl; blanks = l.blanks })
+      | inr l ↦ inr (record { one = rw (off, l.one) refl; rest_is = l.rest_is })
     ]
 
 -- a `*` before a comment's text that does not begin with `/`
@@ -158,10 +158,10 @@ line-blanks b rest text is second h =
     let s = begins-cons text 47 second in
     let e : b ∷ text ≡ 47 ∷ 47 ∷ s.0 = ap (λ (x : ℕ). x ∷ text) (eqb-true b 47 is) ∙ ap (λ (t : List ℕ). 47 ∷ t) s.1 in
     elim h [
-      inl l ↦ inl-line b rest text s.0 e l
-    | inr l ↦
-        let n : has 10 (47 ∷ s.0) ≡ false = rw s.1 at l.one in
-        rw e (g.last_line s.0 n l.rest_is)
+      | inl l ↦ inl-line b rest text s.0 e l
+      | inr l ↦
+          let n : has 10 (47 ∷ s.0) ≡ false = rw s.1 at l.one in
+          rw e (g.last_line s.0 n l.rest_is)
     ]
 
 line-by : (page : Page) (b : ℕ) (rest text : List ℕ) (ends : Bool) → eqb b 10 ≡ ends → cond ends (skip page plain text) (skip page line text) ≡ Ok rest

@@ -1,27 +1,25 @@
 -- Whole texts: a module is read just where the text spells one.
-use Rattle.std.proofs.Common.{◌≡◌, ℕ, zero, suc, ◌-◌, ◌≤◌, ◌<◌, Bool, true, false, not, cond, eqb, ltb, List, [], ◌∷◌, ◌++◌, length, take, drop, Option, Some, None, Result, Ok, Err, refl, sym, ap, subst, ◌∙◌, arith}
-use Rattle.std.specs.Prelude.{◌&&◌, ◌||◌, IsUtf8, IfOk, codes}
-use Rattle.std.specs.Bool.{Decides}
+use Rattle.std.proofs.Common.{◌≡◌, ℕ, zero, suc, ◌≤◌, Bool, true, false, not, cond, eqb, ltb, List, [], ◌∷◌, length, take, Option, Some, None, Result, Ok, Err, refl, sym, ap, subst, ◌∙◌, arith}
+use Rattle.std.specs.Prelude.{◌||◌, IsUtf8, IfOk, codes}
 use Rattle.std.specs.Str.{bytes_eq, is_utf8}
 use Rattle.std.specs.Str.Lossy.{utf8_valid_len, valid_len_up_to}
 use Rattle.std.proofs.lemmas.List.{take_all}
 use Rattle.std.proofs.lemmas.Bool.{eqb-true, ltb-true, ltb-false}
-use Rattle.std.proofs.lemmas.Bool.Decides.{nat_tests}
 use Rattle.std.proofs.lemmas.Slice.Eq.{bytes_eq-Decides}
 use Rattle.std.proofs.lemmas.Str.{IsUtf8-from_is_utf8, IsUtf8-nil, utf8_valid_len_le}
 use Rattle.nm_yang.specs.declared.fault.Fault.{Fault}
 use Rattle.nm_yang.specs.declared.fault.YangFault.{YangFault}
-use Rattle.nm_yang.specs.Tree.{Tree, Trees, statement, none, more, trees_of}
+use Rattle.nm_yang.specs.Tree.{Tree, Trees, statement, trees_of}
 use Rattle.nm_yang.specs.Page.{Page, ◌>>=◌, place_of, column_of, bad, Gives}
 use Rattle.nm_yang.specs.Blank.{skip, plain}
 use Rattle.nm_yang.specs.Quote.{is_escape}
-use Rattle.nm_yang.specs.Module.{Run, Found, Heading, says_1_1, any_says_1_1, begin_at, heading_at, body_at, closed_at, finish_at, done_at, module_at, not_module, front_len, stop_of, page_of, reading, reading_within, most_deep, most_long, statement_at, inside, label_at, after_keyword, end_at, with_heading, open_brace}
+use Rattle.nm_yang.specs.Module.{Run, Found, Heading, says_1_1, any_says_1_1, begin_at, heading_at, body_at, closed_at, finish_at, done_at, module_at, not_module, stop_of, page_of, reading, reading_within, most_deep, most_long, inside, label_at, after_keyword, end_at, with_heading, open_brace}
 use Rattle.nm_yang.specs.Grammar as g
 use Rattle.nm_yang.specs.Grammar.{Blanks, IsString, Joined, IsArgument, IsKeywordAt, Spells, Each, SpellsWith, SpellsModule, is_raw, keyword_of, below_of, any_of_says_1_1}
 use Rattle.nm_yang.proofs.Again.{and_true}
-use Rattle.nm_yang.proofs.Blanked.{Firm, blanks-takes, blanks-again}
-use Rattle.nm_yang.proofs.Worded.{bind_ok, ok_same, chosen, guard_true}
-use Rattle.nm_yang.proofs.Spelt.{label-takes, after-takes, end-takes, inside-takes, spells-by, spells-read, each-read, label-read, after-read, inside-read, spells-begun, each-firm}
+use Rattle.nm_yang.proofs.Blanked.{blanks-takes, blanks-again}
+use Rattle.nm_yang.proofs.Worded.{bind_ok, ok_same, guard_true}
+use Rattle.nm_yang.proofs.Spelt.{label-takes, after-takes, end-takes, inside-takes, spells-by, each-read, label-read, after-read, inside-read, spells-begun, each-firm}
 use Rattle.nm_yang.proofs.Arguments.{semicolon, brace}
 use Rattle.nm_yang.proofs.Whole.{whole, page-whole}
 
@@ -90,12 +88,14 @@ module-takes page t e =
     let one = spells-by most_deep page s.0 h.keyword k.0 c.0 h.argument h.rest (body_at page h).0 k.1 (after-takes page (not_module page) k.0 h.argument h.rest k.3) ends in
     let place : statement h.keyword h.argument (place_of page s.0) (trees_of (body_at page h).0) ≡ t = ap (λ (p : ℕ). statement h.keyword h.argument p (trees_of (body_at page h).0)) (sym k.4) ∙ c.4 in
     record {
-      start = s.0; after = c.0; before = blanks-takes page page.text s.0 s.1;
+      start = s.0;
+      after = c.0;
+      before = blanks-takes page page.text s.0 s.1;
       spells = subst (λ (x : Tree). Spells page most_deep s.0 c.0 x) place one;
       behind = c.2;
       keyword = sym (ap keyword_of place) ∙ k.2;
       below = ap (λ (f : Found). trees_of f.0) w.3 ∙ ap below_of place;
-      stop = c.3
+      stop = c.3;
     }
 
 -- ---- what is spelt is read
@@ -127,8 +127,17 @@ body-of _ page text rest _ (g.holding depth _ k after start within first _ argum
     let fault : Fault = open_brace page (123 ∷ within) in
     let r = each-read page depth first rest below_ e fault (length first) (omega arith) in
     let s = blanks-again page first within c (each-firm page depth first rest below_ e) in
-    record { keyword = k; after = after; argument = argument; bytes = 123 ∷ within; found = r.found; key = key; argued = λ ending. after-read page ending after start argument (123 ∷ within) (brace within) b a;
-      ends = λ ending. brace-ends (suc depth) page ending within ∙ inside-read depth page within first rest r.found s r.is; is = ap (λ (ts : Trees). statement k argument (place_of page text) ts) r.same }
+    record {
+      keyword = k;
+      after = after;
+      argument = argument;
+      bytes = 123 ∷ within;
+      found = r.found;
+      key = key;
+      argued = λ ending. after-read page ending after start argument (123 ∷ within) (brace within) b a;
+      ends = λ ending. brace-ends (suc depth) page ending within ∙ inside-read depth page within first rest r.found s r.is;
+      is = ap (λ (ts : Trees). statement k argument (place_of page text) ts) r.same;
+    }
 
 heading-read : (page : Page) (start after : List ℕ) (k : List ℕ) (argument : Option (List ℕ)) (rest : List ℕ) → IsKeywordAt start k after → k ≡ codes "module" → after_keyword page (not_module page) after ≡ Ok (argument, rest)
     → heading_at page start ≡ Ok (record { keyword = k; argument = argument; place = place_of page start; rest = rest })

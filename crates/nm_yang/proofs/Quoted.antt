@@ -1,19 +1,19 @@
 -- An argument that is written in double quotes is read again.
-use Rattle.std.proofs.Common.{◌≡◌, ℕ, zero, suc, ◌+◌, Bool, true, false, eqb, List, [], ◌∷◌, ◌++◌, length, drop, Option, Some, None, Result, Ok, refl, sym, ap, subst, ◌∙◌, append_assoc, arith}
-use Rattle.std.specs.Prelude.{◌&&◌, ◌||◌, IsUtf8, IfSome}
+use Rattle.std.proofs.Common.{◌≡◌, ℕ, zero, suc, Bool, true, false, eqb, List, [], ◌∷◌, ◌++◌, length, Some, Ok, refl, sym, ap, ◌∙◌, append_assoc}
+use Rattle.std.specs.Prelude.{IsUtf8}
 use Rattle.std.specs.List.{flat_map}
 use Rattle.std.proofs.lemmas.List.{append-nil}
 use Rattle.std.proofs.lemmas.List.Concat.{flat_map-cons}
 use Rattle.std.proofs.lemmas.Bool.{eqb-true}
 use Rattle.std.proofs.lemmas.Str.{is_utf8-from_IsUtf8}
 use Rattle.nm_yang.specs.declared.fault.Fault.{Fault}
-use Rattle.nm_yang.specs.Page.{Page, ◌>>=◌, front, column_of}
+use Rattle.nm_yang.specs.Page.{Page}
 use Rattle.nm_yang.specs.Byte.{begins}
 use Rattle.nm_yang.specs.Blank.{skip, plain}
 use Rattle.nm_yang.specs.Quote.{double_end, meaning, string_at, is_escape, is_loose, escaped}
 use Rattle.nm_yang.specs.Argument.{piece_at, more_at, quoted_at, quoted_label, argument_at}
 use Rattle.nm_yang.specs.Written.{escape_of}
-use Rattle.nm_yang.proofs.Quotes.{or_false, and_false, meaning-escape, meaning-other}
+use Rattle.nm_yang.proofs.Quotes.{and_false, meaning-escape, meaning-other}
 use Rattle.nm_yang.proofs.Again.{front-append}
 
 -- which of its five forms a byte is written in
@@ -45,11 +45,11 @@ end-one : (page : Page) (opener b : ℕ) (rest : List ℕ) → double_end page o
 unfolding double_end
 end-one page opener b rest =
     elim (form b) [
-      line e ↦ rw e (end-escape page opener 110 rest refl)
-    | tab e ↦ rw e (end-escape page opener 116 rest refl)
-    | quote e ↦ rw e (end-escape page opener 34 rest refl)
-    | backslash e ↦ rw e (end-escape page opener 92 rest refl)
-    | other e f g h ↦ rw (escape_of-other b e f g h, g, h) refl
+      | line e ↦ rw e (end-escape page opener 110 rest refl)
+      | tab e ↦ rw e (end-escape page opener 116 rest refl)
+      | quote e ↦ rw e (end-escape page opener 34 rest refl)
+      | backslash e ↦ rw e (end-escape page opener 92 rest refl)
+      | other e f g h ↦ rw (escape_of-other b e f g h, g, h) refl
     ]
 
 end-again : (page : Page) (opener : ℕ) (a rest : List ℕ) → double_end page opener false (flat_map escape_of a ++ 34 ∷ rest) ≡ Ok (34 ∷ rest)
@@ -74,11 +74,11 @@ meaning-blank room b loose rest false is lf slash total h i =
 meaning-one : (room b : ℕ) (loose rest total : List ℕ) → ((l : List ℕ) → meaning room 0 false l rest ≡ l ++ total) → meaning room 0 false loose (escape_of b ++ rest) ≡ loose ++ b ∷ total
 meaning-one room b loose rest total h =
     elim (form b) [
-      line e ↦ rw e (meaning-letter room 110 loose rest refl ∙ ap (λ (l : List ℕ). loose ++ 10 ∷ l) (h []))
-    | tab e ↦ rw e (meaning-letter room 116 loose rest refl ∙ ap (λ (l : List ℕ). loose ++ 9 ∷ l) (h []))
-    | quote e ↦ rw e (meaning-letter room 34 loose rest refl ∙ ap (λ (l : List ℕ). loose ++ 34 ∷ l) (h []))
-    | backslash e ↦ rw e (meaning-letter room 92 loose rest refl ∙ ap (λ (l : List ℕ). loose ++ 92 ∷ l) (h []))
-    | other e f g s ↦ rw (escape_of-other b e f g s) (meaning-blank room b loose rest (is_loose b) refl e s total (h (loose ++ b ∷ [])) (h []))
+      | line e ↦ rw e (meaning-letter room 110 loose rest refl ∙ ap (λ (l : List ℕ). loose ++ 10 ∷ l) (h []))
+      | tab e ↦ rw e (meaning-letter room 116 loose rest refl ∙ ap (λ (l : List ℕ). loose ++ 9 ∷ l) (h []))
+      | quote e ↦ rw e (meaning-letter room 34 loose rest refl ∙ ap (λ (l : List ℕ). loose ++ 34 ∷ l) (h []))
+      | backslash e ↦ rw e (meaning-letter room 92 loose rest refl ∙ ap (λ (l : List ℕ). loose ++ 92 ∷ l) (h []))
+      | other e f g s ↦ rw (escape_of-other b e f g s) (meaning-blank room b loose rest (is_loose b) refl e s total (h (loose ++ b ∷ [])) (h []))
     ]
 
 meaning-again : (room : ℕ) (a loose : List ℕ) → meaning room 0 false loose (flat_map escape_of a) ≡ loose ++ a

@@ -1,23 +1,23 @@
 -- Statements: what is read is spelt, and what is spelt is read.
-use Rattle.std.proofs.Common.{◌≡◌, ℕ, zero, suc, ◌-◌, ◌+◌, ◌≤◌, ◌<◌, Bool, true, false, cond, eqb, List, [], ◌∷◌, ◌++◌, length, drop, get_or, Option, Some, None, Result, Ok, Err, refl, sym, ap, subst, ◌∙◌, append_assoc, inl, inr, arith, length-append}
-use Rattle.std.specs.Prelude.{◌&&◌, ◌||◌, ◌⊎◌, IsUtf8}
+use Rattle.std.proofs.Common.{◌≡◌, ℕ, zero, suc, ◌-◌, ◌≤◌, ◌<◌, Bool, true, false, cond, eqb, List, [], ◌∷◌, ◌++◌, length, drop, get_or, Option, Result, Ok, Err, refl, sym, ap, subst, ◌∙◌, append_assoc, inl, inr, arith, length-append}
+use Rattle.std.specs.Prelude.{IsUtf8}
 use Rattle.std.proofs.lemmas.Bool.{eqb-true}
 use Rattle.std.proofs.lemmas.Bool.Decides.{nat_tests}
 use Rattle.std.proofs.lemmas.Str.{is_utf8-from_IsUtf8, IsUtf8-from_ascii, IsUtf8-append, IsUtf8-nil}
 use Rattle.nm_yang.specs.declared.fault.Fault.{Fault}
 use Rattle.nm_yang.specs.Tree.{Tree, Trees, statement, none, more, trees_of}
 use Rattle.nm_yang.specs.Page.{Page, ◌>>=◌, place_of, bad}
-use Rattle.nm_yang.specs.Byte.{begins, is_start, is_name, is_white, opens_comment}
+use Rattle.nm_yang.specs.Byte.{begins, is_start, is_name, is_white}
 use Rattle.nm_yang.specs.Blank.{skip, plain}
 use Rattle.nm_yang.specs.Word.{keyword_at, text_at}
 use Rattle.nm_yang.specs.Argument.{argument_at}
 use Rattle.nm_yang.specs.Module.{Run, failed, label_at, after_keyword, end_at, statement_at, each_at, inside, open_brace, cons_run, then_run}
-use Rattle.nm_yang.specs.Written.{names, IsIdentifier, IsKeyword}
+use Rattle.nm_yang.specs.Grammar.{names, IsIdentifier, IsKeyword}
 use Rattle.nm_yang.specs.Grammar as g
 use Rattle.nm_yang.specs.Grammar.{Blanks, IsString, Joined, IsArgument, IsKeywordAt, Spells, Each}
 use Rattle.nm_yang.proofs.Again.{and_true}
 use Rattle.nm_yang.proofs.Blanked.{Firm, blanks-takes, blanks-again, blanks-firm}
-use Rattle.nm_yang.proofs.Worded.{bind_ok, ok_same, chosen, guard_false, guard_true, keyword-takes, keyword-read}
+use Rattle.nm_yang.proofs.Worded.{bind_ok, ok_same, keyword-takes, keyword-read}
 use Rattle.nm_yang.proofs.Arguments.{text_at-takes, argument-takes, argument-read, IsClosing, semicolon, brace, length-blanks, length-argument, begins-is}
 
 pub label-takes : (page : Page) (ending : Fault) (text k after : List ℕ) → label_at page ending text ≡ Ok (k, after) → IsKeywordAt text k after
@@ -159,8 +159,8 @@ identifier-utf8 (b ∷ k) h = IsUtf8-append (b ∷ []) k (IsUtf8-from_ascii (b �
 keyword-utf8 : (k : List ℕ) → IsKeyword k → IsUtf8 k
 keyword-utf8 k h =
     elim h [
-      inl i ↦ identifier-utf8 k i
-    | inr i ↦ rw i.2 (IsUtf8-append i.0 (58 ∷ i.1) (identifier-utf8 i.0 i.3) (IsUtf8-append (58 ∷ []) i.1 (IsUtf8-from_ascii (58 ∷ []) (λ j. below 58 j (omega arith))) (identifier-utf8 i.1 i.4)))
+      | inl i ↦ identifier-utf8 k i
+      | inr i ↦ rw i.2 (IsUtf8-append i.0 (58 ∷ i.1) (identifier-utf8 i.0 i.3) (IsUtf8-append (58 ∷ []) i.1 (IsUtf8-from_ascii (58 ∷ []) (λ j. below 58 j (omega arith))) (identifier-utf8 i.1 i.4)))
     ]
 
 start-plain : (b : ℕ) → is_start b ≡ true → (is_white b ≡ false) × (eqb b 47 ≡ false) × (eqb b 125 ≡ false)
@@ -180,11 +180,11 @@ identifier-begun (b ∷ k) after h =
 keyword-begun : (text k after : List ℕ) → IsKeywordAt text k after → Begun text after
 keyword-begun text k after h =
     elim h.keyword_is [
-      inl i ↦ rw h.parts (identifier-begun k after i)
-    | inr i ↦
-        let e : text ≡ i.0 ++ 58 ∷ (i.1 ++ after) = h.parts ∙ ap (λ (l : List ℕ). l ++ after) i.2 ∙ append_assoc i.0 (58 ∷ i.1) after in
-        let b = identifier-begun i.0 (58 ∷ (i.1 ++ after)) i.3 in
-        rw e (record { firm = b.firm; open_ = b.open_; shorter = omega (arith, b.shorter, length-append i.1 after) })
+      | inl i ↦ rw h.parts (identifier-begun k after i)
+      | inr i ↦
+          let e : text ≡ i.0 ++ 58 ∷ (i.1 ++ after) = h.parts ∙ ap (λ (l : List ℕ). l ++ after) i.2 ∙ append_assoc i.0 (58 ∷ i.1) after in
+          let b = identifier-begun i.0 (58 ∷ (i.1 ++ after)) i.3 in
+          rw e (record { firm = b.firm; open_ = b.open_; shorter = omega (arith, b.shorter, length-append i.1 after) })
     ]
 
 pub label-read : (page : Page) (ending : Fault) (text k after : List ℕ) → IsKeywordAt text k after → label_at page ending text ≡ Ok (k, after)

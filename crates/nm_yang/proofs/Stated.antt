@@ -1,18 +1,19 @@
 -- A statement that is written is read again, with the same keywords and arguments.
-use Rattle.std.proofs.Common.{◌≡◌, ℕ, zero, suc, ◌-◌, ◌+◌, ◌≤◌, ◌<◌, Bool, true, false, eqb, List, [], ◌∷◌, ◌++◌, length, drop, Option, Some, None, Result, Ok, Err, refl, sym, ap, subst, ◌∙◌, append_assoc, inl, inr, arith, length-append}
-use Rattle.std.specs.Prelude.{◌&&◌, ◌||◌, IsUtf8, IfSome}
+use Rattle.std.proofs.Common.{◌≡◌, ℕ, zero, suc, ◌-◌, ◌≤◌, ◌<◌, true, false, eqb, List, [], ◌∷◌, ◌++◌, length, Option, Some, None, Result, Ok, refl, sym, ap, ◌∙◌, append_assoc, inl, inr, arith, length-append}
+use Rattle.std.specs.Prelude.{IsUtf8, IfSome}
 use Rattle.std.specs.List.{flat_map}
 use Rattle.std.proofs.lemmas.Str.{is_utf8-from_IsUtf8}
 use Rattle.std.proofs.lemmas.Bool.Decides.{nat_tests}
 use Rattle.nm_yang.specs.declared.fault.Fault.{Fault}
 use Rattle.nm_yang.specs.Tree.{Tree, Trees, statement, none, more, trees_of}
 use Rattle.nm_yang.specs.Page.{Page, ◌>>=◌, place_of}
-use Rattle.nm_yang.specs.Byte.{begins, is_start, is_white, is_ending}
+use Rattle.nm_yang.specs.Byte.{begins, is_start, is_white}
 use Rattle.nm_yang.specs.Blank.{skip, plain}
 use Rattle.nm_yang.specs.Word.{keyword_at}
 use Rattle.nm_yang.specs.Argument.{argument_at}
-use Rattle.nm_yang.specs.Module.{Run, label_at, after_keyword, end_at, statement_at, each_at, inside, open_brace, cons_run, then_run}
-use Rattle.nm_yang.specs.Written.{escape_of, written, written_argument, written_end, written_each, IsIdentifier, IsKeyword, CanHave, CanHold, CanHoldEach, SameWords, SameWordsEach}
+use Rattle.nm_yang.specs.Module.{Run, label_at, after_keyword, end_at, statement_at, each_at, inside, open_brace}
+use Rattle.nm_yang.specs.Written.{escape_of, written, written_argument, written_end, written_each, CanHave, CanHold, CanHoldEach, SameWords, SameWordsEach}
+use Rattle.nm_yang.specs.Grammar.{IsIdentifier, IsKeyword}
 use Rattle.nm_yang.proofs.Again.{Parts, keyword-again}
 use Rattle.nm_yang.proofs.Quoted.{argument-again}
 
@@ -82,12 +83,12 @@ skip-identifier page (b ∷ k) rest h =
 skip-keyword : (page : Page) (k rest : List ℕ) → IsKeyword k → (skip page plain (k ++ rest) ≡ Ok (k ++ rest)) × (begins (k ++ rest) 125 ≡ false) × (0 < length k)
 skip-keyword page k rest h =
     elim h [
-      inl i ↦ skip-identifier page k rest i
-    | inr i ↦
-        let e : k ++ rest ≡ i.0 ++ 58 ∷ (i.1 ++ rest) = ap (λ (l : List ℕ). l ++ rest) i.2 ∙ append_assoc i.0 (58 ∷ i.1) rest in
-        let s = skip-identifier page i.0 (58 ∷ (i.1 ++ rest)) i.3 in
-        let l : 0 < length k = rw i.2 (omega (arith, length-append i.0 (58 ∷ i.1), s.2)) in
-        (rw e s.0, rw e s.1, l)
+      | inl i ↦ skip-identifier page k rest i
+      | inr i ↦
+          let e : k ++ rest ≡ i.0 ++ 58 ∷ (i.1 ++ rest) = ap (λ (l : List ℕ). l ++ rest) i.2 ∙ append_assoc i.0 (58 ∷ i.1) rest in
+          let s = skip-identifier page i.0 (58 ∷ (i.1 ++ rest)) i.3 in
+          let l : 0 < length k = rw i.2 (omega (arith, length-append i.0 (58 ∷ i.1), s.2)) in
+          (rw e s.0, rw e s.1, l)
     ]
 
 pub written-parts : (k : List ℕ) (argument : Option (List ℕ)) (place : ℕ) (ts : Trees) (rest : List ℕ) → written (statement k argument place ts) ++ rest ≡ k ++ (written_argument argument ++ (written_end ts ++ rest))
@@ -143,7 +144,7 @@ within-again (more t ts) zero page ending rest h each = absurd h
 within-again (more t ts) (suc d) page ending rest h each =
     let start : List ℕ = (written t ++ 32 ∷ written_each ts) ++ 125 ∷ rest in
     let e : (written t ++ 32 ∷ (written_each ts ++ 125 ∷ [])) ++ rest ≡ start =
-        append_assoc (written t) (32 ∷ (written_each ts ++ 125 ∷ [])) rest ∙ ap (λ (l : List ℕ). written t ++ 32 ∷ l) (append_assoc (written_each ts) (125 ∷ []) rest) ∙ sym (append_assoc (written t) (32 ∷ written_each ts) (125 ∷ rest)) in
+    append_assoc (written t) (32 ∷ (written_each ts ++ 125 ∷ [])) rest ∙ ap (λ (l : List ℕ). written t ++ 32 ∷ l) (append_assoc (written_each ts) (125 ∷ []) rest) ∙ sym (append_assoc (written t) (32 ∷ written_each ts) (125 ∷ rest)) in
     let s : skip page plain (32 ∷ ((written t ++ 32 ∷ (written_each ts ++ 125 ∷ [])) ++ rest)) ≡ Ok start = ap (λ (l : List ℕ). skip page plain (32 ∷ l)) e ∙ skip-each page d (more t ts) rest h in
     let fault : Fault = open_brace page (123 ∷ 32 ∷ ((written t ++ 32 ∷ (written_each ts ++ 125 ∷ [])) ++ rest)) in
     let r = each d fault (length start) h (omega arith) in
@@ -151,12 +152,13 @@ within-again (more t ts) (suc d) page ending rest h each =
 
 mutual
   unfolding statement_at label_at written_each
+
   pub statement-again : (t : Tree) (d : ℕ) (page : Page) (ending : Fault) (rest : List ℕ) → CanHave d t → ReadsOne (statement_at (inside d page) page ending (written t ++ rest)) t rest
   statement-again (statement k argument place ts) d page ending rest h =
       let w = within-again ts d page ending rest h.3 (λ e fault n g le. each-again ts e page fault n rest g le) in
       let bytes : List ℕ = k ++ (written_argument argument ++ (written_end ts ++ rest)) in
       let one : statement_at (inside d page) page ending bytes ≡ Ok (statement k argument (place_of page bytes) (trees_of w.found), rest) =
-          rw (label-at page ending k argument ts rest h.0, is_utf8-from_IsUtf8 k h.1, after-again page ending argument ts rest h.2, w.is) refl in
+      rw (label-at page ending k argument ts rest h.0, is_utf8-from_IsUtf8 k h.1, after-again page ending argument ts rest h.2, w.is) refl in
       record { found = statement k argument (place_of page bytes) (trees_of w.found); is = ap (statement_at (inside d page) page ending) (written-parts k argument place ts rest) ∙ one; same = (refl, refl, w.same) }
 
   pub each-again : (ts : Trees) (d : ℕ) (page : Page) (ending : Fault) (n : ℕ) (rest : List ℕ) → CanHoldEach d ts → length (written_each ts ++ 125 ∷ rest) ≤ n → Reads d page (each_at (statement_at (inside d page) page ending) page ending n (written_each ts ++ 125 ∷ rest)) ts rest

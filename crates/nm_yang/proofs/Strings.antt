@@ -1,14 +1,13 @@
 -- Strings in quotes: what is read is one, and one is read.
-use Rattle.std.proofs.Common.{◌≡◌, ℕ, ◌+◌, ◌-◌, Bool, true, false, not, cond, eqb, ltb, List, [], ◌∷◌, ◌++◌, drop, Result, Ok, Err, refl, sym, ap, subst, ◌∙◌, append_assoc, inl, inr}
-use Rattle.std.specs.Prelude.{◌&&◌, ◌||◌, ◌⊎◌}
+use Rattle.std.proofs.Common.{◌≡◌, ℕ, ◌+◌, ◌-◌, Bool, true, false, not, cond, eqb, ltb, List, [], ◌∷◌, ◌++◌, drop, Ok, refl, sym, ap, subst, ◌∙◌, append_assoc, inl, inr}
+use Rattle.std.specs.Prelude.{◌&&◌, ◌||◌}
 use Rattle.std.proofs.lemmas.Bool.{eqb-true}
 use Rattle.std.proofs.lemmas.List.{append-nil}
-use Rattle.nm_yang.specs.declared.fault.Fault.{Fault}
 use Rattle.nm_yang.specs.Page.{Page, ◌>>=◌, front, column_of, place_of}
-use Rattle.nm_yang.specs.Byte.{is_quote, begins_quote}
+use Rattle.nm_yang.specs.Byte.{begins_quote}
 use Rattle.nm_yang.specs.Quote.{is_escape, escaped, is_loose, begins_escape, begins_other, single_end, double_end, meaning, string_at}
 use Rattle.nm_yang.specs.Grammar.{has, is_raw, breaks, spoken, IsString, single, double}
-use Rattle.nm_yang.proofs.Quotes.{or_false, and_false}
+use Rattle.nm_yang.proofs.Quotes.{or_false}
 use Rattle.nm_yang.proofs.Again.{and_true, front-append}
 use Rattle.nm_yang.proofs.Worded.{bind_ok, ok_same, chosen, guard_false}
 
@@ -96,6 +95,7 @@ says-escape room (b ∷ raw) h = ap (λ (l : List ℕ). escaped b ∷ l) (h raw 
 
 mutual
   unfolding meaning spoken
+
   says : (room : ℕ) (raw : List ℕ) (left : ℕ) (loose : List ℕ) → meaning room left false loose raw ≡ kept (breaks raw) loose (spoken room left false raw)
   says room [] left loose = sym (append-nil loose)
   says room (b ∷ raw) left loose = byte-by room left b loose raw (eqb b 10) (ltb 0 left && eqb b 32) (ltb 0 left && eqb b 9) refl refl refl (λ l m. says room raw l m) (says-true room raw)
@@ -121,12 +121,12 @@ unfolding single_end
 single-takes page opener [] rest e = absurd cc
 single-takes page opener (b ∷ bytes) rest e =
     elim (chosen (eqb b 39) (Ok (b ∷ bytes)) (single_end page opener bytes) (Ok rest) e) [
-      inl c ↦
-        let r = ok_same (b ∷ bytes) rest c.1 in
-        record { value = []; after = bytes; parts = r; quote = sym r ∙ ap (λ (x : ℕ). x ∷ bytes) (eqb-true b 39 c.0); none = refl }
-    | inr c ↦
-        let t = single-takes page opener bytes rest c.1 in
-        record { value = b ∷ t.value; after = t.after; parts = ap (λ (l : List ℕ). b ∷ l) t.parts; quote = t.quote; none = rw (c.0, t.none) refl }
+      | inl c ↦
+          let r = ok_same (b ∷ bytes) rest c.1 in
+          record { value = []; after = bytes; parts = r; quote = sym r ∙ ap (λ (x : ℕ). x ∷ bytes) (eqb-true b 39 c.0); none = refl }
+      | inr c ↦
+          let t = single-takes page opener bytes rest c.1 in
+          record { value = b ∷ t.value; after = t.after; parts = ap (λ (l : List ℕ). b ∷ l) t.parts; quote = t.quote; none = rw (c.0, t.none) refl }
     ]
 
 single-again : (page : Page) (opener : ℕ) (value rest : List ℕ) → has 39 value ≡ false → single_end page opener (value ++ 39 ∷ rest) ≡ Ok (39 ∷ rest)
@@ -166,13 +166,13 @@ double-takes page opener true (b ∷ bytes) rest e h =
     record { raw = b ∷ t.raw; after = t.after; parts = ap (λ (l : List ℕ). b ∷ l) t.parts; quote = t.quote; raw_is = rw (lenient page.strict (is_escape b) (h refl), t.raw_is) refl }
 double-takes page opener false (b ∷ bytes) rest e h =
     elim (chosen (eqb b 34) (Ok (b ∷ bytes)) _ (Ok rest) e) [
-      inl c ↦
-        let r = ok_same (b ∷ bytes) rest c.1 in
-        record { raw = []; after = bytes; parts = r; quote = sym r ∙ ap (λ (x : ℕ). x ∷ bytes) (eqb-true b 34 c.0); raw_is = refl }
-    | inr c ↦
-        let g = guard_false ((eqb b 92 && page.strict) && begins_other bytes) _ (double_end page opener (eqb b 92) bytes) rest c.1 in
-        let t = double-takes page opener (eqb b 92) bytes rest g.1 (λ x. three (eqb b 92) page.strict (begins_other bytes) g.0 x) in
-        record { raw = b ∷ t.raw; after = t.after; parts = ap (λ (l : List ℕ). b ∷ l) t.parts; quote = t.quote; raw_is = rw (c.0, t.raw_is) refl }
+      | inl c ↦
+          let r = ok_same (b ∷ bytes) rest c.1 in
+          record { raw = []; after = bytes; parts = r; quote = sym r ∙ ap (λ (x : ℕ). x ∷ bytes) (eqb-true b 34 c.0); raw_is = refl }
+      | inr c ↦
+          let g = guard_false ((eqb b 92 && page.strict) && begins_other bytes) _ (double_end page opener (eqb b 92) bytes) rest c.1 in
+          let t = double-takes page opener (eqb b 92) bytes rest g.1 (λ x. three (eqb b 92) page.strict (begins_other bytes) g.0 x) in
+          record { raw = b ∷ t.raw; after = t.after; parts = ap (λ (l : List ℕ). b ∷ l) t.parts; quote = t.quote; raw_is = rw (c.0, t.raw_is) refl }
     ]
 
 not-true : (a : Bool) → not a ≡ true → a ≡ false
@@ -225,18 +225,18 @@ unfolding string_at
 string-takes page [] value rest q e = absurd cc
 string-takes page (quote ∷ bytes) value rest q e =
     elim (chosen (eqb quote 39) (single_end page (place_of page (quote ∷ bytes)) bytes >>= λ r. Ok (front bytes r, drop 1 r)) _ (Ok (value, rest)) e) [
-      inl c ↦
-        let b = bind_ok (single_end page (place_of page (quote ∷ bytes)) bytes) (λ r. Ok (front bytes r, drop 1 r)) (value, rest) c.1 in
-        let last = ok_same (front bytes b.0, drop 1 b.0) (value, rest) b.2 in
-        let s = single-of page bytes value rest b.0 (single-takes page (place_of page (quote ∷ bytes)) bytes b.0 b.1) (ap (λ (x : List ℕ × List ℕ). x.0) last) (ap (λ (x : List ℕ × List ℕ). x.1) last) in
-        subst (λ (x : ℕ). IsString page (x ∷ bytes) value rest) (sym (eqb-true quote 39 c.0)) s
-    | inr c ↦
-        let is : quote ≡ 34 = eqb-true quote 34 (other-quote (eqb quote 34) (eqb quote 39) q c.0) in
-        let b = bind_ok (double_end page (place_of page (quote ∷ bytes)) false bytes) (λ r. Ok (meaning (column_of page (quote ∷ bytes) + 1) 0 false [] (front bytes r), drop 1 r)) (value, rest) c.1 in
-        let last = ok_same (meaning (column_of page (quote ∷ bytes) + 1) 0 false [] (front bytes b.0), drop 1 b.0) (value, rest) b.2 in
-        let m = subst (λ (x : ℕ). meaning (column_of page (x ∷ bytes) + 1) 0 false [] (front bytes b.0) ≡ value) is (ap (λ (x : List ℕ × List ℕ). x.0) last) in
-        let s = double-of page bytes value rest b.0 (double-takes page (place_of page (quote ∷ bytes)) false bytes b.0 b.1 (λ x. absurd cc)) m (ap (λ (x : List ℕ × List ℕ). x.1) last) in
-        subst (λ (x : ℕ). IsString page (x ∷ bytes) value rest) (sym is) s
+      | inl c ↦
+          let b = bind_ok (single_end page (place_of page (quote ∷ bytes)) bytes) (λ r. Ok (front bytes r, drop 1 r)) (value, rest) c.1 in
+          let last = ok_same (front bytes b.0, drop 1 b.0) (value, rest) b.2 in
+          let s = single-of page bytes value rest b.0 (single-takes page (place_of page (quote ∷ bytes)) bytes b.0 b.1) (ap (λ (x : List ℕ × List ℕ). x.0) last) (ap (λ (x : List ℕ × List ℕ). x.1) last) in
+          subst (λ (x : ℕ). IsString page (x ∷ bytes) value rest) (sym (eqb-true quote 39 c.0)) s
+      | inr c ↦
+          let is : quote ≡ 34 = eqb-true quote 34 (other-quote (eqb quote 34) (eqb quote 39) q c.0) in
+          let b = bind_ok (double_end page (place_of page (quote ∷ bytes)) false bytes) (λ r. Ok (meaning (column_of page (quote ∷ bytes) + 1) 0 false [] (front bytes r), drop 1 r)) (value, rest) c.1 in
+          let last = ok_same (meaning (column_of page (quote ∷ bytes) + 1) 0 false [] (front bytes b.0), drop 1 b.0) (value, rest) b.2 in
+          let m = subst (λ (x : ℕ). meaning (column_of page (x ∷ bytes) + 1) 0 false [] (front bytes b.0) ≡ value) is (ap (λ (x : List ℕ × List ℕ). x.0) last) in
+          let s = double-of page bytes value rest b.0 (double-takes page (place_of page (quote ∷ bytes)) false bytes b.0 b.1 (λ x. absurd cc)) m (ap (λ (x : List ℕ × List ℕ). x.1) last) in
+          subst (λ (x : ℕ). IsString page (x ∷ bytes) value rest) (sym is) s
     ]
 
 pub string-read : (page : Page) (text value rest : List ℕ) → IsString page text value rest → (string_at page text ≡ Ok (value, rest)) × (begins_quote text ≡ true)

@@ -1,17 +1,17 @@
 -- What is written is UTF-8.
-use Rattle.std.proofs.Common.{◌≡◌, ℕ, zero, suc, ◌≤◌, ◌<◌, ◌+◌, ◌/◌, cond, Bool, true, false, eqb, ltb, List, [], ◌∷◌, ◌++◌, get_or, Option, Some, None, refl, sym, ap, subst, ◌∙◌, append_assoc, arith}
-use Rattle.std.specs.Prelude.{◌&&◌, ◌||◌, IsUtf8, IfSome}
+use Rattle.std.proofs.Common.{◌≡◌, ℕ, zero, suc, ◌≤◌, ◌<◌, ◌+◌, ◌/◌, cond, Bool, true, false, ltb, List, [], ◌∷◌, ◌++◌, get_or, Option, Some, None, refl, subst, arith}
+use Rattle.std.specs.Prelude.{IsUtf8, IfSome}
 use Rattle.std.specs.List.{flat_map}
 use Rattle.std.proofs.lemmas.List.{append-nil}
 use Rattle.std.proofs.lemmas.Grind.{flat_map-append}
-use Rattle.std.proofs.lemmas.Bool.{ltb-true, ltb-false}
+use Rattle.std.proofs.lemmas.Bool.{ltb-true}
 use Rattle.std.proofs.lemmas.Bool.Decides.{nat_tests}
 use Rattle.std.proofs.lemmas.Str.{IsUtf8-append, IsUtf8-nil, IsUtf8-encode, IsUtf8-from_ascii, encode_ascii}
 use lib.Utf8.{encode, encodes, scalar, scalars, next}
 use Rattle.nm_yang.specs.Tree.{Tree, Trees, statement, none, more}
 use Rattle.nm_yang.specs.Written.{escape_of, written, written_argument, written_end, written_each, CanHave, CanHold, CanHoldEach}
 use Rattle.nm_yang.proofs.Again.{and_true}
-use Rattle.nm_yang.proofs.Quoted.{Form, line, tab, quote, backslash, other, form, escape_of-other}
+use Rattle.nm_yang.proofs.Quoted.{line, tab, quote, backslash, other, form, escape_of-other}
 
 below : (b i : ℕ) → b < 128 → get_or (b ∷ []) i 0 < 128
 below b zero h = h
@@ -30,11 +30,11 @@ big b h = escape_of-other b (grind (arith, nat_tests)) (grind (arith, nat_tests)
 escape_of-utf8 : (b : ℕ) → b < 128 → IsUtf8 (escape_of b)
 escape_of-utf8 b h =
     elim (form b) [
-      line e ↦ rw e (pair 92 110 (omega arith) (omega arith))
-    | tab e ↦ rw e (pair 92 116 (omega arith) (omega arith))
-    | quote e ↦ rw e (pair 92 34 (omega arith) (omega arith))
-    | backslash e ↦ rw e (pair 92 92 (omega arith) (omega arith))
-    | other e f g s ↦ rw (escape_of-other b e f g s) (one b h)
+      | line e ↦ rw e (pair 92 110 (omega arith) (omega arith))
+      | tab e ↦ rw e (pair 92 116 (omega arith) (omega arith))
+      | quote e ↦ rw e (pair 92 34 (omega arith) (omega arith))
+      | backslash e ↦ rw e (pair 92 92 (omega arith) (omega arith))
+      | other e f g s ↦ rw (escape_of-other b e f g s) (one b h)
     ]
 
 shapes : (c : ℕ) (p q : Bool) → flat_map escape_of (cond p ((192 + c / 64) ∷ next c ∷ []) (cond q ((224 + c / 4096) ∷ next (c / 64) ∷ next c ∷ []) ((240 + c / 262144) ∷ next (c / 4096) ∷ next (c / 64) ∷ next c ∷ [])))
@@ -68,6 +68,7 @@ argument-utf8 (Some a) h = IsUtf8-append (32 ∷ 34 ∷ []) (flat_map escape_of 
 
 mutual
   unfolding written written_end written_each
+
   pub written-utf8 : (t : Tree) (d : ℕ) → CanHave d t → IsUtf8 (written t)
   written-utf8 (statement k argument place ts) d h = IsUtf8-append k (written_argument argument ++ written_end ts) h.1 (IsUtf8-append (written_argument argument) (written_end ts) (argument-utf8 argument h.2) (written_end-utf8 ts d h.3))
 

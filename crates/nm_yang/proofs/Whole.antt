@@ -1,17 +1,15 @@
 -- A module that is written is read again.
-use Rattle.std.proofs.Common.{◌≡◌, ℕ, zero, suc, ◌-◌, ◌≤◌, ◌<◌, Bool, true, false, cond, eqb, ltb, List, [], ◌∷◌, ◌++◌, length, take, Option, Some, None, Result, Ok, refl, sym, ap, subst, ◌∙◌, arith}
-use Rattle.std.specs.Prelude.{◌&&◌, IsUtf8, codes}
-use Rattle.std.specs.Str.{bytes_eq}
+use Rattle.std.proofs.Common.{◌≡◌, ℕ, ◌≤◌, Bool, true, false, eqb, ltb, List, [], ◌++◌, length, take, Option, None, Ok, refl, sym, ap, subst, ◌∙◌, arith}
+use Rattle.std.specs.Prelude.{IsUtf8, codes}
 use Rattle.std.specs.Str.Lossy.{utf8_valid_len}
 use Rattle.std.proofs.lemmas.List.{append-nil, take_all}
 use Rattle.std.proofs.lemmas.Bool.{ltb-true, ltb-false}
 use Rattle.std.proofs.lemmas.Bool.Decides.{nat_tests}
 use Rattle.std.proofs.lemmas.Str.{utf8_valid_len-IsUtf8}
-use Rattle.nm_yang.specs.declared.fault.Fault.{Fault}
 use Rattle.nm_yang.specs.Tree.{Tree, Trees, statement, trees_of}
-use Rattle.nm_yang.specs.Page.{Page, ◌>>=◌, place_of}
+use Rattle.nm_yang.specs.Page.{Page, place_of}
 use Rattle.nm_yang.specs.Blank.{skip, plain}
-use Rattle.nm_yang.specs.Module.{Found, Heading, any_says_1_1, begin_at, heading_at, body_at, closed_at, finish_at, done_at, module_at, not_module, front_len, stop_of, page_of, reading, reading_within, most_deep, most_long, statement_at, inside, label_at}
+use Rattle.nm_yang.specs.Module.{Found, Heading, any_says_1_1, begin_at, heading_at, body_at, closed_at, finish_at, done_at, module_at, not_module, front_len, stop_of, page_of, reading, reading_within, most_deep, most_long, label_at}
 use Rattle.nm_yang.specs.Written.{written, written_argument, written_end, CanHave, IsModule, ReadsAs, SameWords}
 use Rattle.nm_yang.proofs.Stated.{opened, skip-written, written-parts, label-again, after-again, within-again, each-again}
 use Rattle.nm_yang.proofs.Utf8.{written-utf8}
@@ -47,7 +45,7 @@ module-again text strict k argument place ts name is h =
     let page : Page = whole text strict in
     let s : skip page plain text ≡ Ok text = (let w = skip-written page most_deep (statement k argument place ts) [] h in subst (λ (l : List ℕ). skip page plain l ≡ Ok l) (append-nil (written (statement k argument place ts)) ∙ sym is) w.0) in
     let parts : text ≡ codes "module" ++ (written_argument argument ++ (written_end ts ++ [])) =
-        is ∙ sym (append-nil (written (statement k argument place ts))) ∙ written-parts k argument place ts [] ∙ ap (λ (l : List ℕ). l ++ (written_argument argument ++ (written_end ts ++ []))) name in
+    is ∙ sym (append-nil (written (statement k argument place ts))) ∙ written-parts k argument place ts [] ∙ ap (λ (l : List ℕ). l ++ (written_argument argument ++ (written_end ts ++ []))) name in
     let g : CanHave most_deep (statement (codes "module") argument place ts) = subst (λ (l : List ℕ). CanHave most_deep (statement l argument place ts)) name h in
     let head : Heading = record { keyword = codes "module"; argument = argument; place = place_of page text; rest = opened ts [] } in
     let b : begin_at page ≡ Ok head = rw s (heading-again page argument place ts text parts g) in

@@ -1,15 +1,14 @@
 -- Keywords and words: what is read is one, and one is read.
 use Rattle.std.proofs.Common.{◌≡◌, ℕ, Bool, true, false, cond, eqb, List, [], ◌∷◌, ◌++◌, Result, Ok, Err, refl, sym, ap, subst, ◌∙◌, append_assoc, inl, inr, arith}
-use Rattle.std.specs.Prelude.{◌&&◌, ◌||◌, ◌⊎◌}
+use Rattle.std.specs.Prelude.{◌||◌, ◌⊎◌}
 use Rattle.std.proofs.lemmas.Bool.{eqb-true}
 use Rattle.std.proofs.lemmas.Bool.Decides.{nat_tests}
 use Rattle.nm_yang.specs.declared.fault.Fault.{Fault}
 use Rattle.nm_yang.specs.Page.{Page, ◌>>=◌, front}
-use Rattle.nm_yang.specs.Byte.{is_start, is_name, is_ending, begins_mark, begins, opens_comment, closes_comment}
+use Rattle.nm_yang.specs.Byte.{is_start, is_name, is_ending, begins_mark, begins, opens_comment}
 use Rattle.nm_yang.specs.Word.{name_end, name_at, colon_at, parted, keyword_at, bare_end, begins_close, bare_at}
-use Rattle.nm_yang.specs.Written.{names, IsIdentifier, IsKeyword}
+use Rattle.nm_yang.specs.Grammar.{names, IsIdentifier}
 use Rattle.nm_yang.specs.Grammar.{can_follow, IsKeywordAt, ends_word, IsWord}
-use Rattle.nm_yang.proofs.Quotes.{or_false, and_false}
 use Rattle.nm_yang.proofs.Again.{and_true, front-append, Parts, keyword-again}
 
 -- the value of a step that did not fail
@@ -58,10 +57,10 @@ unfolding colon_at
 colon_at-takes page ending [] rest e = inl (ok_same [] rest e)
 colon_at-takes page ending (b ∷ bytes) rest e =
     elim (chosen (eqb b 58) (name_at page ending bytes) (Ok (b ∷ bytes)) (Ok rest) e) [
-      inl c ↦
-        let n = name_at-takes page ending bytes rest c.1 in
-        inr (n.0, ap (λ (x : ℕ). x ∷ bytes) (eqb-true b 58 c.0) ∙ ap (λ (l : List ℕ). 58 ∷ l) n.1, n.2)
-    | inr c ↦ inl (ok_same (b ∷ bytes) rest c.1)
+      | inl c ↦
+          let n = name_at-takes page ending bytes rest c.1 in
+          inr (n.0, ap (λ (x : ℕ). x ∷ bytes) (eqb-true b 58 c.0) ∙ ap (λ (l : List ℕ). 58 ∷ l) n.1, n.2)
+      | inr c ↦ inl (ok_same (b ∷ bytes) rest c.1)
     ]
 
 parted-takes : (page : Page) (ending : Fault) (bytes rest : List ℕ) → parted page ending bytes ≡ Ok rest → (bytes ≡ rest) × (can_follow bytes ≡ true)
@@ -75,14 +74,14 @@ keyword-of : (bytes name whole rest piece k : List ℕ) → bytes ≡ piece ++ n
     → IsKeywordAt bytes k rest
 keyword-of bytes name whole rest piece k e i c w f is =
     elim c [
-      inl n ↦
-        let p : bytes ≡ piece ++ rest = e ∙ ap (λ (l : List ℕ). piece ++ l) (n ∙ w) in
-        let q : k ≡ piece = sym is ∙ ap (λ (l : List ℕ). front l rest) p ∙ front-append piece rest in
-        record { parts = rw q p; keyword_is = rw q (inl i); follows = rw w at f }
-    | inr n ↦
-        let p : bytes ≡ (piece ++ 58 ∷ n.0) ++ rest = e ∙ ap (λ (l : List ℕ). piece ++ l) (n.1 ∙ ap (λ (l : List ℕ). 58 ∷ (n.0 ++ l)) w) ∙ sym (append_assoc piece (58 ∷ n.0) rest) in
-        let q : k ≡ piece ++ 58 ∷ n.0 = sym is ∙ ap (λ (l : List ℕ). front l rest) p ∙ front-append (piece ++ 58 ∷ n.0) rest in
-        record { parts = rw q p; keyword_is = rw q (inr (piece, n.0, refl, i, n.2)); follows = rw w at f }
+      | inl n ↦
+          let p : bytes ≡ piece ++ rest = e ∙ ap (λ (l : List ℕ). piece ++ l) (n ∙ w) in
+          let q : k ≡ piece = sym is ∙ ap (λ (l : List ℕ). front l rest) p ∙ front-append piece rest in
+          record { parts = rw q p; keyword_is = rw q (inl i); follows = rw w at f }
+      | inr n ↦
+          let p : bytes ≡ (piece ++ 58 ∷ n.0) ++ rest = e ∙ ap (λ (l : List ℕ). piece ++ l) (n.1 ∙ ap (λ (l : List ℕ). 58 ∷ (n.0 ++ l)) w) ∙ sym (append_assoc piece (58 ∷ n.0) rest) in
+          let q : k ≡ piece ++ 58 ∷ n.0 = sym is ∙ ap (λ (l : List ℕ). front l rest) p ∙ front-append (piece ++ 58 ∷ n.0) rest in
+          record { parts = rw q p; keyword_is = rw q (inr (piece, n.0, refl, i, n.2)); follows = rw w at f }
     ]
 
 pub keyword-takes : (page : Page) (ending : Fault) (bytes k rest : List ℕ) → keyword_at page ending bytes ≡ Ok (k, rest) → IsKeywordAt bytes k rest

@@ -1,12 +1,11 @@
 -- What the text of a module is, by cases on the text, apart from how it is read (RFC 7950 section 6).
-use Rattle.std.specs.Prelude.{◌≡◌, ℕ, zero, suc, ◌+◌, ◌-◌, ◌≤◌, List, [], ◌∷◌, ◌++◌, length, codes, Bool, true, false, not, ◌==◌, ◌&&◌, ◌||◌, ◌⊎◌, nat_lt, Option, Some, None, IsUtf8, if◌then◌else◌}
+use Rattle.std.specs.Prelude.{◌≡◌, ℕ, suc, ◌+◌, ◌-◌, ◌≤◌, List, [], ◌∷◌, ◌++◌, length, codes, Bool, true, false, not, ◌==◌, ◌&&◌, ◌||◌, ◌⊎◌, nat_lt, Option, Some, None, IsUtf8, if◌then◌else◌}
 use Rattle.nm_yang.specs.Tree.{Tree, Trees, statement, none, more}
 use Rattle.nm_yang.specs.Page.{Page, column_of, place_of}
-use Rattle.nm_yang.specs.Byte.{is_white, is_ending, begins, opens_comment, closes_comment}
+use Rattle.nm_yang.specs.Byte.{is_start, is_name, is_white, is_ending, opens_comment, closes_comment}
 use Rattle.nm_yang.specs.Word.{begins_close}
 use Rattle.nm_yang.specs.Quote.{is_escape, escaped, is_loose, begins_escape}
 use Rattle.nm_yang.specs.Module.{says_1_1, most_deep, most_long}
-use Rattle.nm_yang.specs.Written.{IsKeyword}
 
 -- whether a byte is among these
 abbrev pub has : ℕ → List ℕ → Bool
@@ -25,6 +24,20 @@ pub data Blanks (rest : List ℕ) : List ℕ → Type 0 where
   line : (comment text : List ℕ) → has 10 comment ≡ false → Blanks rest text → Blanks rest (47 ∷ 47 ∷ (comment ++ 10 ∷ text))
   last_line : (comment : List ℕ) → has 10 comment ≡ false → rest ≡ [] → Blanks rest (47 ∷ 47 ∷ comment)
   block : (comment text : List ℕ) → has_close comment ≡ false → Blanks rest text → Blanks rest (47 ∷ 42 ∷ (comment ++ 42 ∷ 47 ∷ text))
+
+-- bytes that an identifier goes on with
+abbrev pub names : List ℕ → Bool
+names [] = true
+names (b ∷ bytes) = is_name b && names bytes
+
+-- an identifier (RFC 7950 section 6.2)
+abbrev pub IsIdentifier : List ℕ → Type 0
+IsIdentifier [] = ⊥
+IsIdentifier (b ∷ bytes) = (is_start b ≡ true) × (names bytes ≡ true)
+
+-- an identifier, or a prefix, a colon and an identifier (RFC 7950 section 6.3)
+abbrev pub IsKeyword : List ℕ → Type 0
+IsKeyword keyword = IsIdentifier keyword ⊎ ((prefix : List ℕ) × (name : List ℕ) × (keyword ≡ prefix ++ 58 ∷ name) × IsIdentifier prefix × IsIdentifier name)
 
 -- what may stand right after a keyword: white space, a quote, a mark or a comment
 abbrev pub can_follow : List ℕ → Bool
@@ -68,11 +81,11 @@ spoken room left true [] = []
 spoken room left true (b ∷ raw) = escaped b ∷ spoken room 0 false raw
 spoken room left false [] = []
 spoken room left false (b ∷ raw) =
-  if b == 10 then b ∷ spoken room room false raw else (
-  if is_loose b && breaks raw then spoken room 0 false raw else (
-  if nat_lt 0 left && b == 32 then spoken room (left - 1) false raw else (
-  if nat_lt 0 left && b == 9 then spoken room (left - 8) false raw else (
-  if b == 92 && begins_escape raw then spoken room 0 true raw else b ∷ spoken room 0 false raw))))
+    if b == 10 then b ∷ spoken room room false raw else (
+    if is_loose b && breaks raw then spoken room 0 false raw else (
+    if nat_lt 0 left && b == 32 then spoken room (left - 1) false raw else (
+    if nat_lt 0 left && b == 9 then spoken room (left - 8) false raw else (
+    if b == 92 && begins_escape raw then spoken room 0 true raw else b ∷ spoken room 0 false raw))))
 
 -- the text is a string in quotes that means a value, and then the rest; single quotes hold all bytes as they stand
 pub data IsString (page : Page) (text value rest : List ℕ) : Type 0 where

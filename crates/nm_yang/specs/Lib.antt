@@ -1,10 +1,10 @@
 pub mod Tree
-pub mod Page
 pub mod Byte
+pub mod Page
 pub mod Blank
 pub mod Word
 pub mod Quote
 pub mod Argument
 pub mod Module
-pub mod Written
 pub mod Grammar
+pub mod Written

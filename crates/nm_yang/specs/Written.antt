@@ -1,7 +1,7 @@
 -- The one text that is written of a statement: each argument in double quotes on one line.
-use Rattle.std.specs.Prelude.{◌≡◌, zero, suc, Bool, true, ◌&&◌, ◌⊎◌, IfSome, IsUtf8, codes, Ok, ℕ, List, [], ◌∷◌, ◌++◌, ◌==◌, ◌||◌, Option, Some, None, if◌then◌else◌}
+use Rattle.std.specs.Prelude.{◌≡◌, zero, suc, IfSome, IsUtf8, codes, Ok, ℕ, List, [], ◌∷◌, ◌++◌, ◌==◌, ◌||◌, Option, Some, None, if◌then◌else◌}
 use Rattle.std.specs.List.{flat_map}
-use Rattle.nm_yang.specs.Byte.{is_start, is_name}
+use Rattle.nm_yang.specs.Grammar.{IsKeyword}
 use Rattle.nm_yang.specs.Module.{reading}
 use Rattle.nm_yang.specs.Tree.{Tree, Trees, statement, none, more}
 
@@ -32,20 +32,6 @@ abbrev pub spaced : Tree → List ℕ
 spaced t = written t ++ 32 ∷ []
 
 -- ---- what a module can have
-
--- bytes that an identifier goes on with
-abbrev pub names : List ℕ → Bool
-names [] = true
-names (b ∷ bytes) = is_name b && names bytes
-
--- an identifier (RFC 7950 section 6.2)
-abbrev pub IsIdentifier : List ℕ → Type 0
-IsIdentifier [] = ⊥
-IsIdentifier (b ∷ bytes) = (is_start b ≡ true) × (names bytes ≡ true)
-
--- an identifier, or a prefix, a colon and an identifier (RFC 7950 section 6.3)
-abbrev pub IsKeyword : List ℕ → Type 0
-IsKeyword keyword = IsIdentifier keyword ⊎ ((prefix : List ℕ) × (name : List ℕ) × (keyword ≡ prefix ++ 58 ∷ name) × IsIdentifier prefix × IsIdentifier name)
 
 -- the keywords and arguments are those that a module can have, and at most so many braces are open at once
 abbrev mutual

@@ -1,4 +1,3 @@
-use Rattle.nm_yang.specs.Page.{Gives}
 use Rattle.nm_yang.specs.Module.{reading}
 use Rattle.nm_yang.proofs.Modules.{answers-spelt, answers-all, one-statement}
 use Rattle.nm_yang.proofs.text.read_module.Goals as goal

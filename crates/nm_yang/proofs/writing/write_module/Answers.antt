@@ -1,4 +1,4 @@
-use Rattle.std.proofs.Common.{◌≡◌, ◌++◌, [], ap, ◌∙◌}
+use Rattle.std.proofs.Common.{◌≡◌, ◌++◌, ap, ◌∙◌}
 use Rattle.nm_yang.specs.Written.{written}
 use Rattle.nm_yang.proofs.Whole.{read_again}
 use Rattle.nm_yang.proofs.writing.write_module.Goals as goal
