@@ -1,0 +1,16 @@
+pub mod Texts
+pub mod Quotes
+pub mod Joins
+pub mod Runs
+pub mod Writes
+pub mod Again
+pub mod Quoted
+pub mod Stated
+pub mod Utf8
+pub mod Whole
+pub mod Blanked
+pub mod Worded
+pub mod Strings
+pub mod Arguments
+pub mod Spelt
+pub mod Modules

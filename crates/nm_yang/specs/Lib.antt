@@ -1,0 +1,10 @@
+pub mod Tree
+pub mod Byte
+pub mod Page
+pub mod Blank
+pub mod Word
+pub mod Quote
+pub mod Argument
+pub mod Module
+pub mod Grammar
+pub mod Written
