@@ -11,6 +11,8 @@ pub mod course;
 pub mod device;
 pub mod link;
 pub mod outcome;
+#[cfg(test)]
+mod replay_tests;
 pub mod report;
 pub mod safety;
 pub mod status;

@@ -16,7 +16,7 @@ fn listed(alloc: Global, words: &[&str]) -> Result<Vec<String>, Fail> {
 }
 
 // Runs the program over memory. The reads and writes of these numbers fail.
-fn run(
+pub fn run(
     alloc: Global,
     words: &[&str],
     text: &str,
