@@ -1,0 +1,11 @@
+//! YANG types and values, and paths to the nodes of a configuration with their order.
+//!
+//! Stands on `nm_base`. The layers above rely on each spelling of a value being read, on one canonical
+//! text for each value, and on paths that order totally and are equal only where they are one path.
+#![tactic(auto)]
+
+pub mod path;
+pub mod value;
+
+pub use path::{Chosen, Path, Step};
+pub use value::Value;
