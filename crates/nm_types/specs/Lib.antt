@@ -3,3 +3,8 @@ pub mod ValueLaws
 pub mod Path
 pub mod Chosen
 pub mod PathLaws
+pub mod LeafType
+pub mod TypeKind
+pub mod Limits
+pub mod Spells
+pub mod Reading

@@ -4,8 +4,14 @@
 //! text for each value, and on paths that order totally and are equal only where they are one path.
 #![tactic(auto)]
 
+pub mod fault;
+pub mod leaf_type;
+mod limits;
+mod numeral;
 pub mod path;
 pub mod value;
 
+pub use fault::ValueFault;
+pub use leaf_type::{LeafType, TypeKind};
 pub use path::{Chosen, Path, Step};
 pub use value::Value;
