@@ -1,6 +1,6 @@
 -- Reading integers.
-use Rattle.std.proofs.Common.{◌≡◌, ◌≢◌, ℕ, ◌<◌, ◌^◌, Bool, true, false, List, [], ◌∷◌, length, get_or, Option, Some, None, Result, Ok, Err, ℤ, pos, FitsSigned, to_z, of_z, ap, refl, sym, ◌∙◌, arith, subst}
-use Rattle.std.specs.Prelude.{◌&&◌, ◌==◌, option_map, int_le}
+use Rattle.std.proofs.Common.{◌≡◌, ◌≢◌, ℕ, Bool, true, false, List, [], ◌∷◌, length, Some, None, Ok, Err, ℤ, FitsSigned, to_z, of_z, ap, refl, sym, ◌∙◌, arith}
+use Rattle.std.specs.Prelude.{◌&&◌, ◌==◌}
 use Rattle.std.specs.Int.{w128}
 use Rattle.std.specs.List.{list_all}
 use Rattle.std.specs.Char.{is_ascii_digit}
@@ -12,11 +12,10 @@ use Rattle.std.proofs.lemmas.Int.{ints, to_z-of_z}
 use Rattle.std.proofs.lemmas.Bool.{false_from_ne_true}
 use Rattle.nm_types.specs.declared.value.Value.{Value}
 use Rattle.nm_types.specs.declared.value.Value.TheVariants.{Int}
-use Rattle.nm_types.specs.declared.fault.ValueFault.{ValueFault}
 use Rattle.nm_types.specs.declared.fault.ValueFault.TheVariants.{BadText, OutOfRange}
-use Rattle.nm_types.specs.LeafType.{Kind, integer, TypeOfLeaf}
+use Rattle.nm_types.specs.LeafType.{integer, TypeOfLeaf}
 use Rattle.nm_types.specs.Limits.{is_within, meets_ranges, meets_limits}
-use Rattle.nm_types.specs.Reading.{is_numeral, with_sign, integer_of, spelled, judged, reading}
+use Rattle.nm_types.specs.Reading.{is_numeral, integer_of, spelled, judged, reading}
 
 -- a text that begins with no sign is itself without its sign
 pub no_sign : (bs : List ℕ) → ((rest : List ℕ) → bs ≢ 45 ∷ rest) → ((rest : List ℕ) → bs ≢ 43 ∷ rest) → bs ≡ without_leading_sign bs
@@ -30,7 +29,7 @@ pub list_all-digits : (ds : List ℕ) → list_all is_ascii_digit ds ≡ all_asc
 list_all-digits [] = refl
 list_all-digits (d ∷ ds) = ap (λ b. is_ascii_digit d && b) (list_all-digits ds)
 
-digits : IsNumeralModel (λ ds. all_ascii_digits ds ≡ true) (digits_value 10)
+pub digits : IsNumeralModel (λ ds. all_ascii_digits ds ≡ true) (digits_value 10)
 digits = numerals_by_value _ tells_all_ascii_digits
 
 -- the test of a numeral tells whether a text is one
@@ -82,17 +81,16 @@ fits_between low high z a b e = grind (arith, ints)
 pub beyond_bounds : (low high z : ℤ) → FitsSigned w128 low → FitsSigned w128 high → (FitsSigned w128 z → ⊥) → is_within z (low, high) ≡ false
 beyond_bounds low high z a b h = false_from_ne_true (is_within z (low, high)) (λ e. h (fits_between low high z a b e))
 
-
 -- what the test of bounds and ranges says of passed numbers, it says of the numbers
-pub bounds_alike : (test : Bool) (n z low high : ℤ) (ranges : List (List (ℤ × ℤ))) → n ≡ z → FitsSigned w128 z → FitsSigned w128 low → FitsSigned w128 high →
-    test ≡ is_within (to_z w128 (of_z w128 n)) (to_z w128 (of_z w128 low), to_z w128 (of_z w128 high)) && meets_ranges ranges (to_z w128 (of_z w128 n)) →
+pub bounds_alike : (test : Bool) (n z l low h high : ℤ) (ranges : List (List (ℤ × ℤ))) → n ≡ z → l ≡ low → h ≡ high → FitsSigned w128 z → FitsSigned w128 low → FitsSigned w128 high →
+    test ≡ is_within (to_z w128 (of_z w128 n)) (to_z w128 (of_z w128 l), to_z w128 (of_z w128 h)) && meets_ranges ranges (to_z w128 (of_z w128 n)) →
     is_within z (low, high) && meets_ranges ranges z ≡ test
-bounds_alike test n z low high ranges e fz fl fh t =
+bounds_alike test n z l low h high ranges en el eh fz fl fh t =
     let f = λ (a b d : ℤ). is_within a (b, d) && meets_ranges ranges a in
-    let en : to_z w128 (of_z w128 n) ≡ z = ap (λ (a : ℤ). to_z w128 (of_z w128 a)) e ∙ to_z-of_z w128 z fz in
-    let el = to_z-of_z w128 low fl in
-    let eh = to_z-of_z w128 high fh in
-    sym (t ∙ ap (λ (a : ℤ). f a (to_z w128 (of_z w128 low)) (to_z w128 (of_z w128 high))) en ∙ ap (λ (b : ℤ). f z b (to_z w128 (of_z w128 high))) el ∙ ap (λ (d : ℤ). f z low d) eh)
+    let pn : to_z w128 (of_z w128 n) ≡ z = ap (λ (a : ℤ). to_z w128 (of_z w128 a)) en ∙ to_z-of_z w128 z fz in
+    let pl : to_z w128 (of_z w128 l) ≡ low = ap (λ (a : ℤ). to_z w128 (of_z w128 a)) el ∙ to_z-of_z w128 low fl in
+    let ph : to_z w128 (of_z w128 h) ≡ high = ap (λ (a : ℤ). to_z w128 (of_z w128 a)) eh ∙ to_z-of_z w128 high fh in
+    sym (t ∙ ap (λ (a : ℤ). f a (to_z w128 (of_z w128 l)) (to_z w128 (of_z w128 h))) pn ∙ ap (λ (b : ℤ). f z b (to_z w128 (of_z w128 h))) pl ∙ ap (λ (d : ℤ). f z low d) ph)
 
 -- an integer that was passed is that integer
 pub Int-passed : (n z : ℤ) → n ≡ z → FitsSigned w128 z → Int (to_z w128 (of_z w128 n)) ≡ Int z

@@ -1,3 +1,4 @@
 pub mod Paths
 pub mod Lists
 pub mod Integers
+pub mod Decimals

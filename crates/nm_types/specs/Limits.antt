@@ -1,11 +1,11 @@
 -- Ranges and lengths.
-use Rattle.std.specs.Prelude.{ℕ, ℤ, pos, negsuc, Bool, true, ◌&&◌, List, All, Any, ◌≤ℤ◌, int_le, length, ⊤, Option, Some, None, IfSome}
+use Rattle.std.specs.Prelude.{ℤ, pos, negsuc, Bool, true, ◌&&◌, List, All, Any, ◌≤ℤ◌, int_le, length, ⊤, Option, Some, None, IfSome}
 use Rattle.std.specs.List.{list_any, list_all}
 use Rattle.std.specs.Option.{option_map_or}
 use Rattle.std.specs.Str.{chars}
 use Rattle.nm_types.specs.declared.value.Value.{Value}
 use Rattle.nm_types.specs.declared.value.Value.TheVariants.{Int, Decimal, Text, Name, Bits, Empty, Present, Bool as Flag}
-use Rattle.nm_types.specs.LeafType.{Kind, integer, decimal, boolean, string, enumeration, bits, empty, TypeOfLeaf}
+use Rattle.nm_types.specs.LeafType.{Kind, integer, decimal, TypeOfLeaf}
 
 -- a number is within a part of a range, its ends included (RFC 7950 section 9.2.4)
 abbrev pub IsWithin : ℤ → ℤ × ℤ → Type 0

@@ -1,10 +1,10 @@
 -- What reading a value gives: a function of the text.
-use Rattle.std.specs.Prelude.{◌≡◌, ℕ, ◌+◌, ◌-◌, ◌*◌, ◌^◌, ℤ, pos, neg_ℤ, Bool, true, false, not, ◌&&◌, ◌||◌, List, [], ◌∷◌, ◌++◌, map, filter, fold, take, drop, length, codes, nat_lt, ◌==◌, if◌then◌else◌, slice_index, Option, Some, None, option_map, Result, Ok, Err, ⊤}
+use Rattle.std.specs.Prelude.{◌≡◌, ℕ, ◌-◌, ◌*◌, ◌^◌, ℤ, pos, neg_ℤ, Bool, true, false, not, ◌&&◌, ◌||◌, List, [], ◌∷◌, ◌++◌, map, filter, fold, take, drop, length, codes, nat_lt, ◌==◌, if◌then◌else◌, slice_index, Option, Some, None, option_map, Result, Ok, Err, ⊤}
 use Rattle.std.specs.List.{list_any, list_all, slice_split, position_or_len, before_first, after_first}
 use Rattle.std.specs.Str.{bytes_eq, all_ascii_digits}
 use Rattle.std.specs.Str.Parse.{digits_value, without_leading_sign, starts_with_minus}
 use Rattle.nm_types.specs.declared.value.Value.{Value}
-use Rattle.nm_types.specs.declared.value.Value.TheVariants.{Int, Decimal, Text, Name, Bits, Empty, Present, Bool as Flag}
+use Rattle.nm_types.specs.declared.value.Value.TheVariants.{Int, Decimal, Text, Name, Bits, Empty, Bool as Flag}
 use Rattle.nm_types.specs.declared.fault.ValueFault.{ValueFault}
 use Rattle.nm_types.specs.declared.fault.ValueFault.TheVariants.{BadText, OutOfRange, NoMemory}
 use Rattle.nm_types.specs.LeafType.{Kind, integer, decimal, boolean, string, enumeration, bits, empty, TypeOfLeaf}
@@ -27,6 +27,14 @@ integer_of text = if is_numeral (without_leading_sign text) then Some (with_sign
 abbrev pub scaled_of : ℕ → List ℕ → List ℕ → Option ℕ
 scaled_of digits whole part = if list_all (λ b. b == 48) (drop digits part) then Some (digits_value 10 (whole ++ take digits part) * 10 ^ (digits - length part)) else None
 
+-- whole digits alone
+unfoldable pub whole_of : ℕ → List ℕ → Option ℕ
+whole_of digits whole = if is_numeral whole then scaled_of digits whole [] else None
+
+-- whole digits, and those behind a point
+unfoldable pub pointed_of : ℕ → List ℕ → List ℕ → Option ℕ
+pointed_of digits whole part = if is_numeral whole && is_numeral part then scaled_of digits whole part else None
+
 abbrev pub is_point : ℕ → Bool
 is_point b = b == 46
 
@@ -34,8 +42,8 @@ is_point b = b == 46
 unfoldable pub magnitude_of : ℕ → List ℕ → Option ℕ
 magnitude_of digits rest =
     if nat_lt (position_or_len is_point rest) (length rest)
-    then (if is_numeral (before_first is_point rest) && is_numeral (after_first is_point rest) then scaled_of digits (before_first is_point rest) (after_first is_point rest) else None)
-    else (if is_numeral rest then scaled_of digits rest [] else None)
+    then pointed_of digits (before_first is_point rest) (after_first is_point rest)
+    else whole_of digits rest
 
 -- the scaled value that a text spells
 abbrev pub decimal_of : ℕ → List ℕ → Option ℤ

@@ -1,11 +1,6 @@
 -- How values are spelled, a relation between a text and a value (RFC 7950 section 9).
-use Rattle.std.specs.Prelude.{◌≡◌, ◌≢◌, ℕ, ◌+◌, ◌*◌, ◌^◌, ◌<◌, ◌⊎◌, ℤ, pos, neg_ℤ, Bool, true, false, List, [], ◌∷◌, ◌++◌, map, length, codes, Contains, All, ⊤, nat_eq, ◌==◌, fold, filter, if◌then◌else◌}
-use Rattle.std.specs.List.{list_any, IsDistinct}
-use Rattle.std.specs.Str.{bytes_eq}
+use Rattle.std.specs.Prelude.{◌≡◌, ℕ, ◌*◌, ◌^◌, ℤ, pos, neg_ℤ, List, [], ◌∷◌, ◌++◌, length}
 use Rattle.std.specs.Str.Parse.{IsNumeral, digits_value}
-use Rattle.nm_types.specs.declared.value.Value.{Value}
-use Rattle.nm_types.specs.declared.value.Value.TheVariants.{Int, Decimal, Text, Name, Bits, Empty, Present, Bool as Flag}
-use Rattle.nm_types.specs.LeafType.{Kind, integer, decimal, boolean, string, enumeration, bits, empty}
 
 -- a text is a sign and a rest that spells a magnitude: without a sign and with + it spells that number, with - its negation (RFC 7950 section 9.2.1)
 pub data IsSigned (text rest : List ℕ) (magnitude : ℕ) (z : ℤ) : Type 0 where

@@ -4,6 +4,7 @@
 //! text for each value, and on paths that order totally and are equal only where they are one path.
 #![tactic(auto)]
 
+mod decimal;
 pub mod fault;
 pub mod leaf_type;
 mod limits;

@@ -24,7 +24,11 @@ fn meets_ranges(ranges: &[Vec<(i128, i128)>], number: i128) -> bool
 }
 
 // Whether a number is within the bounds of its type and meets every range along a derivation.
-pub(crate) fn meets_bounds(bounds: &(i128, i128), ranges: &[Vec<(i128, i128)>], number: i128) -> bool
+pub(crate) fn meets_bounds(
+    bounds: &(i128, i128),
+    ranges: &[Vec<(i128, i128)>],
+    number: i128,
+) -> bool
     ensures { result ≡ is_within number bounds.now && meets_ranges (map (λ range. range.items) ranges.now) number }
 {
     is_within(bounds, number) && meets_ranges(ranges, number)

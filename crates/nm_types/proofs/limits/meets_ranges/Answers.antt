@@ -1,9 +1,9 @@
-use Rattle.std.proofs.Common.{rules, ◌≡◌, map, Vec, Global, List, ℤ, ◌∙◌, sym}
+use Rattle.std.proofs.Common.{rules, Vec, Global, ℤ, ◌∙◌, sym}
 use borrow.Author.Tests.{tests}
 use Rattle.std.specs.List.{list_any}
 use Rattle.std.proofs.lemmas.Iterator.{YieldsList-from_slice}
 use Rattle.std.proofs.lemmas.Iterator.Search.{all_from_yields_List}
-use Rattle.nm_types.specs.Limits.{is_within, meets_ranges}
+use Rattle.nm_types.specs.Limits.{is_within}
 use Rattle.nm_types.proofs.Lists.{list_all-map}
 use Rattle.nm_types.proofs.limits.meets_ranges.Goals as goal
 

@@ -1,6 +1,4 @@
-use Rattle.std.proofs.Common.{rules, ◌≡◌, ◌∙◌, sym, map, ap, FitsSigned, ℤ, refl, true, false, Ok}
-use Rattle.std.specs.Int.{w128}
-use Rattle.std.proofs.lemmas.Int.{to_z-of_z}
+use Rattle.std.proofs.Common.{◌∙◌, sym, ap, refl, true, false, Ok}
 use Rattle.std.specs.Str.Parse.{signed_digits_value}
 use Rattle.nm_types.specs.Reading.{is_numeral}
 use Rattle.nm_types.proofs.Integers.{IsNumeral-from_test, integer_bad, integer_in, integer_out, beyond_bounds, bounds_alike, Int-passed}
@@ -19,11 +17,11 @@ pub returns-then-not-meets_bounds : goal.returns-then-not-meets_bounds
 returns-then-not-meets_bounds c =
     let e = ap is_numeral (sym c.without_sign.ensures) ∙ sym c.if-not-is_numeral.ensures in
     let number = c.in-Ok.ensures.value.0 in
-    integer_out _ _ _ _ e (bounds_alike false c.in-Ok.number _ c.args.low c.args.high _ number.1 number.0.1 c.ranges.low c.ranges.high c.if-not-meets_bounds.ensures)
+    integer_out _ _ _ _ e (bounds_alike false c.in-Ok.number _ c.args.low c.args.low c.args.high c.args.high _ number.1 refl refl number.0.1 c.ranges.low c.ranges.high c.if-not-meets_bounds.ensures)
 
 pub returns : goal.returns
 returns c =
     let e = ap is_numeral (sym c.without_sign.ensures) ∙ sym c.if-not-is_numeral.ensures in
     let number = c.in-Ok.ensures.value.0 in
     ap Ok (Int-passed c.in-Ok.number _ number.1 number.0.1)
-    ∙ integer_in _ _ _ _ e (bounds_alike true c.in-Ok.number _ c.args.low c.args.high _ number.1 number.0.1 c.ranges.low c.ranges.high c.if-not-meets_bounds.ensures)
+    ∙ integer_in _ _ _ _ e (bounds_alike true c.in-Ok.number _ c.args.low c.args.low c.args.high c.args.high _ number.1 refl refl number.0.1 c.ranges.low c.ranges.high c.if-not-meets_bounds.ensures)

@@ -1,4 +1,4 @@
-use Rattle.std.proofs.Common.{◌≡◌, lit<}
+use Rattle.std.proofs.Common.{lit<}
 use Rattle.std.proofs.lemmas.Str.Pattern.{strip_prefix_char}
 use Rattle.nm_types.proofs.Integers.{no_sign}
 use Rattle.nm_types.proofs.numeral.without_sign.Goals as goal
