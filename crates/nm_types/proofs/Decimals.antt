@@ -146,15 +146,12 @@ pub option_some : (o : Option ℕ) (m : ℕ) → Some m ≡ option_map (λ m. mi
 option_some None m e = cc
 option_some (Some x) m e = let f : m ≡ min x (2 ^ 64) = cc in (x, refl, f)
 
+past : (y : ℕ) → 2 ^ 64 ≤ y → is_within (neg_ℤ (pos y)) i64_part ≡ true → ⊥
+past y g e = grind (arith, ints)
+
 -- a magnitude past 64 bits is outside them with either sign
 signed_out : (negative : Bool) (x : ℕ) → 2 ^ 64 ≤ x → is_within (cond negative (neg_ℤ (pos x)) (pos x)) i64_part ≡ false
-signed_out true x h = below x h
-  where
-    below : (y : ℕ) → 2 ^ 64 ≤ y → is_within (neg_ℤ (pos y)) i64_part ≡ false
-    below y g = false_from_ne_true _ (λ e. past y g e)
-      where
-        past : (y : ℕ) → 2 ^ 64 ≤ y → is_within (neg_ℤ (pos y)) i64_part ≡ true → ⊥
-        past y g e = grind (arith, ints)
+signed_out true x h = false_from_ne_true _ (past x h)
 signed_out false x h = grind (arith, nat_tests)
 
 module _ (d : ℕ) (ranges : List (List (ℤ × ℤ))) (text : List ℕ) where

@@ -2,3 +2,4 @@ pub mod Paths
 pub mod Lists
 pub mod Integers
 pub mod Decimals
+pub mod Texts

@@ -4,15 +4,18 @@
 //! text for each value, and on paths that order totally and are equal only where they are one path.
 #![tactic(auto)]
 
+mod bits;
 mod decimal;
 pub mod fault;
 pub mod leaf_type;
 mod limits;
 mod numeral;
 pub mod path;
+mod read;
 pub mod value;
 
 pub use fault::ValueFault;
 pub use leaf_type::{LeafType, TypeKind};
 pub use path::{Chosen, Path, Step};
+pub use read::read_value;
 pub use value::Value;

@@ -17,7 +17,7 @@ fn meets_range(range: &[(i128, i128)], number: i128) -> bool
 }
 
 // Whether a number meets every range along a derivation.
-fn meets_ranges(ranges: &[Vec<(i128, i128)>], number: i128) -> bool
+pub(crate) fn meets_ranges(ranges: &[Vec<(i128, i128)>], number: i128) -> bool
     ensures { result ≡ meets_ranges (map (λ range. range.items) ranges.now) number }
 {
     ranges.iter().all(|range| meets_range(range, number))
