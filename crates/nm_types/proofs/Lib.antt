@@ -3,3 +3,4 @@ pub mod Lists
 pub mod Integers
 pub mod Decimals
 pub mod Texts
+pub mod Writing

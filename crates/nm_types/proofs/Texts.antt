@@ -1,5 +1,5 @@
 -- Reading texts, names and bits.
-use Rattle.std.proofs.Common.{◌≡◌, ◌≢◌, ℕ, zero, suc, ◌<◌, ◌≤◌, ◌+◌, ◌^◌, Bool, true, false, cond, List, [], ◌∷◌, ◌++◌, map, take, drop, length, get_or, Option, Some, None, Result, Ok, Err, Bor, ℤ, pos, to_z, ltb, ap, refl, sym, ◌∙◌, arith, add-one, drop-cons, inl, inr, ◌-◌, length-drop}
+use Rattle.std.proofs.Common.{◌≡◌, ℕ, suc, ◌<◌, ◌≤◌, ◌+◌, ◌^◌, Bool, true, false, cond, List, [], ◌∷◌, map, take, drop, length, get_or, Option, Some, None, Ok, Err, Bor, ℤ, pos, to_z, ltb, ap, refl, sym, ◌∙◌, arith, add-one, drop-cons, inl, inr, ◌-◌, length-drop}
 use Rattle.std.proofs.lemmas.List.{take_all, drop_all}
 use Rattle.std.specs.Prelude.{◌&&◌, not, nat_lt, insert}
 use Rattle.std.specs.Int.{w128}
@@ -10,9 +10,7 @@ use Rattle.std.specs.Cmp.Lexicographic.{bytes_decides}
 use Rattle.std.proofs.lemmas.Bool.{cases_Bool, cases_lt, false_from_ne_true}
 use Rattle.std.proofs.lemmas.Int.{to_z_pos}
 use borrow.Author.Tests.{lt-ltb, ltb-true}
-use Rattle.nm_types.specs.declared.value.Value.{Value}
 use Rattle.nm_types.specs.declared.value.Value.TheVariants.{Text, Name, Bits}
-use Rattle.nm_types.specs.declared.fault.ValueFault.{ValueFault}
 use Rattle.nm_types.specs.declared.fault.ValueFault.TheVariants.{BadText, OutOfRange}
 use Rattle.nm_types.specs.LeafType.{string, enumeration, bits, TypeOfLeaf}
 use Rattle.nm_types.specs.Limits.{meets_ranges}
@@ -50,20 +48,23 @@ place_insert : (sorted : List (List ℕ × ℕ)) (b : List ℕ × ℕ) → inser
 unfolding insert_bit
 place_insert [] b = refl
 place_insert (c ∷ cs) b = elim (cases_Bool (nat_lt b.1 c.1)) [
-    inl before ↦ rw before refl
-  | inr behind ↦ (let e : 1 + position_or_len (λ (d : List ℕ × ℕ). nat_lt b.1 d.1) cs ≡ suc (position_or_len (λ (d : List ℕ × ℕ). nat_lt b.1 d.1) cs) = omega arith in rw (behind, e) (ap (λ (l : List (List ℕ × ℕ)). c ∷ l) (place_insert cs b))) ]
+  | inl before ↦ rw before refl
+  | inr behind ↦ (let e : 1 + position_or_len (λ (d : List ℕ × ℕ). nat_lt b.1 d.1) cs ≡ suc (position_or_len (λ (d : List ℕ × ℕ). nat_lt b.1 d.1) cs) = omega arith in rw (behind, e) (ap (λ (l : List (List ℕ × ℕ)). c ∷ l) (place_insert cs b)))
+]
 
 position-le : (p : List ℕ × ℕ → Bool) (xs : List (List ℕ × ℕ)) → position_or_len p xs ≤ length xs
 position-le p [] = omega arith
 position-le p (x ∷ xs) = elim (cases_Bool (p x)) [
-    inl passes ↦ rw passes (omega arith)
-  | inr fails ↦ rw fails (omega (arith, position-le p xs)) ]
+  | inl passes ↦ rw passes (omega arith)
+  | inr fails ↦ rw fails (omega (arith, position-le p xs))
+]
 
 place_is : (p n : ℕ) → p ≤ n → unwrap_or (cond (ltb p n) (Some p) None) n ≡ p
 place_is p n h = elim (cases_lt p n) [
-    inl lt ↦ (let e : ltb p n ≡ true = lt-ltb p n lt in rw e refl)
+  | inl lt ↦ (let e : ltb p n ≡ true = lt-ltb p n lt in rw e refl)
   | inr ge ↦ (let f : n ≡ p = omega arith in
-      let e : ltb p n ≡ false = false_from_ne_true (ltb p n) (λ t. omega (arith, ltb-true p n t)) in rw e f) ]
+      let e : ltb p n ≡ false = false_from_ne_true (ltb p n) (λ t. omega (arith, ltb-true p n t)) in rw e f)
+]
 
 pub place_inserts : (sorted : List (List ℕ × ℕ)) (position place : ℕ) (found : Option ℕ) →
     found ≡ cond (ltb (position_or_len (λ (c : List ℕ × ℕ). nat_lt position c.1) sorted) (length sorted)) (Some (position_or_len (λ (c : List ℕ × ℕ). nat_lt position c.1) sorted)) None →

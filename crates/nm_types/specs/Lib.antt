@@ -8,3 +8,4 @@ pub mod TypeKind
 pub mod Limits
 pub mod Spells
 pub mod Reading
+pub mod Canonical

@@ -11,7 +11,9 @@ use std::alloc::{AllocError, Global};
 fn words(alloc: Global, text: &str) -> Result<Vec<&str>, AllocError>
     ensures { IfOk result (λ all. map (λ word. word.now) all.items ≡ words text.now) }
 {
-    text.split(' ').filter(|word| !word.is_empty()).collect(alloc)
+    text.split(' ')
+        .filter(|word| !word.is_empty())
+        .collect(alloc)
 }
 
 // Whether a text is one of the words.

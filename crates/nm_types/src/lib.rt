@@ -13,9 +13,11 @@ mod numeral;
 pub mod path;
 mod read;
 pub mod value;
+mod write;
 
 pub use fault::ValueFault;
 pub use leaf_type::{LeafType, TypeKind};
 pub use path::{Chosen, Path, Step};
 pub use read::read_value;
 pub use value::Value;
+pub use write::write_value;

@@ -28,11 +28,7 @@ fn read_boolean(text: &str) -> Result<Value, ValueFault>
 
 // The text itself, if it meets every length.
 #[tactic(auto, unfolding(crate::specs::Reading::spelled))]
-fn read_text(
-    alloc: Global,
-    lengths: &[Vec<(i128, i128)>],
-    text: &str,
-) -> Result<Value, ValueFault>
+fn read_text(alloc: Global, lengths: &[Vec<(i128, i128)>], text: &str) -> Result<Value, ValueFault>
     ensures { Gives result (reading (record { kind = string; limits = map (λ range. range.items) lengths.now }) text.now) }
 {
     if !meets_ranges(lengths, text.chars().count() as i128) {
@@ -67,11 +63,7 @@ fn read_empty(text: &str) -> Result<Value, ValueFault>
 }
 
 /// The value of a type that a text spells (RFC 7950 section 9).
-pub fn read_value(
-    alloc: Global,
-    leaf_type: &LeafType,
-    text: &str,
-) -> Result<Value, ValueFault>
+pub fn read_value(alloc: Global, leaf_type: &LeafType, text: &str) -> Result<Value, ValueFault>
     ensures exact { Gives result (reading leaf_type.now text.now) }
 {
     match &leaf_type.kind {

@@ -1,4 +1,4 @@
-use Rattle.std.proofs.Common.{◌≡◌, List, ℕ, take, fold, map, filter, [], ap, ◌∙◌, subst, IfOk}
+use Rattle.std.proofs.Common.{◌≡◌, List, ℕ, fold, map, filter, [], ap, ◌∙◌, subst, IfOk}
 use Rattle.std.proofs.lemmas.List.{take_all}
 use Rattle.nm_types.specs.Reading.{bits_text, has_text, spaced}
 use Rattle.nm_types.proofs.bits.bits_text.Goals as goal

@@ -1,4 +1,4 @@
-use Rattle.std.proofs.Common.{rules, ◌≡◌, ℕ, List, Bor, ◌∙◌, sym}
+use Rattle.std.proofs.Common.{rules, ℕ, List, Bor, ◌∙◌, sym}
 use borrow.Author.Tests.{tests}
 use Rattle.std.specs.Str.{bytes_eq}
 use Rattle.std.proofs.lemmas.Iterator.{YieldsList-from_slice}

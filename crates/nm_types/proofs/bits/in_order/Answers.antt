@@ -1,4 +1,4 @@
-use Rattle.std.proofs.Common.{◌≡◌, List, ℕ, take, fold, [], ap, ◌∙◌}
+use Rattle.std.proofs.Common.{fold, [], ap, ◌∙◌}
 use Rattle.std.proofs.lemmas.List.{take_all}
 use Rattle.nm_types.specs.Reading.{insert_bit, in_order}
 use Rattle.nm_types.proofs.bits.in_order.Goals as goal

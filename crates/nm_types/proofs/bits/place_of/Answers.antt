@@ -1,4 +1,4 @@
-use Rattle.std.proofs.Common.{rules, ◌≡◌, ℕ, List, ◌∙◌, sym}
+use Rattle.std.proofs.Common.{rules, ℕ, List}
 use borrow.Author.Tests.{tests}
 use Rattle.std.specs.Prelude.{nat_lt}
 use Rattle.std.proofs.lemmas.Iterator.{YieldsList-from_slice}

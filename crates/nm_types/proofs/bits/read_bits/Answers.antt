@@ -1,4 +1,4 @@
-use Rattle.std.proofs.Common.{◌≡◌, List, ℕ, Ok, Bor, map, ap, ◌∙◌, sym}
+use Rattle.std.proofs.Common.{List, ℕ, Ok, Bor, map, ap, ◌∙◌, sym}
 use Rattle.nm_types.specs.declared.value.Value.TheVariants.{Bits}
 use Rattle.nm_types.specs.Reading.{are_bits, bits_text}
 use Rattle.nm_types.proofs.Texts.{bits_spaced, bits_bad, bits_good}
@@ -17,4 +17,4 @@ returns c =
     let found = ap (map (λ (w : Bor (List ℕ)). w.now)) c.deref.ensures.value ∙ c.in_ok-words.ensures in
     let again = ap (map (λ (w : Bor (List ℕ)). w.now)) c.deref-2.ensures.value ∙ c.in_ok-words.ensures in
     λ limits. bits_good c.args.bits.now limits c.args.text.now (c.if-has_outer_space.ensures) (c.if-not-are_bits.ensures ∙ ap (are_bits (map (λ (bit : List ℕ × ℕ). bit.0) c.args.bits.now)) found)
-        ∙ ap (λ (t : List ℕ). Ok (Bits t)) (sym (c.in_ok-bits_text.ensures ∙ ap (bits_text c.args.bits.now) again))
+    ∙ ap (λ (t : List ℕ). Ok (Bits t)) (sym (c.in_ok-bits_text.ensures ∙ ap (bits_text c.args.bits.now) again))

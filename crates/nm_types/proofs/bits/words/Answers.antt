@@ -1,4 +1,4 @@
-use Rattle.std.proofs.Common.{rules, ◌≡◌, ℕ, List, Bor, length, ◌∙◌, sym, lit<}
+use Rattle.std.proofs.Common.{rules, length, lit<}
 use borrow.Author.Tests.{tests}
 use Rattle.std.specs.Prelude.{not, ◌==◌}
 use Rattle.std.proofs.lemmas.Iterator.Splits.{YieldsList-from_str_split}
