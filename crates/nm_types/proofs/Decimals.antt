@@ -98,7 +98,7 @@ top-product x p h = elim (cases_lt (2 ^ 64) x) [
       rw (e, c, d) refl)
 ]
 
-pow-pos : (k : ℕ) → 0 < 10 ^ k
+pub pow-pos : (k : ℕ) → 0 < 10 ^ k
 pow-pos zero = lit< tt
 pow-pos (suc k) = let h : 0 < 10 ^ k = pow-pos k in rw pow-suc (omega (arith, h))
 

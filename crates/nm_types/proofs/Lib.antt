@@ -4,3 +4,7 @@ pub mod Integers
 pub mod Decimals
 pub mod Texts
 pub mod Writing
+pub mod Signs
+pub mod Powers
+pub mod Spelling
+pub mod Readings

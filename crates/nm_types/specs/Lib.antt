@@ -6,6 +6,6 @@ pub mod PathLaws
 pub mod LeafType
 pub mod TypeKind
 pub mod Limits
-pub mod Spells
 pub mod Reading
 pub mod Canonical
+pub mod Spells

@@ -1,6 +1,10 @@
--- How values are spelled, a relation between a text and a value (RFC 7950 section 9).
-use Rattle.std.specs.Prelude.{◌≡◌, ℕ, ◌*◌, ◌^◌, ℤ, pos, neg_ℤ, List, [], ◌∷◌, ◌++◌, length}
+-- How values are spelled: a relation between a text and a value of a type (RFC 7950 section 9).
+use Rattle.std.specs.Prelude.{◌≡◌, ℕ, ◌*◌, ◌^◌, ℤ, pos, neg_ℤ, Bool, true, false, List, [], ◌∷◌, ◌++◌, map, length, codes, Contains, ⊤}
 use Rattle.std.specs.Str.Parse.{IsNumeral, digits_value}
+use Rattle.nm_types.specs.declared.value.Value.{Value}
+use Rattle.nm_types.specs.declared.value.Value.TheVariants.{Int, Decimal, Text, Name, Bits, Empty, Present, Bool as Flag}
+use Rattle.nm_types.specs.LeafType.{Kind, integer, decimal, boolean, string, enumeration, bits, empty}
+use Rattle.nm_types.specs.Reading.{words, has_outer_space, bits_text}
 
 -- a text is a sign and a rest that spells a magnitude: without a sign and with + it spells that number, with - its negation (RFC 7950 section 9.2.1)
 pub data IsSigned (text rest : List ℕ) (magnitude : ℕ) (z : ℤ) : Type 0 where
@@ -14,12 +18,12 @@ pub record SpellsInteger (text : List ℕ) (z : ℤ) : Type 0 where
   pub number : IsNumeral 10 digits
   pub signed : IsSigned text digits (digits_value 10 digits) z
 
--- digits, and where there is a point, digits after it (RFC 7950 section 9.3.1)
-pub data HasParts (text whole part : List ℕ) : Type 0 where
-  pointless : text ≡ whole → part ≡ [] → HasParts text whole part
-  pointed : text ≡ whole ++ 46 ∷ part → IsNumeral 10 part → HasParts text whole part
+-- digits, and where there is a point, digits behind it (RFC 7950 section 9.3.1)
+pub data HasParts (rest whole part : List ℕ) : Type 0 where
+  pointless : rest ≡ whole → part ≡ [] → HasParts rest whole part
+  pointed : rest ≡ whole ++ 46 ∷ part → IsNumeral 10 part → HasParts rest whole part
 
--- a decimal: what is written, whole digits and digits after the point, is the scaled value over 10 to the power of the fraction digits (RFC 7950 sections 9.3.1 and 9.3.4); so zeros may follow, and no other digit beyond the fraction digits
+-- a decimal: the number that is written, digits before and behind a point, is the scaled value over 10 to the power of the fraction digits (RFC 7950 sections 9.3.1 and 9.3.4); so zeros may follow those digits, and no other digit
 pub record SpellsDecimal (digits : ℕ) (text : List ℕ) (z : ℤ) : Type 0 where
   pub rest : List ℕ
   pub whole : List ℕ
@@ -29,3 +33,26 @@ pub record SpellsDecimal (digits : ℕ) (text : List ℕ) (z : ℤ) : Type 0 whe
   pub parts : HasParts rest whole part
   pub same : digits_value 10 (whole ++ part) * 10 ^ digits ≡ scaled * 10 ^ length part
   pub signed : IsSigned text rest scaled z
+
+-- words are names, and each is another than those behind it
+abbrev pub AreNames : List (List ℕ) → List (List ℕ) → Type 0
+AreNames names [] = ⊤
+AreNames names (w ∷ ws) = Contains names w × ¬ (Contains ws w) × AreNames names ws
+
+-- bits: names in any order, each once, with runs of spaces between them and none around (RFC 7950 section 9.7.2)
+pub record SpellsBits (all : List (List ℕ × ℕ)) (text : List ℕ) (names : List ℕ) : Type 0 where
+  pub bare : has_outer_space text ≡ false
+  pub named : AreNames (map (λ bit. bit.0) all) (words text)
+  pub canonical : names ≡ bits_text all (words text)
+
+-- a text spells a value of a kind (RFC 7950 section 9)
+abbrev pub SpellsValue : Kind → List ℕ → Value → Type 0
+SpellsValue (integer low high) text (Int z) = SpellsInteger text z
+SpellsValue (decimal digits) text (Decimal z d) = (d ≡ digits) × SpellsDecimal digits text z
+SpellsValue boolean text (Flag true) = text ≡ codes "true"
+SpellsValue boolean text (Flag false) = text ≡ codes "false"
+SpellsValue string text (Text t) = t ≡ text
+SpellsValue (enumeration names) text (Name t) = (t ≡ text) × Contains names text
+SpellsValue (bits all) text (Bits t) = SpellsBits all text t
+SpellsValue empty text Empty = text ≡ []
+SpellsValue _ _ _ = ⊥
