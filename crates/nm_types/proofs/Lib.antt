@@ -8,3 +8,4 @@ pub mod Signs
 pub mod Powers
 pub mod Spelling
 pub mod Readings
+pub mod Answers

@@ -1,5 +1,7 @@
-ghost use Rattle.std.specs.Prelude.{◌≡◌, ℕ, ℤ, List, map};
+ghost use Rattle.std.specs.Prelude.{◌≡◌, ℤ, List, map, IfOk, IsErrOf};
 ghost use Rattle.nm_types.specs.LeafType.{boolean, string, enumeration, empty};
+ghost use Rattle.nm_types.specs.Limits.{MeetsLimits};
+ghost use Rattle.nm_types.specs.Spells.{SpellsValue};
 ghost use Rattle.nm_types.specs.Reading.{reading, Gives};
 
 use crate::bits::read_bits;
@@ -62,9 +64,9 @@ fn read_empty(text: &str) -> Result<Value, ValueFault>
     }
 }
 
-/// The value of a type that a text spells (RFC 7950 section 9).
-pub fn read_value(alloc: Global, leaf_type: &LeafType, text: &str) -> Result<Value, ValueFault>
-    ensures exact { Gives result (reading leaf_type.now text.now) }
+// What reading a text gives.
+fn reading(alloc: Global, leaf_type: &LeafType, text: &str) -> Result<Value, ValueFault>
+    ensures { Gives result (reading leaf_type.now text.now) }
 {
     match &leaf_type.kind {
         TypeKind::Integer { low, high } => read_integer(*low, *high, &leaf_type.limits, text),
@@ -75,4 +77,28 @@ pub fn read_value(alloc: Global, leaf_type: &LeafType, text: &str) -> Result<Val
         TypeKind::Bits(bits) => read_bits(alloc, bits, text),
         TypeKind::Empty => read_empty(text),
     }
+}
+
+/// The value of a type that a text spells (RFC 7950 section 9).
+///
+/// Integers are decimal, with or without a sign and leading zeros. Decimals may end in zeros beyond the
+/// fraction digits. Bits stand in any order with one space or more between them. Lengths count characters.
+pub fn read_value(
+    alloc: Global,
+    leaf_type: &LeafType,
+    text: &str,
+) -> Result<Value, ValueFault>
+    // Ok exactly for the spellings of a value that meets every limit.
+    ensures found { IfOk result (λ value. SpellsValue leaf_type.now.kind text.now value × MeetsLimits leaf_type.now value) }
+    ensures read { (value : Value) → SpellsValue leaf_type.now.kind text.now value → MeetsLimits leaf_type.now value → Gives result (Ok value) }
+    // BadText exactly where the text spells no value.
+    ensures bad_text { IsErrOf result ValueFault.BadText → (value : Value) → ¬ SpellsValue leaf_type.now.kind text.now value }
+    ensures not_spelled { ((value : Value) → ¬ SpellsValue leaf_type.now.kind text.now value) → Gives result (Err ValueFault.BadText) }
+    // OutOfRange exactly where it spells one that misses a limit.
+    ensures out_of_range { IsErrOf result ValueFault.OutOfRange → (value : Value) × SpellsValue leaf_type.now.kind text.now value × ¬ MeetsLimits leaf_type.now value }
+    ensures beyond { (value : Value) → SpellsValue leaf_type.now.kind text.now value → ¬ MeetsLimits leaf_type.now value → Gives result (Err ValueFault.OutOfRange) }
+    // The answer as a function of the text.
+    ensures exact { Gives result (reading leaf_type.now text.now) }
+{
+    reading(alloc, leaf_type, text)
 }
