@@ -16,20 +16,23 @@ module _ (t : TypeOfLeaf) (text : List ℕ) where
   judged-ok : (o : Option Value) (v : Value) → spelled t.kind text ≡ o → judged t o ≡ Ok v → SpellsValue t.kind text v × MeetsLimits t v
   judged-ok None v s e = cc
   judged-ok (Some w) v s e = elim (cases_Bool (meets_limits t w)) [
-      inl y ↦ (let f = rw y at e in let g : w ≡ v = cc in subst (λ (x : Value). SpellsValue t.kind text x × MeetsLimits t x) g (spelled-sound t.kind text w s, limits-sound t w y))
-    | inr n ↦ (let f = rw n at e in cc) ]
+    | inl y ↦ (let f = rw y at e in let g : w ≡ v = cc in subst (λ (x : Value). SpellsValue t.kind text x × MeetsLimits t x) g (spelled-sound t.kind text w s, limits-sound t w y))
+    | inr n ↦ (let f = rw n at e in cc)
+  ]
 
   judged-bad : (o : Option Value) → spelled t.kind text ≡ o → judged t o ≡ Err BadText → spelled t.kind text ≡ None
   judged-bad None s e = s
   judged-bad (Some w) s e = elim (cases_Bool (meets_limits t w)) [
-      inl y ↦ (let f = rw y at e in cc)
-    | inr n ↦ (let f = rw n at e in cc) ]
+    | inl y ↦ (let f = rw y at e in cc)
+    | inr n ↦ (let f = rw n at e in cc)
+  ]
 
   judged-out : (o : Option Value) → spelled t.kind text ≡ o → judged t o ≡ Err OutOfRange → (v : Value) × SpellsValue t.kind text v × (MeetsLimits t v → ⊥)
   judged-out None s e = cc
   judged-out (Some w) s e = elim (cases_Bool (meets_limits t w)) [
-      inl y ↦ (let f = rw y at e in cc)
-    | inr n ↦ (w, spelled-sound t.kind text w s, λ m. true≢false (sym (limits-complete t w m) ∙ n)) ]
+    | inl y ↦ (let f = rw y at e in cc)
+    | inr n ↦ (w, spelled-sound t.kind text w s, λ m. true≢false (sym (limits-complete t w m) ∙ n))
+  ]
 
   pub found_law : (r : Result Value ValueFault) → Gives r (reading t text) → IfOk r (λ v. SpellsValue t.kind text v × MeetsLimits t v)
   found_law (Ok v) g = judged-ok (spelled t.kind text) v refl g

@@ -54,10 +54,12 @@ cancel a b p h e = sym (mul-div_cancel a h) ∙ ap (λ (n : ℕ). n / p) e ∙ m
 -- a number and a remainder below p make a multiple of p only where there is no remainder
 no-remainder : (w r m p : ℕ) → r < p → w * p + r ≡ m * p → (w ≡ m) × (r ≡ 0)
 no-remainder w r m p h e = elim (cases_lt w m) [
-    inl lt ↦ (let a : (w + 1) * p ≤ m * p = mul-le-mul_right p (omega arith) in absurd (omega (arith, a, e, h)))
+  | inl lt ↦ (let a : (w + 1) * p ≤ m * p = mul-le-mul_right p (omega arith) in absurd (omega (arith, a, e, h)))
   | inr ge ↦ elim (cases_lt m w) [
-        inl gt ↦ (let a : (m + 1) * p ≤ w * p = mul-le-mul_right p (omega arith) in absurd (omega (arith, a, e, h)))
-      | inr le ↦ (let s : w ≡ m = omega arith in (s, (let t : w * p ≡ m * p = ap (λ (n : ℕ). n * p) s in omega (arith, e, t)))) ] ]
+    | inl gt ↦ (let a : (m + 1) * p ≤ w * p = mul-le-mul_right p (omega arith) in absurd (omega (arith, a, e, h)))
+    | inr le ↦ (let s : w ≡ m = omega arith in (s, (let t : w * p ≡ m * p = ap (λ (n : ℕ). n * p) s in omega (arith, e, t))))
+  ]
+]
 
 module _ (d : ℕ) (whole part : List ℕ) where
   number-split : digits_value 10 (whole ++ part) ≡ digits_value 10 (whole ++ take d part) * 10 ^ length (drop d part) + digits_value 10 (drop d part)
@@ -77,24 +79,24 @@ module _ (d : ℕ) (whole part : List ℕ) where
   pub scaled-complete : (m : ℕ) → AllDigits 10 part → digits_value 10 (whole ++ part) * 10 ^ d ≡ m * 10 ^ length part → (list_all (λ b. b == 48) (drop d part) ≡ true) × (digits_value 10 (whole ++ take d part) * 10 ^ (d - length part) ≡ m)
   scaled-complete m h e = elim (cases_lt d (length part)) [ inl lt ↦ long lt | inr ge ↦ short ge ]
     where
-    short : length part ≤ d → (list_all (λ b. b == 48) (drop d part) ≡ true) × (digits_value 10 (whole ++ take d part) * 10 ^ (d - length part) ≡ m)
-    short ge =
-        let none : drop d part ≡ [] = drop_all d part ge in
-        let every : take d part ≡ part = take_all d part ge in
-        let k : d - length part + length part ≡ d = omega arith in
-        let w = digits_value 10 (whole ++ part) in
-        let f : w * 10 ^ (d - length part) * 10 ^ length part ≡ m * 10 ^ length part =
-            mul_assoc w (10 ^ (d - length part)) (10 ^ length part) ∙ ap (λ (n : ℕ). w * n) (sym (pow-add 10 (d - length part) (length part)) ∙ ap (λ (n : ℕ). 10 ^ n) k) ∙ e in
-        (ap (list_all (λ b. b == 48)) none, ap (λ (l : List ℕ). digits_value 10 (whole ++ l) * 10 ^ (d - length part)) every ∙ cancel _ _ _ (pow-pos (length part)) f)
+      short : length part ≤ d → (list_all (λ b. b == 48) (drop d part) ≡ true) × (digits_value 10 (whole ++ take d part) * 10 ^ (d - length part) ≡ m)
+      short ge =
+          let none : drop d part ≡ [] = drop_all d part ge in
+          let every : take d part ≡ part = take_all d part ge in
+          let k : d - length part + length part ≡ d = omega arith in
+          let w = digits_value 10 (whole ++ part) in
+          let f : w * 10 ^ (d - length part) * 10 ^ length part ≡ m * 10 ^ length part =
+          mul_assoc w (10 ^ (d - length part)) (10 ^ length part) ∙ ap (λ (n : ℕ). w * n) (sym (pow-add 10 (d - length part) (length part)) ∙ ap (λ (n : ℕ). 10 ^ n) k) ∙ e in
+          (ap (list_all (λ b. b == 48)) none, ap (λ (l : List ℕ). digits_value 10 (whole ++ l) * 10 ^ (d - length part)) every ∙ cancel _ _ _ (pow-pos (length part)) f)
 
-    long : d < length part → (list_all (λ b. b == 48) (drop d part) ≡ true) × (digits_value 10 (whole ++ take d part) * 10 ^ (d - length part) ≡ m)
-    long lt =
-        let k : length (drop d part) + d ≡ length part = omega (arith, length-drop d part) in
-        let p = 10 ^ length (drop d part) in
-        let f : digits_value 10 (whole ++ part) * 10 ^ d ≡ m * p * 10 ^ d =
-            e ∙ ap (λ (n : ℕ). m * n) (ap (λ (n : ℕ). 10 ^ n) (sym k) ∙ pow-add 10 (length (drop d part)) d) ∙ sym (mul_assoc m p (10 ^ d)) in
-        let g : digits_value 10 (whole ++ part) ≡ m * p = cancel _ _ _ (pow-pos d) f in
-        let below : digits_value 10 (drop d part) < p = digits_value-lt 10 (drop d part) (AllDigits-drop d part h) in
-        let r = no-remainder (digits_value 10 (whole ++ take d part)) (digits_value 10 (drop d part)) m p below (sym number-split ∙ g) in
-        let none : d - length part ≡ 0 = omega arith in
-        (zeros-value (drop d part) (AllDigits-drop d part h) r.1, ap (λ (n : ℕ). digits_value 10 (whole ++ take d part) * 10 ^ n) none ∙ omega (arith, r.0))
+      long : d < length part → (list_all (λ b. b == 48) (drop d part) ≡ true) × (digits_value 10 (whole ++ take d part) * 10 ^ (d - length part) ≡ m)
+      long lt =
+          let k : length (drop d part) + d ≡ length part = omega (arith, length-drop d part) in
+          let p = 10 ^ length (drop d part) in
+          let f : digits_value 10 (whole ++ part) * 10 ^ d ≡ m * p * 10 ^ d =
+          e ∙ ap (λ (n : ℕ). m * n) (ap (λ (n : ℕ). 10 ^ n) (sym k) ∙ pow-add 10 (length (drop d part)) d) ∙ sym (mul_assoc m p (10 ^ d)) in
+          let g : digits_value 10 (whole ++ part) ≡ m * p = cancel _ _ _ (pow-pos d) f in
+          let below : digits_value 10 (drop d part) < p = digits_value-lt 10 (drop d part) (AllDigits-drop d part h) in
+          let r = no-remainder (digits_value 10 (whole ++ take d part)) (digits_value 10 (drop d part)) m p below (sym number-split ∙ g) in
+          let none : d - length part ≡ 0 = omega arith in
+          (zeros-value (drop d part) (AllDigits-drop d part h) r.1, ap (λ (n : ℕ). digits_value 10 (whole ++ take d part) * 10 ^ n) none ∙ omega (arith, r.0))

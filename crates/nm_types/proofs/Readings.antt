@@ -24,18 +24,19 @@ use Rattle.nm_types.proofs.Spelling.{decimal-sound, decimal-complete}
 pub has_text-sound : (ts : List (List ℕ)) (t : List ℕ) → has_text ts t ≡ true → Contains ts t
 has_text-sound [] t e = cc
 has_text-sound (x ∷ xs) t e = elim (cases_Bool (bytes_eq x t)) [
-    inl here ↦ (zero, omega arith, (bytes_decides x t).0 here)
-  | inr other ↦ (let p = has_text-sound xs t (rw other at e) in (suc p.0, omega (arith, p.1), p.2)) ]
+  | inl here ↦ (zero, omega arith, (bytes_decides x t).0 here)
+  | inr other ↦ (let p = has_text-sound xs t (rw other at e) in (suc p.0, omega (arith, p.1), p.2))
+]
 
 pub has_text-complete : (ts : List (List ℕ)) (t : List ℕ) → Contains ts t → has_text ts t ≡ true
 has_text-complete ts t c = at ts c.0 c.1 c.2
   where
-  at : (us : List (List ℕ)) (k : ℕ) → k < length us → get_or us k t ≡ t → has_text us t ≡ true
-  at [] k h e = absurd (omega (arith, h))
-  at (x ∷ xs) zero h e = let f : bytes_eq x t ≡ true = (bytes_decides x t).1 e in rw f refl
-  at (x ∷ xs) (suc k) h e =
-      let p = at xs k (omega (arith, h)) e in
-      elim (cases_Bool (bytes_eq x t)) [ inl f ↦ rw f refl | inr f ↦ rw f p ]
+    at : (us : List (List ℕ)) (k : ℕ) → k < length us → get_or us k t ≡ t → has_text us t ≡ true
+    at [] k h e = absurd (omega (arith, h))
+    at (x ∷ xs) zero h e = let f : bytes_eq x t ≡ true = (bytes_decides x t).1 e in rw f refl
+    at (x ∷ xs) (suc k) h e =
+        let p = at xs k (omega (arith, h)) e in
+        elim (cases_Bool (bytes_eq x t)) [ inl f ↦ rw f refl | inr f ↦ rw f p ]
 
 pub are_bits-sound : (names ws : List (List ℕ)) → are_bits names ws ≡ true → AreNames names ws
 unfolding are_bits
@@ -56,14 +57,16 @@ are_bits-complete names (w ∷ ws) h =
 bits-sound : (all : List (List ℕ × ℕ)) (text t : List ℕ) → bits_of all text ≡ Some t → SpellsBits all text t
 unfolding bits_of
 bits-sound all text t e = elim (cases_Bool (not (has_outer_space text) && are_bits (map (λ bit. bit.0) all) (words text))) [
-    inl y ↦ (let p = and_parts (not (has_outer_space text)) (are_bits (map (λ bit. bit.0) all) (words text)) y in
-        let f = rw y at e in
-        let g : t ≡ bits_text all (words text) = cc in
-        record {
-          bare = elim (cases_Bool (has_outer_space text)) [ inl s ↦ absurd (false≢true (rw s at p.0)) | inr s ↦ s ];
-          named = are_bits-sound (map (λ bit. bit.0) all) (words text) p.1;
-          canonical = g })
-  | inr n ↦ (let f = rw n at e in cc) ]
+  | inl y ↦ (let p = and_parts (not (has_outer_space text)) (are_bits (map (λ bit. bit.0) all) (words text)) y in
+      let f = rw y at e in
+      let g : t ≡ bits_text all (words text) = cc in
+      record {
+        bare = elim (cases_Bool (has_outer_space text)) [ inl s ↦ absurd (false≢true (rw s at p.0)) | inr s ↦ s ];
+        named = are_bits-sound (map (λ bit. bit.0) all) (words text) p.1;
+        canonical = g;
+      })
+  | inr n ↦ (let f = rw n at e in cc)
+]
 
 bits-complete : (all : List (List ℕ × ℕ)) (text t : List ℕ) → SpellsBits all text t → bits_of all text ≡ Some t
 unfolding bits_of
@@ -74,28 +77,31 @@ pub spelled-sound : (k : Kind) (text : List ℕ) (v : Value) → spelled k text 
 unfolding spelled
 spelled-sound (integer low high) text v e = found (integer_of text) refl e
   where
-  found : (o : Option ℤ) → integer_of text ≡ o → option_map Int o ≡ Some v → SpellsValue (integer low high) text v
-  found None f g = cc
-  found (Some z) f g = let h : Int z ≡ v = cc in subst (SpellsValue (integer low high) text) h (integer-sound text z f)
+    found : (o : Option ℤ) → integer_of text ≡ o → option_map Int o ≡ Some v → SpellsValue (integer low high) text v
+    found None f g = cc
+    found (Some z) f g = let h : Int z ≡ v = cc in subst (SpellsValue (integer low high) text) h (integer-sound text z f)
 spelled-sound (decimal d) text v e = found (decimal_of d text) refl e
   where
-  found : (o : Option ℤ) → decimal_of d text ≡ o → option_map (λ z. Decimal z d) o ≡ Some v → SpellsValue (decimal d) text v
-  found None f g = cc
-  found (Some z) f g = let h : Decimal z d ≡ v = cc in subst (SpellsValue (decimal d) text) h (refl, decimal-sound d text z f)
+    found : (o : Option ℤ) → decimal_of d text ≡ o → option_map (λ z. Decimal z d) o ≡ Some v → SpellsValue (decimal d) text v
+    found None f g = cc
+    found (Some z) f g = let h : Decimal z d ≡ v = cc in subst (SpellsValue (decimal d) text) h (refl, decimal-sound d text z f)
 spelled-sound boolean text v e = elim (cases_Bool (bytes_eq text (codes "true"))) [
-    inl y ↦ (let f = rw y at e in let h : Flag true ≡ v = cc in subst (SpellsValue boolean text) h ((bytes_decides text (codes "true")).0 y))
+  | inl y ↦ (let f = rw y at e in let h : Flag true ≡ v = cc in subst (SpellsValue boolean text) h ((bytes_decides text (codes "true")).0 y))
   | inr n ↦ (let f = rw n at e in elim (cases_Bool (bytes_eq text (codes "false"))) [
-        inl y ↦ (let g = rw y at f in let h : Flag false ≡ v = cc in subst (SpellsValue boolean text) h ((bytes_decides text (codes "false")).0 y))
-      | inr m ↦ (let g = rw m at f in cc) ]) ]
+    | inl y ↦ (let g = rw y at f in let h : Flag false ≡ v = cc in subst (SpellsValue boolean text) h ((bytes_decides text (codes "false")).0 y))
+    | inr m ↦ (let g = rw m at f in cc)
+  ])
+]
 spelled-sound string text v e = let h : Text text ≡ v = cc in subst (SpellsValue string text) h refl
 spelled-sound (enumeration names) text v e = elim (cases_Bool (has_text names text)) [
-    inl y ↦ (let f = rw y at e in let h : Name text ≡ v = cc in subst (SpellsValue (enumeration names) text) h (refl, has_text-sound names text y))
-  | inr n ↦ (let f = rw n at e in cc) ]
+  | inl y ↦ (let f = rw y at e in let h : Name text ≡ v = cc in subst (SpellsValue (enumeration names) text) h (refl, has_text-sound names text y))
+  | inr n ↦ (let f = rw n at e in cc)
+]
 spelled-sound (bits all) text v e = found (bits_of all text) refl e
   where
-  found : (o : Option (List ℕ)) → bits_of all text ≡ o → option_map Bits o ≡ Some v → SpellsValue (bits all) text v
-  found None f g = cc
-  found (Some t) f g = let h : Bits t ≡ v = cc in subst (SpellsValue (bits all) text) h (bits-sound all text t f)
+    found : (o : Option (List ℕ)) → bits_of all text ≡ o → option_map Bits o ≡ Some v → SpellsValue (bits all) text v
+    found None f g = cc
+    found (Some t) f g = let h : Bits t ≡ v = cc in subst (SpellsValue (bits all) text) h (bits-sound all text t f)
 spelled-sound empty [] v e = let h : Empty ≡ v = cc in subst (SpellsValue empty []) h refl
 spelled-sound empty (b ∷ bs) v e = let f : (length (b ∷ bs) == 0) ≡ false = false_from_ne_true (length (b ∷ bs) == 0) (λ t. omega (arith, eqb-true (length (b ∷ bs)) 0 t)) in let g = rw f at e in cc
 
@@ -152,13 +158,13 @@ limits-sound t v e =
     let p = and_parts (is_within_kind t.kind v) (option_map_or (meets_ranges t.limits) (measured v) true) e in
     (kind-sound t.kind v p.0, rest (measured v) p.1)
   where
-  rest : (o : Option ℤ) → option_map_or (meets_ranges t.limits) o true ≡ true → IfSome o (MeetsRanges t.limits)
-  rest None e = tt
-  rest (Some z) e = ranges-sound z t.limits e
+    rest : (o : Option ℤ) → option_map_or (meets_ranges t.limits) o true ≡ true → IfSome o (MeetsRanges t.limits)
+    rest None e = tt
+    rest (Some z) e = ranges-sound z t.limits e
 
 pub limits-complete : (t : TypeOfLeaf) (v : Value) → MeetsLimits t v → meets_limits t v ≡ true
 limits-complete t v h = let a = kind-complete t.kind v h.0 in let b = rest (measured v) h.1 in rw (a, b) refl
   where
-  rest : (o : Option ℤ) → IfSome o (MeetsRanges t.limits) → option_map_or (meets_ranges t.limits) o true ≡ true
-  rest None e = refl
-  rest (Some z) e = ranges-complete z t.limits e
+    rest : (o : Option ℤ) → IfSome o (MeetsRanges t.limits) → option_map_or (meets_ranges t.limits) o true ≡ true
+    rest None e = refl
+    rest (Some z) e = ranges-complete z t.limits e

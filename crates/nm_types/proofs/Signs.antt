@@ -14,10 +14,12 @@ use Rattle.nm_types.proofs.Integers.{IsNumeral-from_test, is_numeral-from_fact}
 pub signed-view : (text : List ℕ) (m : ℕ) → IsSigned text (without_leading_sign text) m (with_sign text m)
 signed-view [] m = unsigned refl refl
 signed-view (b ∷ bs) m = elim (cases_Bool (b == 45)) [
-    inl e ↦ (let f : b ≡ 45 = eqb-true b 45 e in rw e (minus (ap (λ (c : ℕ). c ∷ bs) f) refl))
+  | inl e ↦ (let f : b ≡ 45 = eqb-true b 45 e in rw e (minus (ap (λ (c : ℕ). c ∷ bs) f) refl))
   | inr e ↦ elim (cases_Bool (b == 43)) [
-        inl g ↦ (let f : b ≡ 43 = eqb-true b 43 g in rw (e, g) (plus (ap (λ (c : ℕ). c ∷ bs) f) refl))
-      | inr g ↦ rw (e, g) (unsigned refl refl) ] ]
+    | inl g ↦ (let f : b ≡ 43 = eqb-true b 43 g in rw (e, g) (plus (ap (λ (c : ℕ). c ∷ bs) f) refl))
+    | inr g ↦ rw (e, g) (unsigned refl refl)
+  ]
+]
 
 -- a text that begins with a digit
 abbrev pub DigitFirst : List ℕ → Type 0
@@ -39,10 +41,11 @@ DigitFirst-numeral ds h = digit_at ds 0 h.1 h.0
 pub integer-sound : (text : List ℕ) (z : ℤ) → integer_of text ≡ Some z → SpellsInteger text z
 unfolding integer_of
 integer-sound text z e = elim (cases_Bool (is_numeral (without_leading_sign text))) [
-    inl n ↦ (let f = rw n at e in
-        let g : with_sign text (digits_value 10 (without_leading_sign text)) ≡ z = cc in
-        record { digits = without_leading_sign text; number = IsNumeral-from_test _ n; signed = subst (IsSigned text (without_leading_sign text) (digits_value 10 (without_leading_sign text))) g (signed-view text _) })
-  | inr n ↦ (let f = rw n at e in absurd (let g : ⊥ = cc in g)) ]
+  | inl n ↦ (let f = rw n at e in
+      let g : with_sign text (digits_value 10 (without_leading_sign text)) ≡ z = cc in
+      record { digits = without_leading_sign text; number = IsNumeral-from_test _ n; signed = subst (IsSigned text (without_leading_sign text) (digits_value 10 (without_leading_sign text))) g (signed-view text _) })
+  | inr n ↦ (let f = rw n at e in absurd (let g : ⊥ = cc in g))
+]
 
 pub integer-complete : (text : List ℕ) (z : ℤ) → SpellsInteger text z → integer_of text ≡ Some z
 unfolding integer_of

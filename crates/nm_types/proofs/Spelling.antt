@@ -18,10 +18,11 @@ use Rattle.nm_types.proofs.Powers.{scaled-sound, scaled-complete}
 
 scaled_of-sound : (d : ℕ) (whole part : List ℕ) (m : ℕ) → scaled_of d whole part ≡ Some m → digits_value 10 (whole ++ part) * 10 ^ d ≡ m * 10 ^ length part
 scaled_of-sound d whole part m e = elim (cases_Bool (list_all (λ b. b == 48) (drop d part))) [
-    inl z ↦ (let f = rw z at e in
-        let g : digits_value 10 (whole ++ take d part) * 10 ^ (d - length part) ≡ m = cc in
-        scaled-sound d whole part z ∙ ap (λ (n : ℕ). n * 10 ^ length part) g)
-  | inr z ↦ (let f = rw z at e in cc) ]
+  | inl z ↦ (let f = rw z at e in
+      let g : digits_value 10 (whole ++ take d part) * 10 ^ (d - length part) ≡ m = cc in
+      scaled-sound d whole part z ∙ ap (λ (n : ℕ). n * 10 ^ length part) g)
+  | inr z ↦ (let f = rw z at e in cc)
+]
 
 scaled_of-complete : (d : ℕ) (whole part : List ℕ) (m : ℕ) → AllDigits 10 part → digits_value 10 (whole ++ part) * 10 ^ d ≡ m * 10 ^ length part → scaled_of d whole part ≡ Some m
 scaled_of-complete d whole part m h e = let p = scaled-complete d whole part m h e in rw p.0 (ap Some p.1)
@@ -30,13 +31,14 @@ scaled_of-complete d whole part m h e = let p = scaled-complete d whole part m h
 first_point : (xs : List ℕ) → position_or_len is_point xs < length xs → xs ≡ before_first is_point xs ++ 46 ∷ after_first is_point xs
 first_point [] h = absurd (omega (arith, h))
 first_point (x ∷ xs) h = elim (cases_Bool (x == 46)) [
-    inl e ↦ (let f : x ≡ 46 = eqb-true x 46 e in rw e (ap (λ (c : ℕ). c ∷ xs) f))
+  | inl e ↦ (let f : x ≡ 46 = eqb-true x 46 e in rw e (ap (λ (c : ℕ). c ∷ xs) f))
   | inr e ↦ (let n = position_or_len is_point xs in
       let one : 1 + n ≡ suc n = omega arith in
       let g = rw (e, one) at h in
       let below : n < length xs = omega (arith, g) in
       let two : suc n + 1 ≡ suc (n + 1) = omega arith in
-      rw (e, one, two) (ap (λ (l : List ℕ). x ∷ l) (first_point xs below))) ]
+      rw (e, one, two) (ap (λ (l : List ℕ). x ∷ l) (first_point xs below)))
+]
 
 -- digits hold no point
 no_point : (ds rest : List ℕ) → AllDigits 10 ds → position_or_len is_point (ds ++ rest) ≡ length ds + position_or_len is_point rest
@@ -65,17 +67,23 @@ pub record Parts (d : ℕ) (rest : List ℕ) (m : ℕ) : Type 0 where
 magnitude-sound : (d : ℕ) (rest : List ℕ) (m : ℕ) → magnitude_of d rest ≡ Some m → Parts d rest m
 unfolding magnitude_of whole_of pointed_of
 magnitude-sound d rest m e = elim (cases_Bool (ltb (position_or_len is_point rest) (length rest))) [
-    inl t ↦ (let f = rw t at e in elim (cases_Bool (is_numeral (before_first is_point rest) && is_numeral (after_first is_point rest))) [
-        inl n ↦ (let g = rw n at f in
-            let p = and_parts (is_numeral (before_first is_point rest)) (is_numeral (after_first is_point rest)) n in
-            record {
-              whole = before_first is_point rest; part = after_first is_point rest; number = IsNumeral-from_test _ p.0;
-              parts = pointed (first_point rest (ltb-true _ _ t)) (IsNumeral-from_test _ p.1);
-              same = scaled_of-sound d (before_first is_point rest) (after_first is_point rest) m g })
-      | inr n ↦ (let g = rw n at f in cc) ])
+  | inl t ↦ (let f = rw t at e in elim (cases_Bool (is_numeral (before_first is_point rest) && is_numeral (after_first is_point rest))) [
+    | inl n ↦ (let g = rw n at f in
+        let p = and_parts (is_numeral (before_first is_point rest)) (is_numeral (after_first is_point rest)) n in
+        record {
+          whole = before_first is_point rest;
+          part = after_first is_point rest;
+          number = IsNumeral-from_test _ p.0;
+          parts = pointed (first_point rest (ltb-true _ _ t)) (IsNumeral-from_test _ p.1);
+          same = scaled_of-sound d (before_first is_point rest) (after_first is_point rest) m g;
+        })
+    | inr n ↦ (let g = rw n at f in cc)
+  ])
   | inr t ↦ (let f = rw t at e in elim (cases_Bool (is_numeral rest)) [
-        inl n ↦ (let g = rw n at f in record { whole = rest; part = []; number = IsNumeral-from_test _ n; parts = pointless refl refl; same = scaled_of-sound d rest [] m g })
-      | inr n ↦ (let g = rw n at f in cc) ]) ]
+    | inl n ↦ (let g = rw n at f in record { whole = rest; part = []; number = IsNumeral-from_test _ n; parts = pointless refl refl; same = scaled_of-sound d rest [] m g })
+    | inr n ↦ (let g = rw n at f in cc)
+  ])
+]
 
 magnitude-complete : (d : ℕ) (rest : List ℕ) (m : ℕ) (whole part : List ℕ) → IsNumeral 10 whole → digits_value 10 (whole ++ part) * 10 ^ d ≡ m * 10 ^ length part → HasParts rest whole part → magnitude_of d rest ≡ Some m
 unfolding whole_of pointed_of
@@ -86,35 +94,35 @@ magnitude-complete d rest m whole part n e (pointless r p) =
     sym (magnitude_whole d rest at) ∙ rw num s
 magnitude-complete d rest m whole part n e (pointed r p) = subst (λ (l : List ℕ). magnitude_of d l ≡ Some m) (sym r) here
   where
-  here : magnitude_of d (whole ++ 46 ∷ part) ≡ Some m
-  here =
-      let at : position_or_len is_point (whole ++ 46 ∷ part) ≡ length whole = no_point whole (46 ∷ part) n.1 ∙ omega arith in
-      let within : position_or_len is_point (whole ++ 46 ∷ part) < length (whole ++ 46 ∷ part) = omega (arith, at, length-append whole (46 ∷ part)) in
-      let before : before_first is_point (whole ++ 46 ∷ part) ≡ whole = ap (λ (k : ℕ). take k (whole ++ 46 ∷ part)) at ∙ cut_before whole (46 ∷ part) in
-      let after : after_first is_point (whole ++ 46 ∷ part) ≡ part = ap (λ (k : ℕ). drop (k + 1) (whole ++ 46 ∷ part)) at ∙ cut_after whole part 46 in
-      let s = scaled_of-complete d whole part m p.1 e in
-      sym (magnitude_pointed d (whole ++ 46 ∷ part) within)
-      ∙ ap (λ (l : List ℕ). pointed_of d l (after_first is_point (whole ++ 46 ∷ part))) before
-      ∙ ap (pointed_of d whole) after
-      ∙ rw (is_numeral-from_fact whole n, is_numeral-from_fact part p) s
+    here : magnitude_of d (whole ++ 46 ∷ part) ≡ Some m
+    here =
+        let at : position_or_len is_point (whole ++ 46 ∷ part) ≡ length whole = no_point whole (46 ∷ part) n.1 ∙ omega arith in
+        let within : position_or_len is_point (whole ++ 46 ∷ part) < length (whole ++ 46 ∷ part) = omega (arith, at, length-append whole (46 ∷ part)) in
+        let before : before_first is_point (whole ++ 46 ∷ part) ≡ whole = ap (λ (k : ℕ). take k (whole ++ 46 ∷ part)) at ∙ cut_before whole (46 ∷ part) in
+        let after : after_first is_point (whole ++ 46 ∷ part) ≡ part = ap (λ (k : ℕ). drop (k + 1) (whole ++ 46 ∷ part)) at ∙ cut_after whole part 46 in
+        let s = scaled_of-complete d whole part m p.1 e in
+        sym (magnitude_pointed d (whole ++ 46 ∷ part) within)
+        ∙ ap (λ (l : List ℕ). pointed_of d l (after_first is_point (whole ++ 46 ∷ part))) before
+        ∙ ap (pointed_of d whole) after
+        ∙ rw (is_numeral-from_fact whole n, is_numeral-from_fact part p) s
 
 pub decimal-sound : (d : ℕ) (text : List ℕ) (z : ℤ) → decimal_of d text ≡ Some z → SpellsDecimal d text z
 decimal-sound d text z e = found (magnitude_of d (without_leading_sign text)) refl e
   where
-  found : (o : Option ℕ) → magnitude_of d (without_leading_sign text) ≡ o → option_map (with_sign text) o ≡ Some z → SpellsDecimal d text z
-  found None f g = cc
-  found (Some m) f g =
-      let p = magnitude-sound d (without_leading_sign text) m f in
-      let s : with_sign text m ≡ z = cc in
-      record { rest = without_leading_sign text; whole = p.whole; part = p.part; scaled = m; number = p.number; parts = p.parts; same = p.same; signed = subst (IsSigned text (without_leading_sign text) m) s (signed-view text m) }
+    found : (o : Option ℕ) → magnitude_of d (without_leading_sign text) ≡ o → option_map (with_sign text) o ≡ Some z → SpellsDecimal d text z
+    found None f g = cc
+    found (Some m) f g =
+        let p = magnitude-sound d (without_leading_sign text) m f in
+        let s : with_sign text m ≡ z = cc in
+        record { rest = without_leading_sign text; whole = p.whole; part = p.part; scaled = m; number = p.number; parts = p.parts; same = p.same; signed = subst (IsSigned text (without_leading_sign text) m) s (signed-view text m) }
 
 digit_first : (rest whole part : List ℕ) → IsNumeral 10 whole → HasParts rest whole part → DigitFirst rest
 digit_first rest whole part n (pointless r p) = subst DigitFirst (sym r) (DigitFirst-numeral whole n)
 digit_first rest whole part n (pointed r p) = subst DigitFirst (sym r) (front whole n)
   where
-  front : (w : List ℕ) → IsNumeral 10 w → DigitFirst (w ++ 46 ∷ part)
-  front [] h = absurd (omega (arith, h.0))
-  front (x ∷ xs) h = digit_from_value x h.1.0
+    front : (w : List ℕ) → IsNumeral 10 w → DigitFirst (w ++ 46 ∷ part)
+    front [] h = absurd (omega (arith, h.0))
+    front (x ∷ xs) h = digit_from_value x h.1.0
 
 pub decimal-complete : (d : ℕ) (text : List ℕ) (z : ℤ) → SpellsDecimal d text z → decimal_of d text ≡ Some z
 decimal-complete d text z s =

@@ -21,3 +21,6 @@ pub use path::{Chosen, Path, Step};
 pub use read::read_value;
 pub use value::Value;
 pub use write::write_value;
+
+#[cfg(test)]
+mod tests;

@@ -83,11 +83,7 @@ fn reading(alloc: Global, leaf_type: &LeafType, text: &str) -> Result<Value, Val
 ///
 /// Integers are decimal, with or without a sign and leading zeros. Decimals may end in zeros beyond the
 /// fraction digits. Bits stand in any order with one space or more between them. Lengths count characters.
-pub fn read_value(
-    alloc: Global,
-    leaf_type: &LeafType,
-    text: &str,
-) -> Result<Value, ValueFault>
+pub fn read_value(alloc: Global, leaf_type: &LeafType, text: &str) -> Result<Value, ValueFault>
     // Ok exactly for the spellings of a value that meets every limit.
     ensures found { IfOk result (λ value. SpellsValue leaf_type.now.kind text.now value × MeetsLimits leaf_type.now value) }
     ensures read { (value : Value) → SpellsValue leaf_type.now.kind text.now value → MeetsLimits leaf_type.now value → Gives result (Ok value) }

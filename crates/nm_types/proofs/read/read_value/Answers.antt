@@ -3,10 +3,11 @@ use Rattle.nm_types.proofs.read.read_value.Goals as goal
 
 pub returns : goal.returns
 returns c = record {
-    found = found_law c.args.leaf_type.now c.args.text.now c.reading.result c.reading.ensures;
-    read = read_law c.args.leaf_type.now c.args.text.now c.reading.result c.reading.ensures;
-    bad_text = bad_text_law c.args.leaf_type.now c.args.text.now c.reading.result c.reading.ensures;
-    not_spelled = not_spelled_law c.args.leaf_type.now c.args.text.now c.reading.result c.reading.ensures;
-    out_of_range = out_of_range_law c.args.leaf_type.now c.args.text.now c.reading.result c.reading.ensures;
-    beyond = beyond_law c.args.leaf_type.now c.args.text.now c.reading.result c.reading.ensures;
-    exact = c.reading.ensures }
+  found = found_law c.args.leaf_type.now c.args.text.now c.reading.result c.reading.ensures;
+  read = read_law c.args.leaf_type.now c.args.text.now c.reading.result c.reading.ensures;
+  bad_text = bad_text_law c.args.leaf_type.now c.args.text.now c.reading.result c.reading.ensures;
+  not_spelled = not_spelled_law c.args.leaf_type.now c.args.text.now c.reading.result c.reading.ensures;
+  out_of_range = out_of_range_law c.args.leaf_type.now c.args.text.now c.reading.result c.reading.ensures;
+  beyond = beyond_law c.args.leaf_type.now c.args.text.now c.reading.result c.reading.ensures;
+  exact = c.reading.ensures;
+}
