@@ -9,3 +9,4 @@ pub mod Powers
 pub mod Spelling
 pub mod Readings
 pub mod Answers
+pub mod Canonicals

@@ -1,9 +1,8 @@
 -- Numbers of digits, and what the digits past the fraction digits are.
-use Rattle.std.proofs.Common.{◌≡◌, ℕ, zero, suc, ◌<◌, ◌≤◌, ◌+◌, ◌-◌, ◌*◌, ◌^◌, ◌/◌, Bool, true, false, List, [], ◌∷◌, ◌++◌, length, take, drop, ap, refl, sym, ◌∙◌, arith, inl, inr, append_assoc, length-drop, length-take}
-use Rattle.std.specs.Prelude.{◌==◌, ◌&&◌}
+use Rattle.std.proofs.Common.{◌≡◌, ℕ, zero, suc, ◌<◌, ◌≤◌, ◌+◌, ◌-◌, ◌*◌, ◌^◌, ◌/◌, true, List, [], ◌∷◌, ◌++◌, length, take, drop, ap, refl, sym, ◌∙◌, arith, inl, inr, append_assoc, length-drop}
+use Rattle.std.specs.Prelude.{◌==◌}
 use Rattle.std.specs.List.{list_all}
 use Rattle.std.specs.Char.{digit_value}
-use Rattle.std.specs.Int.{IsInRange}
 use Rattle.std.specs.Str.Parse.{AllDigits, digits_value, digits_value_after}
 use Rattle.std.proofs.lemmas.Int.Digits.{digits_value-lt}
 use Rattle.std.proofs.lemmas.Str.Parse.{digit_from_value}
@@ -48,7 +47,7 @@ zeros-value (d ∷ ds) h e =
     let t : (d == 48) ≡ true = eq-eqb d 48 f in
     rw t (zeros-value ds h.1 v)
 
-cancel : (a b p : ℕ) → 0 < p → a * p ≡ b * p → a ≡ b
+pub cancel : (a b p : ℕ) → 0 < p → a * p ≡ b * p → a ≡ b
 cancel a b p h e = sym (mul-div_cancel a h) ∙ ap (λ (n : ℕ). n / p) e ∙ mul-div_cancel b h
 
 -- a number and a remainder below p make a multiple of p only where there is no remainder

@@ -1,7 +1,7 @@
 -- The relation of spelling and the limits, and the functions that decide them.
-use Rattle.std.proofs.Common.{◌≡◌, ◌≢◌, ℕ, zero, suc, ◌<◌, Bool, true, false, List, [], ◌∷◌, map, length, get_or, Option, Some, None, option_map, Result, Ok, Err, ℤ, pos, ap, refl, sym, ◌∙◌, subst, arith, inl, inr, ◌⊎◌}
-use Rattle.std.specs.Prelude.{◌&&◌, not, ◌==◌, int_le, ◌≤ℤ◌, T, All, Any, Contains, codes, IfSome, ⊤}
-use Rattle.std.specs.List.{list_all, list_any}
+use Rattle.std.proofs.Common.{◌≡◌, ℕ, zero, suc, ◌<◌, Bool, true, false, List, [], ◌∷◌, map, length, get_or, Option, Some, None, option_map, ℤ, ap, refl, sym, ◌∙◌, subst, arith, inl, inr}
+use Rattle.std.specs.Prelude.{◌&&◌, not, ◌==◌, int_le, T, Any, Contains, codes, IfSome}
+use Rattle.std.specs.List.{list_any}
 use Rattle.std.specs.Option.{option_map_or}
 use Rattle.std.specs.Int.Signed.{le_z_yes}
 use Rattle.std.specs.Str.{bytes_eq}
@@ -11,10 +11,10 @@ use Rattle.std.proofs.lemmas.List.Elements.{All-nil, All-cons, All-head, All-tai
 use Rattle.std.proofs.lemmas.List.Folds.{Any-from_list_any, list_any-from_Any}
 use borrow.Author.Tests.{eqb-true}
 use Rattle.nm_types.specs.declared.value.Value.{Value}
-use Rattle.nm_types.specs.declared.value.Value.TheVariants.{Int, Decimal, Text, Name, Bits, Empty, Present, Bool as Flag}
+use Rattle.nm_types.specs.declared.value.Value.TheVariants.{Int, Decimal, Text, Name, Bits, Empty, Bool as Flag}
 use Rattle.nm_types.specs.LeafType.{Kind, integer, decimal, boolean, string, enumeration, bits, empty, TypeOfLeaf}
 use Rattle.nm_types.specs.Limits.{IsWithin, MeetsRanges, IsWithinKind, measured, MeetsLimits, is_within, meets_ranges, is_within_kind, meets_limits, i64_part}
-use Rattle.nm_types.specs.Spells.{SpellsInteger, SpellsDecimal, AreNames, SpellsBits, SpellsValue}
+use Rattle.nm_types.specs.Spells.{AreNames, SpellsBits, SpellsValue}
 use Rattle.nm_types.specs.Reading.{integer_of, decimal_of, has_text, words, has_outer_space, are_bits, bits_text, bits_of, spelled}
 use Rattle.nm_types.proofs.Decimals.{and_parts}
 use Rattle.nm_types.proofs.Signs.{integer-sound, integer-complete}
