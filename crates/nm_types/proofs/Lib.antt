@@ -10,3 +10,5 @@ pub mod Spelling
 pub mod Readings
 pub mod Answers
 pub mod Canonicals
+pub mod BitNames
+pub mod BitTexts

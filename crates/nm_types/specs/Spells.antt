@@ -39,6 +39,16 @@ abbrev pub AreNames : List (List ℕ) → List (List ℕ) → Type 0
 AreNames names [] = ⊤
 AreNames names (w ∷ ws) = Contains names w × ¬ (Contains ws w) × AreNames names ws
 
+-- each name is another than those behind it
+abbrev pub IsOnce : List (List ℕ) → Type 0
+IsOnce [] = ⊤
+IsOnce (w ∷ ws) = ¬ (Contains ws w) × IsOnce ws
+
+-- a type as RFC 7950 section 9.7.4 wants it: no two bits have one name
+abbrev pub HasDistinctNames : Kind → Type 0
+HasDistinctNames (bits all) = IsOnce (map (λ bit. bit.0) all)
+HasDistinctNames _ = ⊤
+
 -- bits: names in any order, each once, with runs of spaces between them and none around (RFC 7950 section 9.7.2)
 pub record SpellsBits (all : List (List ℕ × ℕ)) (text : List ℕ) (names : List ℕ) : Type 0 where
   pub bare : has_outer_space text ≡ false
