@@ -1,1 +1,4 @@
+pub mod Mask
 pub mod Tag
+pub mod Decimal
+pub mod Token

@@ -4,14 +4,21 @@
 //! on labels as their bytes, and on decimals read and written as one spelling.
 #![tactic(auto)]
 
+pub mod decimal;
 pub mod fault;
 pub mod label;
+pub mod mask;
 pub mod number;
 pub mod steps;
 pub mod tag;
+#[cfg(test)]
+mod tests;
+pub mod token;
 
+pub use decimal::{read_decimal, write_decimal};
 pub use fault::{Failed, NoMemory};
 pub use label::Label;
+pub use mask::{ChangeMask, DeviceMask};
 pub use number::{ChangeNo, DeviceNo, EditNo, SelectNo, SessionId};
 pub use steps::Steps;
 pub use tag::Tag;

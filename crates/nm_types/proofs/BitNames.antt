@@ -1,18 +1,12 @@
 -- The canonical text of bits is a spelling of them.
-use Rattle.std.proofs.Common.{◌≡◌, ◌≢◌, ℕ, zero, suc, ◌<◌, ◌≤◌, ◌+◌, ◌-◌, Bool, true, false, List, [], ◌∷◌, ◌++◌, map, filter, fold, length, get_or, ap, refl, sym, ◌∙◌, subst, arith, inl, inr, append_assoc, length-append}
-use Rattle.std.specs.Prelude.{◌==◌, ◌&&◌, not, nat_lt, ◌||◌, All, Contains, ⊤, if◌then◌else◌}
-use Rattle.std.specs.List.{slice_split, onto_first, list_all, list_any}
+use Rattle.std.proofs.Common.{◌≡◌, ℕ, Bool, true, false, List, [], ◌∷◌, map, filter, fold, ap, refl, sym, ◌∙◌, subst, inl, inr}
+use Rattle.std.specs.Prelude.{◌&&◌, not, nat_lt, ◌||◌, ⊤}
+use Rattle.std.specs.List.{list_all}
 use Rattle.std.specs.Str.{bytes_eq}
-use Rattle.std.proofs.lemmas.Bool.{cases_Bool, false_from_ne_true, false≢true}
-use Rattle.std.proofs.lemmas.List.Splits.{slice_split_none, slice_split_at}
-use Rattle.std.proofs.lemmas.List.Elements.{All-nil, All-cons, All-head, All-tail}
-use borrow.Author.Tests.{eqb-true, eqb-false}
-use Rattle.nm_types.specs.Reading.{has_text, words, has_outer_space, insert_bit, in_order, spaced, bits_text}
-use Rattle.nm_types.specs.Spells.{AreNames, SpellsBits}
-use Rattle.nm_types.proofs.Readings.{are_bits-sound, has_text-complete}
+use Rattle.std.proofs.lemmas.Bool.{cases_Bool}
+use Rattle.nm_types.specs.Reading.{has_text, insert_bit}
 use Rattle.std.specs.Cmp.Lexicographic.{bytes_decides, nat_list_eq_equiv}
 use Rattle.nm_types.specs.Reading.{are_bits}
-use Rattle.nm_types.specs.Spells.{IsOnce}
 use Rattle.nm_types.proofs.Decimals.{and_parts}
 
 -- ---- membership as a test
@@ -36,8 +30,9 @@ list_all-at f [] h x m = cc
 list_all-at f (t ∷ ts) h x m =
     let p = and_parts (f t) (list_all f ts) h in
     elim (cases_Bool (bytes_eq t x)) [
-        inl e ↦ subst (λ (y : List ℕ). f y ≡ true) ((bytes_decides t x).0 e) p.0
-      | inr n ↦ list_all-at f ts p.1 x (rw n at m) ]
+      | inl e ↦ subst (λ (y : List ℕ). f y ≡ true) ((bytes_decides t x).0 e) p.0
+      | inr n ↦ list_all-at f ts p.1 x (rw n at m)
+    ]
 
 -- ---- the names of the bits in order
 
@@ -63,8 +58,9 @@ insert-has : (s : List (List ℕ × ℕ)) (b : List ℕ × ℕ) (x : List ℕ) �
 unfolding insert_bit
 insert-has [] b x = refl
 insert-has (c ∷ cs) b x = elim (cases_Bool (nat_lt b.1 c.1)) [
-    inl before ↦ rw before refl
-  | inr behind ↦ rw behind (ap (λ (o : Bool). bytes_eq c.0 x || o) (insert-has cs b x) ∙ or_swap (bytes_eq c.0 x) (bytes_eq b.0 x) (has_text (map (λ b. b.0) cs) x)) ]
+  | inl before ↦ rw before refl
+  | inr behind ↦ rw behind (ap (λ (o : Bool). bytes_eq c.0 x || o) (insert-has cs b x) ∙ or_swap (bytes_eq c.0 x) (bytes_eq b.0 x) (has_text (map (λ b. b.0) cs) x))
+]
 
 pub order-has : (s bs : List (List ℕ × ℕ)) (x : List ℕ) → has_text (map (λ b. b.0) (fold insert_bit s bs)) x ≡ has_text (map (λ b. b.0) s) x || has_text (map (λ b. b.0) bs) x
 order-has s [] x = or_false (has_text (map (λ b. b.0) s) x)
@@ -89,12 +85,13 @@ insert-once : (s : List (List ℕ × ℕ)) (b : List ℕ × ℕ) → once (map (
 unfolding insert_bit once
 insert-once [] b = refl
 insert-once (c ∷ cs) b = elim (cases_Bool (nat_lt b.1 c.1)) [
-    inl before ↦ rw before refl
+  | inl before ↦ rw before refl
   | inr behind ↦ rw behind (
       ap (λ (o : Bool). not o && once (map (λ b. b.0) (insert_bit cs b))) (insert-has cs b c.0)
       ∙ ap (λ (o : Bool). not (bytes_eq b.0 c.0 || has_text (map (λ b. b.0) cs) c.0) && o) (insert-once cs b)
       ∙ once_swap (bytes_eq b.0 c.0) (has_text (map (λ b. b.0) cs) c.0) (has_text (map (λ b. b.0) cs) b.0) (once (map (λ b. b.0) cs))
-      ∙ ap (λ (e : Bool). not (e || has_text (map (λ b. b.0) cs) b.0) && (not (has_text (map (λ b. b.0) cs) c.0) && once (map (λ b. b.0) cs))) (nat_list_eq_equiv.symm b.0 c.0)) ]
+      ∙ ap (λ (e : Bool). not (e || has_text (map (λ b. b.0) cs) b.0) && (not (has_text (map (λ b. b.0) cs) c.0) && once (map (λ b. b.0) cs))) (nat_list_eq_equiv.symm b.0 c.0))
+]
 
 -- no text of the second list is in the first
 pub Apart : List (List ℕ) → List (List ℕ) → Type 0
@@ -135,15 +132,18 @@ apart-none (x ∷ xs) = (refl, apart-none xs)
 pub chosen-has : (p : List ℕ → Bool) (ts : List (List ℕ)) (x : List ℕ) → has_text (filter p ts) x ≡ has_text ts x && p x
 chosen-has p [] x = refl
 chosen-has p (t ∷ ts) x = elim (cases_Bool (bytes_eq t x)) [
-    inl e ↦ (let same : t ≡ x = (bytes_decides t x).0 e in subst (λ (y : List ℕ). has_text (filter p (t ∷ ts)) y ≡ has_text (t ∷ ts) y && p y) same (own t ts (chosen-has p ts t)))
+  | inl e ↦ (let same : t ≡ x = (bytes_decides t x).0 e in subst (λ (y : List ℕ). has_text (filter p (t ∷ ts)) y ≡ has_text (t ∷ ts) y && p y) same (own t ts (chosen-has p ts t)))
   | inr n ↦ elim (cases_Bool (p t)) [
-        inl y ↦ rw (y, n) (chosen-has p ts x)
-      | inr m ↦ rw (m, n) (chosen-has p ts x) ] ]
+    | inl y ↦ rw (y, n) (chosen-has p ts x)
+    | inr m ↦ rw (m, n) (chosen-has p ts x)
+  ]
+]
   where
-  own : (u : List ℕ) (us : List (List ℕ)) → has_text (filter p us) u ≡ has_text us u && p u → has_text (filter p (u ∷ us)) u ≡ has_text (u ∷ us) u && p u
-  own u us g = elim (cases_Bool (p u)) [
-      inl y ↦ (let s = same_text u in rw (y, s) refl)
-    | inr m ↦ (let s = same_text u in rw (m, s) (g ∙ rw m (sym (and_false (has_text us u))))) ]
+    own : (u : List ℕ) (us : List (List ℕ)) → has_text (filter p us) u ≡ has_text us u && p u → has_text (filter p (u ∷ us)) u ≡ has_text (u ∷ us) u && p u
+    own u us g = elim (cases_Bool (p u)) [
+      | inl y ↦ (let s = same_text u in rw (y, s) refl)
+      | inr m ↦ (let s = same_text u in rw (m, s) (g ∙ rw m (sym (and_false (has_text us u)))))
+    ]
 
 pub chosen-once : (p : List ℕ → Bool) (ts : List (List ℕ)) → once ts ≡ true → once (filter p ts) ≡ true
 unfolding once
@@ -152,8 +152,9 @@ chosen-once p (t ∷ ts) h =
     let q = and_parts (not (has_text ts t)) (once ts) h in
     let none = not_parts (has_text ts t) q.0 in
     elim (cases_Bool (p t)) [
-        inl y ↦ (let g : has_text (filter p ts) t ≡ false = chosen-has p ts t ∙ rw none refl in rw y (rw g (chosen-once p ts q.1)))
-      | inr m ↦ rw m (chosen-once p ts q.1) ]
+      | inl y ↦ (let g : has_text (filter p ts) t ≡ false = chosen-has p ts t ∙ rw none refl in rw y (rw g (chosen-once p ts q.1)))
+      | inr m ↦ rw m (chosen-once p ts q.1)
+    ]
 
 pub chosen-same : (p q : List ℕ → Bool) (ts : List (List ℕ)) → ((x : List ℕ) → has_text ts x ≡ true → q x ≡ p x) → filter q ts ≡ filter p ts
 chosen-same p q [] h = refl
@@ -161,8 +162,9 @@ chosen-same p q (t ∷ ts) h =
     let e : q t ≡ p t = h t (rw (same_text t) refl) in
     let r = chosen-same p q ts (λ x m. h x (let g : bytes_eq t x || has_text ts x ≡ true = rw m (or_true (bytes_eq t x)) in g)) in
     elim (cases_Bool (p t)) [
-        inl y ↦ (let z = e ∙ y in rw (z, y) (ap (λ (l : List (List ℕ)). t ∷ l) r))
-      | inr n ↦ (let z = e ∙ n in rw (z, n) r) ]
+      | inl y ↦ (let z = e ∙ y in rw (z, y) (ap (λ (l : List (List ℕ)). t ∷ l) r))
+      | inr n ↦ (let z = e ∙ n in rw (z, n) r)
+    ]
 
 pub bits-from : (names ts : List (List ℕ)) → ((x : List ℕ) → has_text ts x ≡ true → has_text names x ≡ true) → once ts ≡ true → are_bits names ts ≡ true
 unfolding are_bits once

@@ -1,12 +1,11 @@
 -- The canonical text of bits is a spelling of them.
-use Rattle.std.proofs.Common.{◌≡◌, ◌≢◌, ℕ, zero, suc, ◌<◌, ◌≤◌, ◌+◌, ◌-◌, Bool, true, false, List, [], ◌∷◌, ◌++◌, map, filter, fold, length, get_or, ap, refl, sym, ◌∙◌, subst, arith, inl, inr, append_assoc, length-append}
-use Rattle.std.specs.Prelude.{◌==◌, ◌&&◌, ◌||◌, not, All, Contains}
+use Rattle.std.proofs.Common.{◌≡◌, ℕ, ◌<◌, ◌+◌, ◌-◌, Bool, true, false, List, [], ◌∷◌, ◌++◌, map, filter, fold, length, get_or, ap, refl, sym, ◌∙◌, arith, inl, inr, append_assoc, length-append}
+use Rattle.std.specs.Prelude.{◌==◌, ◌&&◌, ◌||◌, not, All}
 use Rattle.std.specs.List.{slice_split, onto_first, list_all}
 use Rattle.std.proofs.lemmas.Bool.{cases_Bool, false_from_ne_true}
 use Rattle.std.proofs.lemmas.List.{append-nil, get_or-append-add}
 use Rattle.std.proofs.lemmas.List.Splits.{slice_split_none, slice_split_at}
 use Rattle.std.proofs.lemmas.List.Elements.{All-nil, All-cons, All-get_or}
-use borrow.Author.Tests.{eqb-true}
 use Rattle.nm_types.specs.Reading.{has_text, words, has_outer_space, are_bits, in_order, spaced, bits_text}
 use Rattle.nm_types.specs.Spells.{IsOnce, SpellsBits}
 use Rattle.nm_types.proofs.Decimals.{and_parts}
@@ -34,16 +33,18 @@ onto-spaceless c (part ∷ parts) e h = rw e h
 split-spaceless : (text : List ℕ) → list_all no_space (slice_split is_space text) ≡ true
 split-spaceless [] = refl
 split-spaceless (c ∷ text) = elim (cases_Bool (c == 32)) [
-    inl y ↦ rw y (split-spaceless text)
-  | inr n ↦ rw n (onto-spaceless c (slice_split is_space text) n (split-spaceless text)) ]
+  | inl y ↦ rw y (split-spaceless text)
+  | inr n ↦ rw n (onto-spaceless c (slice_split is_space text) n (split-spaceless text))
+]
 
 filter-words : (parts : List (List ℕ)) → list_all no_space parts ≡ true → list_all is_word (filter is_filled parts) ≡ true
 filter-words [] h = refl
 filter-words (w ∷ ws) h =
     let p = and_parts (no_space w) (list_all no_space ws) h in
     elim (cases_Bool (is_filled w)) [
-        inl y ↦ (let a = p.0 in rw y (rw (y, a) (filter-words ws p.1)))
-      | inr n ↦ rw n (filter-words ws p.1) ]
+      | inl y ↦ (let a = p.0 in rw y (rw (y, a) (filter-words ws p.1)))
+      | inr n ↦ rw n (filter-words ws p.1)
+    ]
 
 -- the words of a text are words
 words-are-words : (text : List ℕ) → list_all is_word (words text) ≡ true
@@ -161,4 +162,5 @@ bits-canonical all text t distinct s =
     record {
       bare = ap has_outer_space s.canonical ∙ bare-spaced ns ns-words;
       named = are_bits-sound names (words t) (ap (are_bits names) back ∙ bits-from names ns ns-names ns-once);
-      canonical = s.canonical ∙ ap (fold spaced []) (sym same) ∙ ap (λ (l : List (List ℕ)). fold spaced [] (filter (has_text l) sorted)) (sym back) }
+      canonical = s.canonical ∙ ap (fold spaced []) (sym same) ∙ ap (λ (l : List (List ℕ)). fold spaced [] (filter (has_text l) sorted)) (sym back);
+    }

@@ -12,3 +12,4 @@ pub mod Answers
 pub mod Canonicals
 pub mod BitNames
 pub mod BitTexts
+pub mod Written

@@ -1,5 +1,6 @@
 -- The canonical text of a value.
-use Rattle.std.specs.Prelude.{ℕ, ◌+◌, ◌-◌, ◌==◌, ℤ, pos, true, false, List, [], ◌∷◌, ◌++◌, take, drop, length, replicate, codes, int_lt, unsigned_abs, if◌then◌else◌}
+use Rattle.std.specs.Prelude.{ℕ, ◌+◌, ◌-◌, ◌==◌, ℤ, pos, true, false, List, [], ◌∷◌, ◌++◌, take, drop, length, replicate, codes, int_lt, unsigned_abs, if◌then◌else◌, FitsSigned, ⊤}
+use Rattle.std.specs.Int.{w64, w128}
 use Rattle.std.specs.Fmt.{decimal, signed_decimal}
 use Rattle.nm_types.specs.declared.value.Value.{Value}
 use Rattle.nm_types.specs.declared.value.Value.TheVariants.{Int, Decimal, Text, Name, Bits, Empty, Present, Bool as Flag}
@@ -50,3 +51,9 @@ canonical (Name t) = t
 canonical (Bits t) = t
 canonical Empty = []
 canonical Present = []
+
+-- a number is one that a `Value` holds
+abbrev pub IsHeld : Value → Type 0
+IsHeld (Int z) = FitsSigned w128 z
+IsHeld (Decimal z digits) = FitsSigned w64 z
+IsHeld _ = ⊤

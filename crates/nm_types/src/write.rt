@@ -1,6 +1,7 @@
-ghost use Rattle.std.specs.Prelude.{◌≡◌, ◌<◌, ◌++◌, vec_len, IfOk, OnOk, string_bytes};
+ghost use Rattle.std.specs.Prelude.{◌≡◌, ◌<◌, ◌++◌, ℕ, List, vec_len, IfOk, OnOk, string_bytes};
 ghost use Rattle.std.specs.Str.{IsAscii};
-ghost use Rattle.nm_types.specs.Canonical.{minus, padded, shortened, at_least_one, decimal_text, canonical};
+ghost use Rattle.nm_types.specs.Canonical.{minus, padded, shortened, at_least_one, decimal_text, canonical, IsHeld};
+ghost use Rattle.nm_types.specs.Spells.{SpellsValue, HasDistinctNames};
 
 use crate::leaf_type::LeafType;
 use crate::value::Value;
@@ -74,10 +75,11 @@ fn write_decimal(alloc: Global, scaled: i64, digits: u8) -> Result<Label, NoMemo
     Label::new(alloc, text.as_str())
 }
 
-/// The canonical text of a value (RFC 7950 section 9). It is the same for every type that has the value.
+// The canonical text of a value, and that the value's number is one that it can hold.
 #[tactic(auto, unfolding(crate::specs::Canonical::canonical))]
-pub fn write_value(alloc: Global, _leaf_type: &LeafType, value: &Value) -> Result<Label, NoMemory>
+fn canonical_text(alloc: Global, value: &Value) -> Result<Label, NoMemory>
     ensures text { IfOk result (λ label. label ≡ canonical value.now) }
+    ensures held { IsHeld value.now }
 {
     match value {
         Value::Int(number) => {
@@ -92,4 +94,16 @@ pub fn write_value(alloc: Global, _leaf_type: &LeafType, value: &Value) -> Resul
         Value::Bits(names) => names.copy(),
         Value::Empty | Value::Present => Label::new(alloc, ""),
     }
+}
+
+/// The canonical text of a value of a type (RFC 7950 section 9).
+///
+/// It depends on the value alone: all spellings of a value have one canonical text.
+pub fn write_value(alloc: Global, _leaf_type: &LeafType, value: &Value) -> Result<Label, NoMemory>
+    ensures text { IfOk result (λ label. label ≡ canonical value.now) }
+    // It spells the value where anything does; so it is read again as the value.
+    ensures spells { IfOk result (λ label. (text : List ℕ) → HasDistinctNames _leaf_type.now.kind →
+        SpellsValue _leaf_type.now.kind text value.now → SpellsValue _leaf_type.now.kind label value.now) }
+{
+    canonical_text(alloc, value)
 }

@@ -1,0 +1,62 @@
+-- What is said without the bytes of the input, and what is said where there were too many.
+use Rattle.std.proofs.Common.{◌≡◌, ℕ, ◌<◌, ◌+◌, List, [], length, Option, Some, None, Result, Ok, Err, IfSome, unwrap_or, replicate, Bool, true, cond, refl, sym, ap, subst, arith, lt-ltb}
+use Rattle.std.proofs.lemmas.List.{length-replicate}
+use Rattle.nm_scenario.specs.declared.fault.ScenarioKind.TheVariants.{TooLong}
+use Rattle.nm_scenario.specs.declared.fault.Fault.{Fault}
+use Rattle.nm_scenario.specs.declared.scenario.Scenario.{Scenario}
+use Rattle.nm_scenario.specs.Reading.{here}
+use Rattle.nm_scenario.specs.Scenario.{byte_limit, scenario_from, scenario_of, json_of}
+use Rattle.nm_console.specs.declared.status.Status.{Status}
+use Rattle.nm_console.specs.declared.command.Command.TheVariants.{Replay}
+use Rattle.nm_console.specs.Console.{Tells, Says, KeepsItsDecision, answer, faulted, replayed, course_of}
+use Rattle.nm_proto.specs.FlatContent.{flat_meaning}
+use Rattle.nm_console.proofs.Safe.{run_is_safe}
+
+held : (left : Option (List ℕ)) (other : List ℕ) → IfSome left (λ told. told ≡ unwrap_or left other)
+held None other = tt
+held (Some told) other = refl
+
+-- the world of every scenario keeps the decision of its change set
+pub keeps : (read : Result Scenario Fault) → KeepsItsDecision read
+keeps (Err fault) = tt
+keeps (Ok s) = λ plan at. run_is_safe flat_meaning s.edits (course_of plan) s.devices plan.edits s.events
+
+pub bytes_say : (left : Option (List ℕ)) (bytes : List ℕ) (status : Status) (text : List ℕ) → IfSome left (λ told. told ≡ bytes) → Tells (replayed (scenario_of bytes)) status text → Says left (Some Replay) status text
+bytes_say left bytes status text h tells = record { bytes = bytes; held = h; tells = tells; kept = keeps (scenario_of bytes) }
+
+pub usage_says : (left : Option (List ℕ)) (status : Status) (text : List ℕ) → Tells (answer None []) status text → Says left None status text
+usage_says left status text tells = record { bytes = unwrap_or left []; held = held left []; tells = tells; kept = keeps (scenario_of (unwrap_or left [])) }
+
+pub scenario_of-too_long : (bytes : List ℕ) → byte_limit < length bytes → scenario_of bytes ≡ here TooLong
+unfolding scenario_of
+scenario_of-too_long bytes long = ap (λ t. cond t (here TooLong) (scenario_from (json_of bytes))) (lt-ltb byte_limit (length bytes) long)
+
+-- so many bytes
+many : ℕ → List ℕ
+many n = replicate n 0
+
+length-many : (n : ℕ) → length (many n) ≡ n
+unfolding many
+length-many n = length-replicate n 0
+
+more : List ℕ
+more = many (byte_limit + 1)
+
+length-more : byte_limit < length more
+unfolding more
+length-more = omega (arith, length-many (byte_limit + 1))
+
+too_long : (left : Option (List ℕ)) → IfSome left (λ told. byte_limit < length told) → byte_limit < length (unwrap_or left more)
+too_long None h = length-more
+too_long (Some told) h = h
+
+pub too_long_says : (left : Option (List ℕ)) (status : Status) (text : List ℕ) → IfSome left (λ told. byte_limit < length told) → Tells (faulted TooLong) status text → Says left (Some Replay) status text
+too_long_says left status text h tells =
+    record {
+      bytes = unwrap_or left more;
+      held = held left more;
+      kept = keeps (scenario_of (unwrap_or left more));
+      tells = subst (λ read. Tells (replayed read) status text) (sym (scenario_of-too_long (unwrap_or left more) (too_long left h))) tells;
+    }
+
+pub ruleset saying = (usage_says, too_long_says, bytes_say)

@@ -1,0 +1,10 @@
+pub mod Device
+pub mod Course
+pub mod World
+pub mod Outcome
+pub mod Support
+pub mod Status
+pub mod Words
+pub mod Report
+pub mod Text
+pub mod Console

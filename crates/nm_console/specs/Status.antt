@@ -1,0 +1,25 @@
+-- The exit statuses (this project's own).
+use Rattle.std.specs.Prelude.{ℕ, Bool, true, false}
+use Rattle.nm_console.specs.declared.status.Status.{Status}
+use Rattle.nm_console.specs.declared.status.Status.TheVariants as status
+
+abbrev pub status_code : Status → ℕ
+status_code status.Ok = 0
+status_code status.Differ = 1
+status_code status.Usage = 2
+status_code status.Scenario = 3
+status_code status.ReadFault = 4
+status_code status.WriteFault = 5
+status_code status.NoMemory = 8
+status_code status.Unsettled = 10
+
+-- the whole answer was written
+abbrev pub is_whole : Status → Bool
+is_whole status.Ok = true
+is_whole status.Differ = true
+is_whole status.Usage = true
+is_whole status.Scenario = true
+is_whole status.ReadFault = false
+is_whole status.WriteFault = false
+is_whole status.NoMemory = false
+is_whole status.Unsettled = true

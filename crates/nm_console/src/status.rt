@@ -1,0 +1,42 @@
+ghost use Rattle.std.specs.Prelude.{◌≡◌};
+
+/// How the program ended. Its number is the exit status.
+#[derive(Clone, Copy, Debug, PartialEq, Eq)]
+pub enum Status {
+    /// The text was written whole, and each device has what it should.
+    Ok,
+    /// The text was written whole, and a device lost a change set that was to be committed.
+    Differ,
+    /// The words are not words of the program.
+    Usage,
+    /// The input is no scenario.
+    Scenario,
+    /// The input failed. Nothing was written.
+    ReadFault,
+    /// The output failed.
+    WriteFault,
+    /// Memory ran out. Nothing was written.
+    NoMemory,
+    /// The text was written whole, and a device of a change set is not settled.
+    Unsettled,
+}
+
+impl Status {
+    ghost use Rattle.nm_console.specs.Status.{status_code};
+
+    /// The exit status.
+    pub fn code(self) -> u8
+        ensures { result ≡ status_code self }
+    {
+        match self {
+            Status::Ok => 0,
+            Status::Differ => 1,
+            Status::Usage => 2,
+            Status::Scenario => 3,
+            Status::ReadFault => 4,
+            Status::WriteFault => 5,
+            Status::NoMemory => 8,
+            Status::Unsettled => 10,
+        }
+    }
+}

@@ -1,0 +1,5 @@
+pub mod Message
+pub mod Content
+pub mod NumberMap
+pub mod Flat
+pub mod FlatContent

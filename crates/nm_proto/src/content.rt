@@ -1,0 +1,134 @@
+ghost use Rattle.std.specs.Prelude.{◌≡◌, ℕ, List, IfOk};
+ghost use Rattle.nm_proto.specs.Content.{Meaning, Laws, Applies, Checks};
+
+use crate::message::{DefaultOperation, Marks};
+use nm_base::{ChangeNo, Label, NoMemory, Tag};
+use std::error::Error;
+use std::fmt;
+
+/// What a kind of configurations is: edits, validity and marks. Devices, managers and worlds are written
+/// once over it. A content that holds a collection keeps its allocator, so no call takes one.
+pub trait Content {
+    type Config: Drop;
+
+    type Edit: Drop;
+
+    type Node: Drop;
+
+    /// What the configurations, the edits and the nodes mean.
+    ghost meaning: { Self → Meaning Self.Config Self.Edit Self.Node };
+
+    /// An equal configuration.
+    fn copy(&self, config: &Self::Config) -> Result<Self::Config, NoMemory>
+        requires { (meaning self.now).belongs config.now }
+        ensures value { IfOk result (λ copied. copied ≡ config.now) }
+        ensures belongs { IfOk result (meaning self.now).belongs };
+
+    /// The configuration after an edit: the edit first, then the marks of `remove` taken away, then the
+    /// mark of `add` added (RFC 6241 section 7.2).
+    fn apply(
+        &self,
+        config: &Self::Config,
+        edit: &Self::Edit,
+        default_operation: DefaultOperation,
+        marks: Option<Marks>,
+    ) -> Result<Self::Config, ApplyFault>
+        requires config { (meaning self.now).belongs config.now }
+        requires edit { (meaning self.now).edit_belongs edit.now }
+        ensures applied { Applies result ((meaning self.now).edited config.now edit.now default_operation marks) }
+        ensures belongs { IfOk result (meaning self.now).belongs };
+
+    /// Whether the configuration is valid (RFC 7950 section 8).
+    fn check(&self, config: &Self::Config) -> Result<(), CheckFault>
+        requires { (meaning self.now).belongs config.now }
+        ensures checked { Checks result ((meaning self.now).violation config.now) };
+
+    /// Whether the mark of a change set is in the configuration. It takes no memory.
+    fn has_mark(&self, config: &Self::Config, change: ChangeNo) -> bool
+        ensures { result ≡ (meaning self.now).has_mark config.now change };
+
+    ghost laws: { (x : Self) → Laws (meaning x) };
+}
+
+/// A content whose configurations can be printed.
+pub trait Show: Content {
+    /// The text of a configuration.
+    ghost shown: { Self → Self.Config → List ℕ };
+
+    /// The text of a configuration, in bytes of UTF-8.
+    fn text(&self, config: &Self::Config) -> Result<Vec<u8>, NoMemory>
+        requires { (Self.meaning self.now).belongs config.now }
+        ensures { IfOk result (λ text. text.items ≡ shown self.now config.now) };
+}
+
+/// What requests name by number: edits, and lists of selected nodes.
+pub struct Tables<C: Content> {
+    pub edits: Vec<C::Edit>,
+    pub selects: Vec<Vec<Label>>,
+}
+
+impl<C: Content> Drop for Tables<C> {
+    fn drop(self) {
+        let Tables { edits, selects } = self;
+        drop(edits);
+        drop(selects);
+    }
+}
+
+/// Why an edit was not applied.
+#[derive(Debug, Drop)]
+pub enum ApplyFault {
+    /// The error tag and the path at fault (RFC 6241 section 4.3).
+    Refused { tag: Tag, path: Label },
+    NoMemory,
+}
+
+/// Why a configuration is not said to be valid.
+#[derive(Debug, Drop)]
+pub enum CheckFault {
+    /// The error tag and the path at fault (RFC 7950 section 15).
+    Violation { tag: Tag, path: Label },
+    NoMemory,
+}
+
+impl From<NoMemory> for ApplyFault {
+    ghost use Rattle.nm_proto.specs.declared.content.ApplyFault.TheVariants as apply;
+
+    ghost from_gives = { λ _ fault. fault ≡ apply.NoMemory };
+
+    fn from(_fault: NoMemory) -> ApplyFault {
+        ApplyFault::NoMemory
+    }
+}
+
+impl From<NoMemory> for CheckFault {
+    ghost use Rattle.nm_proto.specs.declared.content.CheckFault.TheVariants as check;
+
+    ghost from_gives = { λ _ fault. fault ≡ check.NoMemory };
+
+    fn from(_fault: NoMemory) -> CheckFault {
+        CheckFault::NoMemory
+    }
+}
+
+impl fmt::Display for ApplyFault {
+    fn fmt<W: fmt::Write>(&self, f: &mut fmt::Formatter<W>) -> fmt::Result {
+        match self {
+            ApplyFault::Refused { tag, path } => write!(f, "refused with {tag} at {path}"),
+            ApplyFault::NoMemory => f.write_str("out of memory"),
+        }
+    }
+}
+
+impl Error for ApplyFault {}
+
+impl fmt::Display for CheckFault {
+    fn fmt<W: fmt::Write>(&self, f: &mut fmt::Formatter<W>) -> fmt::Result {
+        match self {
+            CheckFault::Violation { tag, path } => write!(f, "not valid with {tag} at {path}"),
+            CheckFault::NoMemory => f.write_str("out of memory"),
+        }
+    }
+}
+
+impl Error for CheckFault {}

@@ -1,0 +1,201 @@
+use super::*;
+use nm_base::{ChangeMask, ChangeNo, Label, NoMemory, Tag, write_decimal};
+use std::alloc::Global;
+use std::test::Fail;
+use std::thread;
+
+fn cells_of(alloc: Global, pairs: &[(u32, u64)]) -> Result<NumberMap<u64>, NoMemory> {
+    let mut cells = NumberMap::new(alloc);
+    for (key, value) in pairs {
+        cells.insert(*key, *value)?;
+    }
+    Ok(cells)
+}
+
+fn edit_of(alloc: Global, pairs: &[(u32, Option<u64>)]) -> Result<FlatEdit, NoMemory> {
+    let mut changes = NumberMap::new(alloc);
+    for (key, change) in pairs {
+        changes.insert(*key, *change)?;
+    }
+    Ok(FlatEdit { changes })
+}
+
+#[test]
+fn requests_are_copied(rt: HostRuntime) -> Result<(), Fail> {
+    let commit = Request::Commit {
+        confirmed: true,
+        timeout: Some(600),
+        persist: Some(Label::new(rt.alloc(), "netm:1")?),
+        persist_id: None,
+    };
+    assert!(rt; commit.copy()?.same(&commit));
+    assert!(rt; !commit.same(&Request::Validate));
+    Ok(())
+}
+
+#[test]
+fn replies_are_copied(rt: HostRuntime) -> Result<(), Fail> {
+    let error = Reply::Error {
+        tag: Tag::InvalidValue,
+        session: None,
+        path: Some(Label::new(rt.alloc(), "7")?),
+    };
+    assert!(rt; error.copy()?.same(&error));
+    assert!(rt; !error.same(&Reply::Mark(true)));
+    Ok(())
+}
+
+// The entries of a map as text, `7 1 8 2 `.
+fn listed(alloc: Global, map: &NumberMap<u64>) -> Result<Vec<u8>, NoMemory> {
+    let mut out = Vec::new(alloc);
+    for (number, value) in map.iter() {
+        write_decimal(u64::from(*number), &mut out)?;
+        out.push(b' ')?;
+        write_decimal(*value, &mut out)?;
+        out.push(b' ')?;
+    }
+    Ok(out)
+}
+
+#[test]
+fn maps_ascend(rt: HostRuntime) -> Result<(), Fail> {
+    let mut map = cells_of(rt.alloc(), &[(9, 3), (7, 1), (8, 2)])?;
+    assert_eq!(rt; map.insert(7, 4)?, Some(1));
+    assert_eq!(rt; map.remove(9), Some(3));
+    let copied = map.copy()?;
+    assert_eq!(rt;
+        listed(rt.alloc(), &copied)?.as_slice(),
+        b"7 4 8 2 ".as_slice()
+    );
+    Ok(())
+}
+
+// Whether `{"7":1,"8":5}` has this text after `{"7":2,"8":null}`, with the mark of change set 1.
+fn becomes(alloc: Global, operation: DefaultOperation, want: &str) -> Result<bool, ApplyFault> {
+    let content = FlatContent::new(alloc);
+    let config = FlatConfig::new(alloc, cells_of(alloc, &[(7, 1), (8, 5)])?);
+    let edit = edit_of(alloc, &[(7, Some(2)), (8, None)])?;
+    let marks = ChangeNo::new(1).map(|add| Marks {
+        add,
+        remove: ChangeMask(0),
+    });
+    let edited = content.apply(&config, &edit, operation, marks)?;
+    Ok(content.text(&edited)?.as_slice() == want.as_bytes())
+}
+
+// Each default operation of RFC 6241 section 7.2, worked out by hand.
+#[test]
+fn edits_give_their_texts(rt: HostRuntime) -> Result<(), Fail> {
+    let merged = becomes(
+        rt.alloc(),
+        DefaultOperation::Merge,
+        "{\"7\":2,\"marks\":[1]}",
+    )?;
+    let replaced = becomes(
+        rt.alloc(),
+        DefaultOperation::Replace,
+        "{\"7\":2,\"marks\":[1]}",
+    )?;
+    let kept = becomes(
+        rt.alloc(),
+        DefaultOperation::Nothing,
+        "{\"7\":1,\"8\":5,\"marks\":[1]}",
+    )?;
+    assert!(rt; merged);
+    assert!(rt; replaced);
+    assert!(rt; kept);
+    Ok(())
+}
+
+// Takes the marks of `remove` away from a configuration, and then adds one.
+fn marked(alloc: Global, config: &FlatConfig, add: u32, remove: u64) -> Result<FlatConfig, Fail> {
+    let marks = Marks {
+        add: ChangeNo::new(add).ok_or("range")?,
+        remove: ChangeMask(remove),
+    };
+    let edit = edit_of(alloc, &[])?;
+    Ok(FlatContent::new(alloc).apply(config, &edit, DefaultOperation::Merge, Some(marks))?)
+}
+
+// A mark that goes and comes in one edit is there.
+#[test]
+fn marks_go_and_come(rt: HostRuntime) -> Result<(), Fail> {
+    let content = FlatContent::new(rt.alloc());
+    let config = FlatConfig::new(rt.alloc(), cells_of(rt.alloc(), &[])?);
+    let config = marked(rt.alloc(), &config, 64, 0)?;
+    let config = marked(rt.alloc(), &config, 2, 0)?;
+    let config = marked(rt.alloc(), &config, 1, 0x8000_0000_0000_0001)?;
+    let text = content.text(&config)?;
+    assert_eq!(rt; text.as_slice(), b"{\"marks\":[1,2]}".as_slice());
+    assert!(rt; content.has_mark(&config, ChangeNo::new(2).ok_or("2")?));
+    Ok(())
+}
+
+// The tag and the path of a refusal.
+fn refusal_of(answer: Result<FlatConfig, ApplyFault>) -> Option<(Tag, Label)> {
+    match answer {
+        Err(ApplyFault::Refused { tag, path }) => Some((tag, path)),
+        Err(ApplyFault::NoMemory) => None,
+        Ok(_) => None,
+    }
+}
+
+#[test]
+fn refusals_name_the_least_key(rt: HostRuntime) -> Result<(), Fail> {
+    let config = FlatConfig::new(rt.alloc(), cells_of(rt.alloc(), &[(7, 1)])?);
+    let edit = edit_of(rt.alloc(), &[(11, None), (7, Some(2)), (10, Some(3))])?;
+    let content = FlatContent::new(rt.alloc());
+    let answer = content.apply(&config, &edit, DefaultOperation::Nothing, None);
+    let (tag, path) = refusal_of(answer).ok_or("applied")?;
+    assert_eq!(rt; tag, Tag::DataMissing);
+    assert_eq!(rt; path.as_str(), "10");
+    Ok(())
+}
+
+// The tag and the path of a violation.
+fn violation_of(answer: Result<(), CheckFault>) -> Option<(Tag, Label)> {
+    match answer {
+        Err(CheckFault::Violation { tag, path }) => Some((tag, path)),
+        Err(CheckFault::NoMemory) => None,
+        Ok(()) => None,
+    }
+}
+
+// What `check` says of some cells: None where they are valid.
+fn violation_at(alloc: Global, pairs: &[(u32, u64)]) -> Result<Option<(Tag, Label)>, NoMemory> {
+    let content = FlatContent::new(alloc);
+    let config = FlatConfig::new(alloc, cells_of(alloc, pairs)?);
+    Ok(violation_of(content.check(&content.copy(&config)?)))
+}
+
+// A cell holds at most 1,000,000.
+#[test]
+fn violations_name_the_least_key(rt: HostRuntime) -> Result<(), Fail> {
+    let greatest = violation_at(rt.alloc(), &[(7, 1_000_000)])?;
+    assert!(rt; greatest.is_none());
+    let above = violation_at(
+        rt.alloc(),
+        &[(9, 1_000_002), (8, 1_000_001), (7, 1_000_000)],
+    )?;
+    let (tag, path) = above.ok_or("valid")?;
+    assert_eq!(rt; tag, Tag::InvalidValue);
+    assert_eq!(rt; path.as_str(), "8");
+    Ok(())
+}
+
+// A configuration, an edit and a node can be shared with a thread, sent to it and sent back.
+#[test]
+fn contents_cross_threads(rt: HostRuntime) -> Result<(), Fail> {
+    let config = FlatConfig::new(rt.alloc(), cells_of(rt.alloc(), &[(7, 1)])?);
+    let edit = edit_of(rt.alloc(), &[(7, Some(2))])?;
+    let node = FlatNode(7);
+    let (there, here) = thread::join(
+        &rt,
+        || config.cells().contains(node.0) && edit.changes.contains(node.0),
+        || config.cells().contains(node.0),
+    );
+    assert!(rt; there && here);
+    let ((config, edit, node), ()) = thread::join(&rt, move || (config, edit, node), || ());
+    assert!(rt; config.cells().contains(node.0) && edit.changes.contains(node.0));
+    Ok(())
+}

@@ -1,0 +1,104 @@
+-- Reading the parts of a JSON value: what is there, or the first fault with its place (this project's own).
+-- The code builds its values piece by piece; these are functions from JSON values to values.
+use Rattle.std.specs.Prelude.{◌≡◌, ℕ, ◌+◌, List, [], ◌∷◌, ◌++◌, Bool, true, false, not, nat_lt, Option, Some, None, Result, Ok, Err, if◌then◌else◌}
+use Rattle.serde_json.specs.Data.{Data, null, boolean, number, string, array, object, Items, no_items, item, Members, no_members, member}
+use Rattle.serde_json.specs.Find.{get}
+use Rattle.nm_scenario.specs.declared.fault.ScenarioKind.{ScenarioKind}
+use Rattle.nm_scenario.specs.declared.fault.ScenarioKind.TheVariants.{NotBuilt, Missing, Unknown, BadValue, TooMany}
+use Rattle.nm_scenario.specs.declared.fault.Step.{Step}
+use Rattle.nm_scenario.specs.declared.fault.Step.TheVariants.{Name, Item}
+use Rattle.nm_scenario.specs.declared.fault.Fault.{Fault}
+use Rattle.nm_scenario.specs.declared.fault.ReadError.{ReadError}
+use Rattle.nm_scenario.specs.declared.fault.ReadError.TheVariants as error
+
+infixl 10 ◌>>=◌
+abbrev pub ◌>>=◌ : {A B : Type 0} → Result A Fault → (A → Result B Fault) → Result B Fault
+(Ok x) >>= f = f x
+(Err e) >>= f = Err e
+
+-- what a reader returned is what reading gives, unless memory ran out
+abbrev pub Gives : {A : Type 0} → Result A ReadError → Result A Fault → Type 0
+Gives (Ok x) given = given ≡ Ok x
+Gives (Err (error.Bad fault)) given = given ≡ Err fault
+Gives (Err error.NoMemory) given = Unit {0}
+
+-- a fault of the part that is looked at
+abbrev pub here : {A : Type 0} → ScenarioKind → Result A Fault
+here kind = Err (record { kind = kind; place = [] })
+
+-- a fault of the part one step further in
+abbrev pub there : {A : Type 0} → ScenarioKind → Step → Result A Fault
+there kind step = Err (record { kind = kind; place = step ∷ [] })
+
+-- what was read one step further in, its fault seen from here
+abbrev pub under : {A : Type 0} → Step → Result A Fault → Result A Fault
+under step (Ok x) = Ok x
+under step (Err fault) = Err (record { kind = fault.kind; place = step ∷ fault.place })
+
+-- a member that must be there
+abbrev pub required_from : {A : Type 0} → List ℕ → (Data → Result A Fault) → Option Data → Result A Fault
+required_from name read None = there Missing (Name name)
+required_from name read (Some part) = under (Name name) (read part)
+
+abbrev pub required : {A : Type 0} → List ℕ → (Data → Result A Fault) → Data → Result A Fault
+required name read whole = required_from name read (get name whole)
+
+-- a member that may be left out, and what it then is
+abbrev pub optional_from : {A : Type 0} → List ℕ → A → (Data → Result A Fault) → Option Data → Result A Fault
+optional_from name missing read None = Ok missing
+optional_from name missing read (Some part) = under (Name name) (read part)
+
+abbrev pub optional : {A : Type 0} → List ℕ → A → (Data → Result A Fault) → Data → Result A Fault
+optional name missing read whole = optional_from name missing read (get name whole)
+
+-- the least member whose name isn't known
+abbrev pub first_unknown : (List ℕ → Bool) → Members → Option (List ℕ)
+first_unknown knows no_members = None
+first_unknown knows (member name part rest) = if knows name then first_unknown knows rest else Some name
+
+abbrev pub none_unknown : Option (List ℕ) → Result (Unit {0}) Fault
+none_unknown None = Ok tt
+none_unknown (Some name) = there Unknown (Name name)
+
+-- an object without members of other names
+abbrev pub only_known : (List ℕ → Bool) → Data → Result (Unit {0}) Fault
+only_known knows (object m) = none_unknown (first_unknown knows m)
+only_known knows null = here BadValue
+only_known knows (boolean b) = here BadValue
+only_known knows (number n) = here BadValue
+only_known knows (string text) = here BadValue
+only_known knows (array items) = here BadValue
+
+-- an object at all
+abbrev pub object_at : Data → Result (Unit {0}) Fault
+object_at (object m) = Ok tt
+object_at null = here BadValue
+object_at (boolean b) = here BadValue
+object_at (number n) = here BadValue
+object_at (string text) = here BadValue
+object_at (array items) = here BadValue
+
+-- how many items an array has
+abbrev pub count_of : Items → ℕ
+count_of no_items = 0
+count_of (item part rest) = count_of rest + 1
+
+-- the items from place n on, each read after the ones before it
+abbrev pub items_after : {A : Type 0} → (List A → Data → Result A Fault) → List A → ℕ → Items → Result (List A) Fault
+items_after read before n no_items = Ok before
+items_after read before n (item part rest) = do
+  value ← under (Item n) (read before part)
+  items_after read (before ++ value ∷ []) (n + 1) rest
+
+-- at most so many items, each read after the ones before it
+abbrev pub within : {A : Type 0} → ℕ → (List A → Data → Result A Fault) → Items → Result (List A) Fault
+within limit read items = if nat_lt limit (count_of items) then here TooMany else items_after read [] 0 items
+
+-- a list of at most so many items
+abbrev pub list_at : {A : Type 0} → ℕ → (List A → Data → Result A Fault) → Data → Result (List A) Fault
+list_at limit read (array items) = within limit read items
+list_at limit read null = here BadValue
+list_at limit read (boolean b) = here BadValue
+list_at limit read (number n) = here BadValue
+list_at limit read (string text) = here BadValue
+list_at limit read (object m) = here BadValue

@@ -1,0 +1,104 @@
+ghost use Rattle.std.specs.Prelude.{◌≡◌};
+ghost use Rattle.serde_json.specs.View.{view};
+ghost use Rattle.nm_proto.specs.Flat.{flat_violation};
+ghost use Rattle.nm_scenario.specs.Reading.{Gives};
+ghost use Rattle.nm_scenario.specs.Scenario.{knows_device, running_at, device_at, devices_at, valid_only, some_of};
+
+use crate::fault::{ReadError, ScenarioKind};
+use crate::flat::read_cells;
+use crate::listed::Listed;
+use crate::reader::{
+    ItemReader, Names, Reader, fault_here, read_list, read_object, read_only_known, required_member,
+};
+use nm_proto::{CheckFault, Content, FlatConfig, FlatContent};
+use serde_json::Value;
+use std::alloc::Global;
+
+/// How many devices a scenario may have.
+pub const DEVICE_LIMIT: usize = 32;
+
+/// The member `running` of a device.
+#[derive(Drop)]
+struct Running;
+
+impl Reader for Running {
+    type Out = FlatConfig;
+
+    ghost reads = { λ _. running_at };
+
+    #[tactic(auto, unfolding(crate::specs::Scenario::running_at))]
+    fn read(&self, alloc: Global, part: &Value) -> Result<FlatConfig, ReadError> {
+        let cells = read_cells(alloc, part)?;
+        only_valid(alloc, FlatConfig::new(alloc, cells))
+    }
+}
+
+fn only_valid(alloc: Global, config: FlatConfig) -> Result<FlatConfig, ReadError>
+    ensures { Gives result (valid_only config (flat_violation config)) }
+{
+    match FlatContent::new(alloc).check(&config) {
+        Ok(()) => Ok(config),
+        Err(CheckFault::Violation { .. }) => fault_here(alloc, ScenarioKind::Invalid),
+        Err(CheckFault::NoMemory) => Err(ReadError::NoMemory),
+    }
+}
+
+#[derive(Drop)]
+struct DeviceNames;
+
+impl Names for DeviceNames {
+    ghost knows = { λ _. knows_device };
+
+    fn knows(&self, name: &str) -> bool {
+        name == "running"
+    }
+}
+
+/// One element of the member `devices`.
+#[derive(Drop)]
+struct Device;
+
+impl ItemReader for Device {
+    type Out = FlatConfig;
+
+    ghost reads = { λ _. device_at };
+
+    #[tactic(auto, unfolding(crate::specs::Scenario::device_at))]
+    fn read(
+        &self,
+        alloc: Global,
+        _before: &Listed<FlatConfig>,
+        part: &Value,
+    ) -> Result<FlatConfig, ReadError> {
+        read_object(alloc, part)?;
+        let running = required_member(alloc, part, "running", &Running)?;
+        read_only_known(alloc, part, &DeviceNames)?;
+        Ok(running)
+    }
+}
+
+/// The member `devices`.
+#[derive(Drop)]
+pub struct Devices;
+
+impl Reader for Devices {
+    type Out = Listed<FlatConfig>;
+
+    ghost reads = { λ _. devices_at };
+
+    #[tactic(auto, unfolding(crate::specs::Scenario::devices_at))]
+    fn read(&self, alloc: Global, part: &Value) -> Result<Listed<FlatConfig>, ReadError> {
+        let devices = read_list(alloc, part, DEVICE_LIMIT, &Device)?;
+        at_least_one(alloc, devices)
+    }
+}
+
+/// A list with one value or more.
+pub fn at_least_one<T: Drop>(alloc: Global, list: Listed<T>) -> Result<Listed<T>, ReadError>
+    ensures { Gives result (some_of list) }
+{
+    if list.len() == 0 {
+        return fault_here(alloc, ScenarioKind::BadValue);
+    }
+    Ok(list)
+}

@@ -1,0 +1,22 @@
+//! The scenario of a run, read from JSON: devices, change sets and events, or the first fault with its kind and place.
+//!
+//! Stands on the messages and the flat contents of `nm_proto`, and on `serde_json`. The layer above relies on
+//! `read_scenario`: what it answers is the reading of the bytes that `specs/Scenario.antt` defines.
+#![tactic(auto)]
+
+mod changes;
+mod devices;
+mod events;
+pub mod fault;
+mod flat;
+pub mod listed;
+mod numbering;
+mod read;
+mod reader;
+pub mod scenario;
+mod values;
+
+pub use fault::{Fault, ReadError, ScenarioKind, Step};
+pub use listed::Listed;
+pub use read::{BYTE_LIMIT, read_scenario};
+pub use scenario::{ChangePlan, Event, PlannedEdit, Scenario};

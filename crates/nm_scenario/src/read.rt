@@ -1,0 +1,130 @@
+ghost use Rattle.std.specs.Prelude.{◌≡◌, ◌≤◌, ◌<◌, length, nat_lt};
+ghost use Rattle.serde_json.specs.View.{view};
+ghost use Rattle.nm_scenario.specs.Reading.{Gives};
+ghost use Rattle.nm_scenario.specs.Scenario.{knows_scenario, scenario_at, scenario_from, scenario_of, byte_limit, json_of};
+
+use crate::changes::Changes;
+use crate::devices::Devices;
+use crate::events::Events;
+use crate::fault::{ReadError, ScenarioKind};
+use crate::listed::Listed;
+use crate::numbering::{Numbered, with_numbers};
+use crate::reader::{
+    Names, fault_here, optional_member, read_object, read_only_known, required_member,
+};
+use crate::scenario::Scenario;
+use crate::values::{Contents, EmptyList, NumberWithin, Off};
+use serde_json::Value;
+use std::alloc::Global;
+
+/// The greatest length of a scenario, in bytes: what is read of it stays below a gigabyte of memory.
+pub const BYTE_LIMIT: usize = 16_777_216;
+
+#[derive(Drop)]
+struct ScenarioNames;
+
+impl Names for ScenarioNames {
+    ghost knows = { λ _. knows_scenario };
+
+    fn knows(&self, name: &str) -> bool {
+        name == "netm"
+            || name == "contents"
+            || name == "modules"
+            || name == "devices"
+            || name == "changes"
+            || name == "operators"
+            || name == "faults"
+            || name == "events"
+            || name == "drain"
+            || name == "trace"
+    }
+}
+
+/// The scenario of bytes, or the first fault met with its kind and its place.
+///
+/// The bytes are one JSON object (RFC 8259), nested at most 127 deep. Where an object has a name twice, its last
+/// value stands.
+pub fn read_scenario(alloc: Global, bytes: &[u8]) -> Result<Scenario, ReadError>
+    ensures { Gives result (scenario_of bytes.now) }
+{
+    parse(alloc, bytes)
+}
+
+#[tactic(auto, unfolding(crate::specs::Scenario::scenario_of))]
+fn parse(alloc: Global, bytes: &[u8]) -> Result<Scenario, ReadError>
+    ensures { Gives result (scenario_of bytes.now) }
+{
+    if bytes.len() > BYTE_LIMIT {
+        return fault_here(alloc, ScenarioKind::TooLong);
+    }
+    read_json(alloc, bytes)
+}
+
+fn read_json(alloc: Global, bytes: &[u8]) -> Result<Scenario, ReadError>
+    ensures { Gives result (scenario_from (json_of bytes.now)) }
+{
+    match Value::from_slice(alloc, bytes) {
+        Ok(whole) => read_whole(alloc, &whole),
+        Err(error) if error.is_memory() => Err(ReadError::NoMemory),
+        Err(_) => fault_here(alloc, ScenarioKind::NotJson),
+    }
+}
+
+#[tactic(auto, unfolding(crate::specs::Scenario::scenario_at))]
+fn read_whole(alloc: Global, whole: &Value) -> Result<Scenario, ReadError>
+    ensures { Gives result (scenario_at (view whole.now)) }
+{
+    read_object(alloc, whole)?;
+    required_member(alloc, whole, "netm", &NumberWithin { low: 1, high: 1 })?;
+    required_member(alloc, whole, "contents", &Contents)?;
+    optional_member(
+        alloc,
+        whole,
+        "modules",
+        (),
+        &EmptyList {
+            otherwise: ScenarioKind::BadValue,
+        },
+    )?;
+    let devices = required_member(alloc, whole, "devices", &Devices)?;
+    let reads = optional_member(
+        alloc,
+        whole,
+        "changes",
+        Listed::new(alloc),
+        &Changes { devices: &devices },
+    )?;
+    optional_member(
+        alloc,
+        whole,
+        "operators",
+        (),
+        &EmptyList {
+            otherwise: ScenarioKind::NotBuilt,
+        },
+    )?;
+    optional_member(
+        alloc,
+        whole,
+        "faults",
+        (),
+        &EmptyList {
+            otherwise: ScenarioKind::NotBuilt,
+        },
+    )?;
+    let sizes = Events {
+        changes: reads.len(),
+        devices: devices.len(),
+    };
+    let events = optional_member(alloc, whole, "events", Listed::new(alloc), &sizes)?;
+    optional_member(alloc, whole, "drain", (), &Off)?;
+    optional_member(alloc, whole, "trace", (), &Off)?;
+    read_only_known(alloc, whole, &ScenarioNames)?;
+    let Numbered { changes, edits } = with_numbers(alloc, reads)?;
+    Ok(Scenario {
+        devices,
+        edits,
+        changes,
+        events,
+    })
+}

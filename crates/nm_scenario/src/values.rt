@@ -1,0 +1,133 @@
+ghost use Rattle.std.specs.Prelude.{◌≡◌, ◌≤◌, ℕ, Result, IfOk};
+ghost use Rattle.serde_json.specs.View.{view, items_view};
+ghost use Rattle.nm_scenario.specs.declared.fault.ScenarioKind.{ScenarioKind};
+ghost use Rattle.nm_scenario.specs.Reading.{Gives, here};
+ghost use Rattle.nm_scenario.specs.Scenario.{number_within, contents_at, empty_list_at, nothing_in, off_at, default_at};
+
+use crate::fault::{ReadError, ScenarioKind};
+use crate::reader::{Reader, fault_here};
+use nm_proto::DefaultOperation;
+use serde_json::Value;
+use std::alloc::Global;
+
+/// A number from `low` to `high`.
+#[derive(Drop)]
+pub struct NumberWithin {
+    pub low: u64,
+    pub high: u64,
+}
+
+impl Reader for NumberWithin {
+    type Out = u64;
+
+    ghost reads = { λ r. number_within r.low r.high };
+
+    #[tactic(auto, unfolding(crate::specs::Scenario::number_within))]
+    fn read(&self, alloc: Global, part: &Value) -> Result<u64, ReadError> {
+        match part.as_u64() {
+            Some(number) if self.low <= number && number <= self.high => Ok(number),
+            _ => fault_here(alloc, ScenarioKind::BadValue),
+        }
+    }
+}
+
+/// The member `contents`.
+#[derive(Drop)]
+pub struct Contents;
+
+impl Reader for Contents {
+    type Out = ();
+
+    ghost reads = { λ _. contents_at };
+
+    #[tactic(auto, unfolding(crate::specs::Scenario::contents_at))]
+    fn read(&self, alloc: Global, part: &Value) -> Result<(), ReadError> {
+        match part.as_str() {
+            None => fault_here(alloc, ScenarioKind::BadValue),
+            Some(word) => {
+                if word == "flat" {
+                    Ok(())
+                } else if word == "yang" {
+                    fault_here(alloc, ScenarioKind::NotBuilt)
+                } else {
+                    fault_here(alloc, ScenarioKind::BadValue)
+                }
+            }
+        }
+    }
+}
+
+/// A list that has to be empty, and the kind of fault where it isn't.
+#[derive(Drop)]
+pub struct EmptyList {
+    pub otherwise: ScenarioKind,
+}
+
+impl Reader for EmptyList {
+    type Out = ();
+
+    ghost reads = { λ r. empty_list_at (here r.otherwise) };
+
+    #[tactic(auto, unfolding(crate::specs::Scenario::empty_list_at))]
+    fn read(&self, alloc: Global, part: &Value) -> Result<(), ReadError> {
+        match part.as_array() {
+            None => fault_here(alloc, ScenarioKind::BadValue),
+            Some(items) => only_empty(alloc, items.as_slice(), self.otherwise),
+        }
+    }
+}
+
+#[tactic(auto, using(crate::proofs::Counts::counts))]
+fn only_empty(alloc: Global, items: &[Value], otherwise: ScenarioKind) -> Result<(), ReadError>
+    ensures { Gives result (nothing_in (here otherwise) (items_view items.now)) }
+{
+    if items.is_empty() {
+        return Ok(());
+    }
+    fault_here(alloc, otherwise)
+}
+
+/// A switch whose position on isn't built.
+#[derive(Drop)]
+pub struct Off;
+
+impl Reader for Off {
+    type Out = ();
+
+    ghost reads = { λ _. off_at };
+
+    #[tactic(auto, unfolding(crate::specs::Scenario::off_at))]
+    fn read(&self, alloc: Global, part: &Value) -> Result<(), ReadError> {
+        match part.as_bool() {
+            None => fault_here(alloc, ScenarioKind::BadValue),
+            Some(true) => fault_here(alloc, ScenarioKind::NotBuilt),
+            Some(false) => Ok(()),
+        }
+    }
+}
+
+/// The default operation of an edit.
+#[derive(Drop)]
+pub struct Operation;
+
+impl Reader for Operation {
+    type Out = DefaultOperation;
+
+    ghost reads = { λ _. default_at };
+
+    #[tactic(auto, unfolding(crate::specs::Scenario::default_at))]
+    fn read(&self, alloc: Global, part: &Value) -> Result<DefaultOperation, ReadError> {
+        match part.as_str() {
+            None => fault_here(alloc, ScenarioKind::BadValue),
+            Some(word) => {
+                if word == "merge" {
+                    Ok(DefaultOperation::Merge)
+                } else if word == "replace" || word == "none" {
+                    fault_here(alloc, ScenarioKind::NotBuilt)
+                } else {
+                    fault_here(alloc, ScenarioKind::BadValue)
+                }
+            }
+        }
+    }
+}
