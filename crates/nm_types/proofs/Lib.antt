@@ -13,3 +13,4 @@ pub mod Canonicals
 pub mod BitNames
 pub mod BitTexts
 pub mod Written
+pub mod OrderLaws

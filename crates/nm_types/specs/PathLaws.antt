@@ -5,14 +5,14 @@ use Rattle.std.specs.Ordering.{eq_by_cmp, ordering_then}
 use Rattle.std.specs.Cmp.Lexicographic.{slice_cmp}
 use Rattle.std.specs.Cmp.{IsTotalOrder, IsEquivalence, IsPartialOrder, po}
 use Rattle.std.proofs.lemmas.List.{append_cancel_left}
-use Rattle.std.proofs.lemmas.Cmp.{nat_cmp_total, nat_list_cmp_total, lists_total, on_total, then_total, eq_by_cmp_equiv}
+use Rattle.std.proofs.lemmas.Cmp.{nat_cmp_total, nat_list_cmp_total, lists_total, on_total, then_total, eq_by_cmp_equiv, tied_itself}
 use Rattle.std.proofs.lemmas.Map.Lookups.{CmpEqualImpliesEq, exact_unsigned, exact_bytes}
 use Rattle.std.specs.declared.cmp.Ordering.{Ordering}
 use Rattle.std.specs.declared.cmp.Ordering.TheVariants.{Less, Equal, Greater}
 use Rattle.nm_types.specs.declared.value.Value.{Value}
 use Rattle.nm_types.specs.Value.{value_cmp}
 use Rattle.nm_types.specs.ValueLaws.{values_total, value_cmp-IsAntisymmetric, then_parts, decides_from_exact}
-use Rattle.nm_types.specs.Path.{Choice, whole, keys, entry, PathStep, choice_rank, choice_values, choice_cmp, at_top, below_top, printed_steps, printed_cmp, step_cmp, path_cmp}
+use Rattle.nm_types.specs.Path.{PrintedStep, Choice, whole, keys, entry, PathStep, choice_rank, choice_values, choice_cmp, at_top, below_top, printed_steps, printed_cmp, step_cmp, path_cmp}
 
 choices_total : IsTotalOrder choice_cmp
 choices_total = then_total (on_total choice_rank nat_cmp_total) (on_total choice_values (lists_total values_total))
@@ -153,3 +153,7 @@ same_choice_decides = decides_from_exact choices_total exact_choices
 pub path_cmp-cons : (s t : PathStep) (ss ts : List PathStep) → path_cmp (s ∷ ss) (t ∷ ts) ≡ ordering_then (printed_cmp (at_top s) (at_top t)) (slice_cmp step_cmp ss ts)
 unfolding path_cmp
 path_cmp-cons s t ss ts = ap (ordering_then (printed_cmp (at_top s) (at_top t))) (sym (slice_cmp-below ss ts))
+
+-- a printed step ties with itself
+pub printed_cmp-same : (s : PrintedStep) → printed_cmp s s ≡ Equal
+printed_cmp-same = tied_itself printed_total

@@ -7,6 +7,7 @@
 mod bits;
 mod decimal;
 pub mod fault;
+pub mod laws;
 pub mod leaf_type;
 mod limits;
 mod numeral;
