@@ -1,0 +1,16 @@
+pub mod Paths
+pub mod Lists
+pub mod Integers
+pub mod Decimals
+pub mod Texts
+pub mod Writing
+pub mod Signs
+pub mod Powers
+pub mod Spelling
+pub mod Readings
+pub mod Answers
+pub mod Canonicals
+pub mod BitNames
+pub mod BitTexts
+pub mod Written
+pub mod OrderLaws

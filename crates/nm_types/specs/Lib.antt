@@ -1,0 +1,11 @@
+pub mod Value
+pub mod ValueLaws
+pub mod Path
+pub mod Chosen
+pub mod PathLaws
+pub mod LeafType
+pub mod TypeKind
+pub mod Limits
+pub mod Reading
+pub mod Canonical
+pub mod Spells

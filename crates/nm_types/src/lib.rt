@@ -1,0 +1,27 @@
+//! YANG types and values, and paths to the nodes of a configuration with their order.
+//!
+//! Stands on `nm_base`. The layers above rely on each spelling of a value being read, on one canonical
+//! text for each value, and on paths that order totally and are equal only where they are one path.
+#![tactic(auto)]
+
+mod bits;
+mod decimal;
+pub mod fault;
+pub mod laws;
+pub mod leaf_type;
+mod limits;
+mod numeral;
+pub mod path;
+mod read;
+pub mod value;
+mod write;
+
+pub use fault::ValueFault;
+pub use leaf_type::{LeafType, TypeKind};
+pub use path::{Chosen, Path, Step};
+pub use read::read_value;
+pub use value::Value;
+pub use write::write_value;
+
+#[cfg(test)]
+mod tests;
