@@ -1,10 +1,10 @@
 -- Reading the parts of a JSON value: what is there, or the first fault with its place (this project's own).
 -- The code builds its values piece by piece; these are functions from JSON values to values.
-use Rattle.std.specs.Prelude.{◌≡◌, ℕ, ◌+◌, List, [], ◌∷◌, ◌++◌, Bool, true, false, not, nat_lt, Option, Some, None, Result, Ok, Err, if◌then◌else◌}
+use Rattle.std.specs.Prelude.{◌≡◌, ℕ, ◌+◌, List, [], ◌∷◌, ◌++◌, Bool, nat_lt, Option, Some, None, Result, Ok, Err, if◌then◌else◌}
 use Rattle.serde_json.specs.Data.{Data, null, boolean, number, string, array, object, Items, no_items, item, Members, no_members, member}
 use Rattle.serde_json.specs.Find.{get}
 use Rattle.nm_scenario.specs.declared.fault.ScenarioKind.{ScenarioKind}
-use Rattle.nm_scenario.specs.declared.fault.ScenarioKind.TheVariants.{NotBuilt, Missing, Unknown, BadValue, TooMany}
+use Rattle.nm_scenario.specs.declared.fault.ScenarioKind.TheVariants.{Missing, Unknown, BadValue, TooMany}
 use Rattle.nm_scenario.specs.declared.fault.Step.{Step}
 use Rattle.nm_scenario.specs.declared.fault.Step.TheVariants.{Name, Item}
 use Rattle.nm_scenario.specs.declared.fault.Fault.{Fault}
