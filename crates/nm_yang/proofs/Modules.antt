@@ -1,6 +1,6 @@
 -- Whole texts: a module is read just where the text spells one.
 use Rattle.std.proofs.Common.{◌≡◌, ℕ, zero, suc, ◌≤◌, Bool, true, false, not, cond, eqb, ltb, List, [], ◌∷◌, length, take, Option, Some, None, Result, Ok, Err, refl, sym, ap, subst, ◌∙◌, arith}
-use Rattle.std.specs.Prelude.{◌||◌, IsUtf8, IfOk, codes}
+use Rattle.std.specs.Prelude.{◌||◌, IsUtf8, IfOk, is_ok, codes}
 use Rattle.std.specs.Str.{bytes_eq, is_utf8}
 use Rattle.std.specs.Str.Lossy.{utf8_valid_len, valid_len_up_to}
 use Rattle.std.proofs.lemmas.List.{take_all}
@@ -9,11 +9,12 @@ use Rattle.std.proofs.lemmas.Slice.Eq.{bytes_eq-Decides}
 use Rattle.std.proofs.lemmas.Str.{IsUtf8-from_is_utf8, IsUtf8-nil, utf8_valid_len_le}
 use Rattle.nm_yang.specs.declared.fault.Fault.{Fault}
 use Rattle.nm_yang.specs.declared.fault.YangFault.{YangFault}
+use Rattle.nm_yang.specs.declared.module.Heading.{Heading as Written}
 use Rattle.nm_yang.specs.Tree.{Tree, Trees, statement, trees_of}
 use Rattle.nm_yang.specs.Page.{Page, ◌>>=◌, place_of, column_of, bad, Gives}
 use Rattle.nm_yang.specs.Blank.{skip, plain}
 use Rattle.nm_yang.specs.Quote.{is_escape}
-use Rattle.nm_yang.specs.Module.{Run, Found, Heading, says_1_1, any_says_1_1, begin_at, heading_at, body_at, closed_at, finish_at, done_at, module_at, not_module, stop_of, page_of, reading, reading_within, most_deep, most_long, inside, label_at, after_keyword, end_at, with_heading, open_brace}
+use Rattle.nm_yang.specs.Module.{Run, Found, outcome, Heading, says_1_1, any_says_1_1, begin_at, heading_at, body_at, closed_at, finish_at, done_at, module_at, not_module, stop_of, page_of, reading, reading_within, most_deep, most_long, inside, label_at, after_keyword, end_at, with_heading, open_brace}
 use Rattle.nm_yang.specs.Grammar as g
 use Rattle.nm_yang.specs.Grammar.{Blanks, IsString, Joined, IsArgument, IsKeywordAt, Spells, Each, SpellsWith, SpellsModule, is_raw, keyword_of, below_of, any_of_says_1_1}
 use Rattle.nm_yang.proofs.Again.{and_true}
@@ -308,6 +309,18 @@ spelt-by limit text t version is u le s =
     let v : any_says_1_1 (module_at (page_of limit false text)).0 ≡ version = ap (λ (x : Found). any_says_1_1 x.0) lenient ∙ sym (any-trees l.found) ∙ ap any_of_says_1_1 l.below ∙ is in
     choose limit text t version v (ap (λ (x : Found). x.1) lenient) (λ e. ap (λ (x : Page). (module_at x).1) p ∙ ap (λ (x : Found). x.1) (module-read text true t (subst (λ (b : Bool). SpellsWith b text t) e s)).is)
 
+strict-by : (limit : ℕ) (text : List ℕ) (t : Tree) (version : Bool) → any_of_says_1_1 (below_of t) ≡ version → IsUtf8 text → length text ≤ limit → SpellsWith true text t → reading_within limit text ≡ Ok t
+strict-by limit text t true is u le s = spelt-by limit text t true is u le s
+strict-by limit text t false is u le s = spelt-by limit text t false is u le (lenient-with text t true s)
+
+-- a module that is read where each backslash must begin an escape is what the text is read as
+pub strict-first : (limit : ℕ) (text : List ℕ) (t : Tree) → (module_at (page_of limit true text)).1 ≡ Ok t → reading_within limit text ≡ Ok t
+strict-first limit text t e =
+    let w = whole-of limit text (module-takes (page_of limit true text) t e).stop in
+    let p = page-whole limit text true w.utf8 w.short in
+    let s = spelt-of text true t (module_at (whole text true)).0 (module-takes (whole text true) t (ap (λ (x : Page). (module_at x).1) (sym p) ∙ e)) in
+    strict-by limit text t (any_of_says_1_1 (below_of t)) refl w.utf8 w.short s
+
 -- what is read is spelt
 pub reading-spelt : (text : List ℕ) (t : Tree) → reading text ≡ Ok t → SpellsModule text t
 unfolding reading
@@ -331,3 +344,8 @@ answers-spelt text (Err e) h = tt
 
 pub answers-all : (text : List ℕ) (t : Tree) (r : Result Tree YangFault) → SpellsModule text t → Gives (λ u. u) r (reading text) → Gives (λ u. u) r (Ok t)
 answers-all text t r s h = subst (λ (x : Result Tree Fault). Gives (λ u. u) r x) (spelt-reading text t s) h
+
+-- an attempt with each backslash beginning an escape that succeeded is the answer
+pub attempt-answers : (limit : ℕ) (text : List ℕ) (end : Result Written Fault) (below : List Tree) (r : Result Tree YangFault) → is_ok end ≡ true → (module_at (page_of limit true text)).1 ≡ outcome end below → Gives (λ t. t) r (outcome end below) → Gives (λ t. t) r (reading_within limit text)
+attempt-answers limit text (Ok h) below r ok e g_ = subst (λ (x : Result Tree Fault). Gives (λ t. t) r x) (sym (strict-first limit text (statement h.keyword h.argument h.place (trees_of below)) e)) g_
+attempt-answers limit text (Err f) below r ok e g_ = absurd cc

@@ -150,13 +150,16 @@ fn read_within(alloc: Global, text: &[u8], limit: usize) -> Result<Statement, Ya
     ensures { Gives (λ s. s) result (spec.reading_within limit text.now) }
 {
     let (front, stop) = cut(text, limit);
-    let lenient = read_once(alloc, front, stop, false)?;
-    if !any_says_1_1(&lenient.below) {
-        return statement_of(lenient);
-    }
-    drop(lenient);
+    // A text that is a module where each backslash must begin an escape is the same module elsewhere.
     let strict = read_once(alloc, front, stop, true)?;
-    statement_of(strict)
+    if strict.end.is_ok() {
+        return statement_of(strict);
+    }
+    let lenient = read_once(alloc, front, stop, false)?;
+    if any_says_1_1(&lenient.below) {
+        return statement_of(strict);
+    }
+    statement_of(lenient)
 }
 
 /// Reads the text of a module (RFC 7950 section 6).
