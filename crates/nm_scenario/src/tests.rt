@@ -278,7 +278,7 @@ fn bytes_that_are_no_text_are_told(rt: HostRuntime) -> Result<(), Fail> {
 fn lengths_are_limited(rt: HostRuntime) -> Result<(), Fail> {
     let alloc = rt.alloc();
     let mut text = repeated(alloc, DEVICES, "", 0, "}")?.into_bytes();
-    while text.len() < 16_777_216 {
+    for _ in text.len()..16_777_216 {
         text.push(b' ')?;
     }
     assert_eq!(rt; told(alloc, text.as_slice())?.as_str(), "read");
