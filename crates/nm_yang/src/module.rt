@@ -1,6 +1,6 @@
 //! Statements within statements, and a whole module.
 
-ghost use Rattle.std.specs.Prelude.{◌≡◌, ◌≤◌, ◌<◌, ◌++◌, length, IfOk, Ok, drop, true};
+ghost use Rattle.std.specs.Prelude.{◌≡◌, ◌≤◌, ◌<◌, ◌++◌, [], length, IfOk, Ok, drop, true};
 ghost use Rattle.std.specs.Str.{bytes_eq};
 ghost use Rattle.nm_yang.specs.Tree.{trees_of};
 ghost use Rattle.nm_yang.specs.Page.{Gives};
@@ -16,7 +16,7 @@ use crate::reader::{Reader, refused, tail};
 use crate::statement::Statement;
 use crate::word::{keyword_at, label_of};
 use nm_base::Label;
-use std::alloc::Global;
+use std::alloc::{AllocError, Global};
 
 /// The most braces that may be open at once: a limit of this project, so that nesting can't exhaust the stack.
 pub const DEPTH: u32 = 64;
@@ -51,6 +51,18 @@ fn after_keyword<'a>(
     argument_at(alloc, reader, ending, rest)
 }
 
+/// An empty list, with room for one statement where a block opens (a first push would take room for four, and most blocks
+/// of deep modules hold one).
+fn list_at(alloc: Global, bytes: &[u8]) -> Result<Vec<Statement>, AllocError>
+    ensures { IfOk result (λ list. list.items ≡ []) }
+{
+    if begins(bytes, b'{') {
+        Vec::with_capacity(alloc, 1)
+    } else {
+        Ok(Vec::new(alloc))
+    }
+}
+
 #[cycle(read)]
 #[tactic(auto, unfolding(crate::specs::Module::statement_at))]
 fn statement_at<'a>(
@@ -67,7 +79,7 @@ fn statement_at<'a>(
     let place = reader.place(bytes);
     let (keyword, rest) = label_at(alloc, reader, ending, bytes)?;
     let (argument, rest) = after_keyword(alloc, reader, ending, rest)?;
-    let mut below = Vec::new(alloc);
+    let mut below = list_at(alloc, rest)?;
     let rest = end_at(alloc, reader, depth, ending, &mut below, rest)?;
     let statement = Statement {
         keyword,
