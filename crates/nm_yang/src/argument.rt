@@ -8,11 +8,11 @@ ghost use Rattle.nm_yang.specs.Argument as spec;
 use crate::blank::skip;
 use crate::byte::{begins, is_quote};
 use crate::fault::{Fault, YangFault, YangKind};
+use crate::labels::Labels;
 use crate::quote::string_at;
 use crate::reader::{Reader, refused, tail};
 use crate::word::{bare_at, label_of};
 use nm_base::Label;
-use std::alloc::Global;
 
 #[tactic(auto, unfolding(crate::specs::Argument::quote_at))]
 fn quote_at<'a>(reader: &Reader<'_>, ending: Fault, bytes: &'a [u8]) -> Result<&'a [u8], YangFault>
@@ -85,7 +85,7 @@ fn quoted_at<'a>(
 
 #[tactic(auto, unfolding(crate::specs::Argument::quoted_label))]
 fn quoted_label<'a>(
-    alloc: Global,
+    labels: &mut Labels,
     reader: &mut Reader<'_>,
     ending: Fault,
     bytes: &'a [u8],
@@ -95,15 +95,15 @@ fn quoted_label<'a>(
     ensures same { reader.new ≡ reader.old }
 {
     let fault = reader.bad(bytes, YangKind::NotUtf8);
-    let mut out = Vec::new(alloc);
+    let mut out = Vec::new(labels.alloc);
     let rest = quoted_at(reader, ending, &mut out, bytes)?;
-    let text = label_of(alloc, fault, &out)?;
+    let text = label_of(labels, fault, &out)?;
     Ok((text, rest))
 }
 
 #[tactic(auto, unfolding(crate::specs::Argument::bare_label))]
 fn bare_label<'a>(
-    alloc: Global,
+    labels: &mut Labels,
     reader: &Reader<'_>,
     bytes: &'a [u8],
 ) -> Result<(Label, &'a [u8]), YangFault>
@@ -111,7 +111,7 @@ fn bare_label<'a>(
     ensures shorter { IfOk result (λ x. length x.1.now ≤ length bytes.now) }
 {
     let (word, rest) = bare_at(reader, bytes)?;
-    let text = label_of(alloc, reader.bad(bytes, YangKind::NotUtf8), word)?;
+    let text = label_of(labels, reader.bad(bytes, YangKind::NotUtf8), word)?;
     let rest = skip(reader, rest)?;
     Ok((text, rest))
 }
@@ -120,7 +120,7 @@ fn bare_label<'a>(
 /// the text ends before that.
 #[tactic(auto, unfolding(crate::specs::Argument::argument_at))]
 pub fn argument_at<'a>(
-    alloc: Global,
+    labels: &mut Labels,
     reader: &mut Reader<'_>,
     ending: Fault,
     bytes: &'a [u8],
@@ -135,9 +135,9 @@ pub fn argument_at<'a>(
         [b'}', ..] => Err(refused(reader.bad(bytes, YangKind::BadToken))),
         [byte, ..] => {
             let (text, rest) = if is_quote(*byte) {
-                quoted_label(alloc, reader, ending, bytes)?
+                quoted_label(labels, reader, ending, bytes)?
             } else {
-                bare_label(alloc, reader, bytes)?
+                bare_label(labels, reader, bytes)?
             };
             Ok((Some(text), rest))
         }

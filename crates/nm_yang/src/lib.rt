@@ -8,6 +8,7 @@ mod argument;
 mod blank;
 mod byte;
 mod fault;
+mod labels;
 mod module;
 mod quote;
 mod reader;

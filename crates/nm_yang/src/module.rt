@@ -12,6 +12,7 @@ use crate::argument::argument_at;
 use crate::blank::skip;
 use crate::byte::begins;
 use crate::fault::{Fault, YangFault, YangKind};
+use crate::labels::Labels;
 use crate::reader::{Reader, refused, tail};
 use crate::statement::Statement;
 use crate::word::{keyword_at, label_of};
@@ -23,7 +24,7 @@ pub const DEPTH: u32 = 64;
 
 #[tactic(auto, unfolding(crate::specs::Module::label_at))]
 fn label_at<'a>(
-    alloc: Global,
+    labels: &mut Labels,
     reader: &Reader<'_>,
     ending: Fault,
     bytes: &'a [u8],
@@ -32,13 +33,13 @@ fn label_at<'a>(
     ensures shorter { IfOk result (λ x. length x.1.now < length bytes.now) }
 {
     let (word, rest) = keyword_at(reader, ending, bytes)?;
-    let text = label_of(alloc, reader.bad(bytes, YangKind::NotUtf8), word)?;
+    let text = label_of(labels, reader.bad(bytes, YangKind::NotUtf8), word)?;
     Ok((text, rest))
 }
 
 #[tactic(auto, unfolding(crate::specs::Module::after_keyword))]
 fn after_keyword<'a>(
-    alloc: Global,
+    labels: &mut Labels,
     reader: &mut Reader<'_>,
     ending: Fault,
     bytes: &'a [u8],
@@ -48,7 +49,7 @@ fn after_keyword<'a>(
     ensures same { reader.new ≡ reader.old }
 {
     let rest = skip(reader, bytes)?;
-    argument_at(alloc, reader, ending, rest)
+    argument_at(labels, reader, ending, rest)
 }
 
 /// An empty list, with room for one statement where a block opens (a first push would take room for four, and most blocks
@@ -66,7 +67,7 @@ fn list_at(alloc: Global, bytes: &[u8]) -> Result<Vec<Statement>, AllocError>
 #[cycle(read)]
 #[tactic(auto, unfolding(crate::specs::Module::statement_at))]
 fn statement_at<'a>(
-    alloc: Global,
+    labels: &mut Labels,
     reader: &mut Reader<'_>,
     depth: u32,
     ending: Fault,
@@ -77,10 +78,10 @@ fn statement_at<'a>(
     ensures same { reader.new ≡ reader.old }
 {
     let place = reader.place(bytes);
-    let (keyword, rest) = label_at(alloc, reader, ending, bytes)?;
-    let (argument, rest) = after_keyword(alloc, reader, ending, rest)?;
-    let mut below = list_at(alloc, rest)?;
-    let rest = end_at(alloc, reader, depth, ending, &mut below, rest)?;
+    let (keyword, rest) = label_at(labels, reader, ending, bytes)?;
+    let (argument, rest) = after_keyword(labels, reader, ending, rest)?;
+    let mut below = list_at(labels.alloc, rest)?;
+    let rest = end_at(labels, reader, depth, ending, &mut below, rest)?;
     let statement = Statement {
         keyword,
         argument,
@@ -94,7 +95,7 @@ fn statement_at<'a>(
 #[cycle(read)]
 #[tactic(auto, unfolding(crate::specs::Module::end_at))]
 fn end_at<'a>(
-    alloc: Global,
+    labels: &mut Labels,
     reader: &mut Reader<'_>,
     depth: u32,
     ending: Fault,
@@ -108,7 +109,7 @@ fn end_at<'a>(
     match bytes {
         [] => Err(refused(ending)),
         [b';', rest @ ..] => Ok(rest),
-        [b'{', ..] => inside(alloc, reader, depth, below, bytes),
+        [b'{', ..] => inside(labels, reader, depth, below, bytes),
         _ => Err(refused(reader.bad(bytes, YangKind::BadToken))),
     }
 }
@@ -116,7 +117,7 @@ fn end_at<'a>(
 /// Appends the statements within braces, which open here.
 #[cycle(read)]
 fn inside<'a>(
-    alloc: Global,
+    labels: &mut Labels,
     reader: &mut Reader<'_>,
     depth: u32,
     below: &mut Vec<Statement>,
@@ -133,7 +134,7 @@ fn inside<'a>(
     let ending = reader.at_end(open);
     let mut rest = skip(reader, tail(bytes))?;
     'each: while !begins(rest, b'}') {
-        let (statement, after) = match statement_at(alloc, reader, depth - 1, ending, rest) {
+        let (statement, after) = match statement_at(labels, reader, depth - 1, ending, rest) {
             Ok(read) => read,
             Err(fault) => return Err(fault),
         };
@@ -157,7 +158,7 @@ pub struct Heading {
 /// The keyword, the argument and the place of the module, and what is left after them.
 #[tactic(auto, unfolding(crate::specs::Module::heading_at))]
 fn heading_at<'a>(
-    alloc: Global,
+    labels: &mut Labels,
     reader: &mut Reader<'_>,
     start: &'a [u8],
 ) -> Result<(Heading, &'a [u8]), YangFault>
@@ -170,11 +171,11 @@ fn heading_at<'a>(
     };
     let ending = reader.at_end(none);
     let place = reader.place(start);
-    let (keyword, rest) = label_at(alloc, reader, ending, start)?;
+    let (keyword, rest) = label_at(labels, reader, ending, start)?;
     if keyword.as_str() != "module" {
         return Err(refused(none));
     }
-    let (argument, rest) = after_keyword(alloc, reader, ending, rest)?;
+    let (argument, rest) = after_keyword(labels, reader, ending, rest)?;
     let heading = Heading {
         keyword,
         argument,
@@ -207,20 +208,20 @@ pub fn finish_at<'a>(reader: &Reader<'_>, rest: &'a [u8]) -> Result<&'a [u8], Ya
 
 #[tactic(auto, unfolding(crate::specs::Module::begin_at))]
 pub fn begin_at<'a>(
-    alloc: Global,
+    labels: &mut Labels,
     reader: &mut Reader<'a>,
 ) -> Result<(Heading, &'a [u8]), YangFault>
     ensures read { Gives (λ x. heading_seen x.0 x.1.now) result (spec.begin_at reader.old) }
     ensures same { reader.new ≡ reader.old }
 {
     let start = skip(reader, reader.text())?;
-    heading_at(alloc, reader, start)
+    heading_at(labels, reader, start)
 }
 
 /// The statements of the module that were appended, and how reading ended after the heading.
 #[tactic(auto, unfolding(crate::specs::Module::body_at))]
 pub fn body_at<'a>(
-    alloc: Global,
+    labels: &mut Labels,
     reader: &mut Reader<'_>,
     below: &mut Vec<Statement>,
     heading: &Heading,
@@ -234,5 +235,5 @@ pub fn body_at<'a>(
         kind: YangKind::NotModule,
     };
     let ending = reader.at_end(none);
-    end_at(alloc, reader, DEPTH, ending, below, rest)
+    end_at(labels, reader, DEPTH, ending, below, rest)
 }

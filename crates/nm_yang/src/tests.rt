@@ -1,4 +1,5 @@
 use super::*;
+use crate::labels::Labels;
 use std::alloc::{AllocError, Global};
 use std::process::Abort;
 use std::test::Fail;
@@ -417,6 +418,21 @@ fn limits_length(rt: HostRuntime) -> Result<(), Fail> {
         let whole = padded(rt.alloc(), text, *length, more)?;
         let found = outcome(rt.alloc(), whole.as_bytes())?;
         assert_eq!(rt; found.as_str(), *expected, "{text}");
+    }
+    Ok(())
+}
+
+// Labels that come again, that take the place of one another (`list` and `length` do), and that are too long to be remembered.
+#[test]
+fn makes_labels(rt: HostRuntime) -> Result<(), Fail> {
+    let long = "more than the thirty-two bytes of one";
+    let table = [
+        "leaf", "leaf", "", "list", "length", "list", "length", "leaf", long, long,
+    ];
+    let mut labels = Labels::new(rt.alloc())?;
+    for text in &table {
+        let label = labels.label(text)?;
+        assert_eq!(rt; label.as_str(), *text);
     }
     Ok(())
 }

@@ -8,6 +8,7 @@ ghost use Rattle.nm_yang.specs.Grammar.{SpellsModule};
 ghost use Rattle.nm_yang.specs.Module as spec;
 
 use crate::fault::{Fault, YangFault, YangKind};
+use crate::labels::Labels;
 use crate::module::{Heading, begin_at, body_at, finish_at};
 use crate::reader::{LIMIT, Reader, refused};
 use crate::statement::Statement;
@@ -24,19 +25,19 @@ struct Attempt {
 /// Reads the module, and its statements into `below`.
 #[tactic(auto, unfolding(crate::specs::Module::module_at, crate::specs::Module::closed_at))]
 fn module_at(
-    alloc: Global,
+    labels: &mut Labels,
     reader: &mut Reader<'_>,
     below: &mut Vec<Statement>,
 ) -> Result<Result<Heading, Fault>, NoMemory>
     requires { below.old.items ≡ [] }
     ensures { IfOk result (λ end. spec.Ends end below.new.items (spec.module_at reader.old)) }
 {
-    let (heading, rest) = match begin_at(alloc, reader) {
+    let (heading, rest) = match begin_at(labels, reader) {
         Ok(read) => read,
         Err(YangFault::NoMemory) => return Err(NoMemory),
         Err(YangFault::Bad { place, kind }) => return Ok(Err(Fault { place, kind })),
     };
-    let rest = match body_at(alloc, reader, below, &heading, rest) {
+    let rest = match body_at(labels, reader, below, &heading, rest) {
         Ok(rest) => rest,
         Err(YangFault::NoMemory) => return Err(NoMemory),
         Err(YangFault::Bad { place, kind }) => return Ok(Err(Fault { place, kind })),
@@ -59,7 +60,8 @@ fn read_once(
 {
     let mut reader = Reader::new(front, stop, strict);
     let mut below = Vec::new(alloc);
-    let end = module_at(alloc, &mut reader, &mut below)?;
+    let mut labels = Labels::new(alloc)?;
+    let end = module_at(&mut labels, &mut reader, &mut below)?;
     Ok(Attempt { below, end })
 }
 

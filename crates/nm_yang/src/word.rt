@@ -6,9 +6,9 @@ ghost use Rattle.nm_yang.specs.Word as spec;
 
 use crate::byte::{begins_mark, closes_comment, is_ending, is_name, is_start, opens_comment};
 use crate::fault::{Fault, YangFault, YangKind};
+use crate::labels::Labels;
 use crate::reader::{Reader, front, refused};
 use nm_base::Label;
-use std::alloc::Global;
 
 fn name_end(bytes: &[u8]) -> &[u8]
     ensures rest { result.now ≡ spec.name_end bytes.now }
@@ -123,11 +123,11 @@ pub fn bare_at<'a>(reader: &Reader<'_>, bytes: &'a [u8]) -> Result<(&'a [u8], &'
 }
 
 /// The label of the bytes, and the fault where they are no UTF-8.
-pub fn label_of(alloc: Global, fault: Fault, bytes: &[u8]) -> Result<Label, YangFault>
+pub fn label_of(labels: &mut Labels, fault: Fault, bytes: &[u8]) -> Result<Label, YangFault>
     ensures { Gives (λ l. l) result (spec.text_at fault bytes.now) }
 {
     match str::from_utf8(bytes) {
-        Ok(text) => Ok(Label::new(alloc, text)?),
+        Ok(text) => Ok(labels.label(text)?),
         Err(_) => Err(refused(fault)),
     }
 }
