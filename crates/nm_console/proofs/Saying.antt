@@ -8,24 +8,28 @@ use Rattle.nm_scenario.specs.Reading.{here}
 use Rattle.nm_scenario.specs.Scenario.{byte_limit, scenario_from, scenario_of, json_of}
 use Rattle.nm_console.specs.declared.status.Status.{Status}
 use Rattle.nm_console.specs.declared.command.Command.TheVariants.{Replay}
-use Rattle.nm_console.specs.Console.{Tells, Says, KeepsItsDecision, answer, faulted, replayed, course_of}
+use Rattle.nm_console.specs.Console.{Tells, Says, RunsSafely, answer, faulted, replayed, course_of, plan_of}
 use Rattle.nm_proto.specs.FlatContent.{flat_meaning}
-use Rattle.nm_console.proofs.Safe.{run_is_safe}
+use Rattle.nm_world.proofs.Safe.{run_is_safe}
+use Rattle.nm_console.proofs.Valid.{devices_valid}
 
 held : (left : Option (List ℕ)) (other : List ℕ) → IfSome left (λ told. told ≡ unwrap_or left other)
 held None other = tt
 held (Some told) other = refl
 
--- the world of every scenario keeps the decision of its change set
-pub keeps : (read : Result Scenario Fault) → KeepsItsDecision read
-keeps (Err fault) = tt
-keeps (Ok s) = λ plan at. run_is_safe flat_meaning s.edits (course_of plan) s.devices plan.edits s.events
+-- the world of every scenario is safe
+pub safe : (bytes : List ℕ) (given : Result Scenario Fault) → scenario_of bytes ≡ given → RunsSafely given
+safe bytes (Err fault) e = tt
+safe bytes (Ok s) e = record {
+  valid = devices_valid bytes s e;
+  safe = run_is_safe flat_meaning s.edits (course_of (plan_of s.changes)) s.devices (plan_of s.changes).edits (length s.operators) s.events;
+}
 
 pub bytes_say : (left : Option (List ℕ)) (bytes : List ℕ) (status : Status) (text : List ℕ) → IfSome left (λ told. told ≡ bytes) → Tells (replayed (scenario_of bytes)) status text → Says left (Some Replay) status text
-bytes_say left bytes status text h tells = record { bytes = bytes; held = h; tells = tells; kept = keeps (scenario_of bytes) }
+bytes_say left bytes status text h tells = record { bytes = bytes; held = h; tells = tells; safe = safe bytes (scenario_of bytes) refl }
 
 pub usage_says : (left : Option (List ℕ)) (status : Status) (text : List ℕ) → Tells (answer None []) status text → Says left None status text
-usage_says left status text tells = record { bytes = unwrap_or left []; held = held left []; tells = tells; kept = keeps (scenario_of (unwrap_or left [])) }
+usage_says left status text tells = record { bytes = unwrap_or left []; held = held left []; tells = tells; safe = safe (unwrap_or left []) (scenario_of (unwrap_or left [])) refl }
 
 pub scenario_of-too_long : (bytes : List ℕ) → byte_limit < length bytes → scenario_of bytes ≡ here TooLong
 unfolding scenario_of
@@ -55,7 +59,7 @@ too_long_says left status text h tells =
     record {
       bytes = unwrap_or left more;
       held = held left more;
-      kept = keeps (scenario_of (unwrap_or left more));
+      safe = safe (unwrap_or left more) (scenario_of (unwrap_or left more)) refl;
       tells = subst (λ read. Tells (replayed read) status text) (sym (scenario_of-too_long (unwrap_or left more) (too_long left h))) tells;
     }
 

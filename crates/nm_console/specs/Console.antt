@@ -1,27 +1,26 @@
 -- What the program says to its words and its input (this project's own), and what the top call tells of it.
-use Rattle.std.specs.Prelude.{◌≡◌, ℕ, codes, slice_get, List, [], ◌∷◌, Option, Some, None, Result, Ok, Err, IfSome, IsTrue}
+use Rattle.std.specs.Prelude.{◌≡◌, ℕ, codes, List, [], ◌∷◌, length, Bool, Option, Some, None, Result, Ok, Err, IfSome, IsTrue}
+use Rattle.std.specs.List.{All}
 use Rattle.std.specs.Io.KnownBytes.{append_known}
 use Rattle.nm_io.specs.Bytes.{Begins}
 use Rattle.nm_base.specs.Token.{token_of}
-use Rattle.nm_proto.specs.declared.flat.FlatEdit.{FlatEdit}
+use Rattle.nm_proto.specs.declared.plan.ChangePlan.{ChangePlan}
 use Rattle.nm_proto.specs.Flat.{FlatState, flat_text}
 use Rattle.nm_proto.specs.FlatContent.{flat_meaning}
 use Rattle.nm_scenario.specs.declared.fault.ScenarioKind.{ScenarioKind}
 use Rattle.nm_scenario.specs.declared.fault.Fault.{Fault}
 use Rattle.nm_scenario.specs.declared.scenario.Scenario.{Scenario}
-use Rattle.nm_scenario.specs.declared.scenario.ChangePlan.{ChangePlan}
-use Rattle.nm_scenario.specs.declared.scenario.Event.{Event}
 use Rattle.nm_scenario.specs.Scenario.{scenario_of}
+use Rattle.nm_world.specs.declared.course.Course.{Course}
+use Rattle.nm_world.specs.World.{WorldState, IsFirst, start, run}
+use Rattle.nm_world.specs.Outcome.{IsSafe}
+use Rattle.nm_report.specs.Text.{devices_text, world_text}
 use Rattle.nm_console.specs.declared.status.Status.{Status}
 use Rattle.nm_console.specs.declared.status.Status.TheVariants as status
 use Rattle.nm_console.specs.declared.command.Command.{Command}
 use Rattle.nm_console.specs.declared.command.Command.TheVariants.{Replay}
-use Rattle.nm_console.specs.declared.course.Course.{Course}
-use Rattle.nm_console.specs.World.{WorldState, start, run}
-use Rattle.nm_console.specs.Outcome.{IsSafe}
-use Rattle.nm_console.specs.Report.{world_status}
-use Rattle.nm_console.specs.Status.{is_whole}
-use Rattle.nm_console.specs.Text.{usage_text, fault_text, devices_text, world_text}
+use Rattle.nm_console.specs.Refusal.{usage_text, fault_text}
+use Rattle.nm_console.specs.Status.{is_whole, world_status}
 
 -- a status and a text
 pub record Answer : Type 0 where
@@ -32,30 +31,38 @@ pub record Answer : Type 0 where
 abbrev pub faulted : ScenarioKind → Answer
 faulted kind = record { status = status.Scenario; text = fault_text kind }
 
--- the running configurations of devices without a change set
-abbrev pub devices_told : List FlatState → Answer
-devices_told devices = record { status = status.Ok; text = devices_text flat_text devices }
-
 -- the course of change set 1
 abbrev pub course_of : ChangePlan → Course
 course_of plan = record { change = 1; timeout = plan.timeout; user = codes "netm"; token = token_of 1 }
 
--- the world that the events lead to
-abbrev pub world_of : List FlatState → List FlatEdit → ChangePlan → List Event → WorldState FlatState
-world_of devices edits plan events = run flat_meaning edits (course_of plan) (start devices plan.edits) events
+-- without a change set nothing is planned: its course is over no device, and no event names it
+abbrev pub no_plan : ChangePlan
+no_plan = record { timeout = 600; edits = [] }
 
--- the world's text and status
-abbrev pub world_told : Course → WorldState FlatState → Answer
-world_told course w = record { status = world_status course w; text = world_text flat_text course w }
+abbrev pub plan_of : List ChangePlan → ChangePlan
+plan_of [] = no_plan
+plan_of (plan ∷ plans) = plan
 
--- a scenario without a change set has its devices to tell, and one with a change set the world that it leads to
-abbrev pub told_of : List FlatState → List FlatEdit → List Event → List ChangePlan → Answer
-told_of devices edits events [] = devices_told devices
-told_of devices edits events (plan ∷ plans) = world_told (course_of plan) (world_of devices edits plan events)
+-- the world that the events of a scenario lead to
+abbrev pub world_from : Scenario → ChangePlan → WorldState FlatState
+world_from s plan = run flat_meaning s.edits (course_of plan) (start s.devices plan.edits (length s.operators)) s.events
+
+-- the world's text and status, where there is a change set
+abbrev pub world_told : Bool → Course → WorldState FlatState → Answer
+world_told trace course w = record { status = world_status course w; text = world_text flat_text trace course w }
+
+-- and where there is none
+abbrev pub devices_told : Bool → WorldState FlatState → Answer
+devices_told trace w = record { status = status.Ok; text = devices_text flat_text trace w.trail w.devices }
+
+-- what is told of a scenario with these change sets
+abbrev pub told_with : Scenario → List ChangePlan → Answer
+told_with s [] = devices_told s.trace (world_from s no_plan)
+told_with s (plan ∷ plans) = world_told s.trace (course_of plan) (world_from s plan)
 
 -- what is told of a scenario that was read
 abbrev pub told : Scenario → Answer
-told s = told_of s.devices s.edits s.events s.changes
+told s = told_with s s.changes
 
 -- replay: the text of the scenario, or its first fault
 abbrev pub replayed : Result Scenario Fault → Answer
@@ -73,17 +80,21 @@ pub record Tells (given : Answer) (status : Status) (text : List ℕ) : Type 0 w
   pub text_is : given.text ≡ text
   pub whole : IsTrue (is_whole status)
 
--- the world of a scenario keeps the decision of its change set
-abbrev pub KeepsItsDecision : Result Scenario Fault → Type 0
-KeepsItsDecision (Err fault) = Unit {0}
-KeepsItsDecision (Ok s) = (plan : ChangePlan) → slice_get s.changes 0 ≡ Some plan → IsSafe (course_of plan) (world_of s.devices s.edits plan s.events)
+-- the world that a scenario leads to is safe, and its devices begin with valid configurations
+pub record IsSafeRun (s : Scenario) : Type 0 where
+  pub valid : All (IsFirst flat_meaning) s.devices
+  pub safe : IsSafe flat_meaning s.edits (course_of (plan_of s.changes)) s.devices (length s.operators) (world_from s (plan_of s.changes))
+
+abbrev pub RunsSafely : Result Scenario Fault → Type 0
+RunsSafely (Err fault) = Unit {0}
+RunsSafely (Ok s) = IsSafeRun s
 
 -- a status and a text that answer some bytes, those that the source told where it tells them
 pub record Says (left : Option (List ℕ)) (command : Option Command) (status : Status) (text : List ℕ) : Type 0 where
   pub bytes : List ℕ
   pub held : IfSome left (λ told. told ≡ bytes)
   pub tells : Tells (answer command bytes) status text
-  pub kept : KeepsItsDecision (scenario_of bytes)
+  pub safe : RunsSafely (scenario_of bytes)
 
 -- the whole answer to some bytes was written, and nothing else
 pub record Answers (left : Option (List ℕ)) (command : Option Command) (before after : Option (List ℕ)) (status : Status) : Type 0 where

@@ -1,10 +1,4 @@
-pub mod Device
-pub mod Course
-pub mod World
-pub mod Outcome
-pub mod Support
 pub mod Status
 pub mod Words
-pub mod Report
-pub mod Text
+pub mod Refusal
 pub mod Console

@@ -1,5 +1,10 @@
 -- The exit statuses (this project's own).
-use Rattle.std.specs.Prelude.{ℕ, Bool, true, false}
+use Rattle.std.specs.Prelude.{ℕ, List, [], ◌∷◌, Bool, true, false}
+use Rattle.nm_world.specs.declared.course.Course.{Course}
+use Rattle.nm_world.specs.Course.{is_submitted, is_decided}
+use Rattle.nm_world.specs.World.{WorldState}
+use Rattle.nm_report.specs.declared.report.DeviceReport.{DeviceReport}
+use Rattle.nm_report.specs.Report.{reports_of, differing, unsettled}
 use Rattle.nm_console.specs.declared.status.Status.{Status}
 use Rattle.nm_console.specs.declared.status.Status.TheVariants as status
 
@@ -23,3 +28,12 @@ is_whole status.ReadFault = false
 is_whole status.WriteFault = false
 is_whole status.NoMemory = false
 is_whole status.Unsettled = true
+
+-- unsettled devices come before those that differ
+abbrev pub status_for : List DeviceReport → List DeviceReport → Status
+status_for (report ∷ reports) differ = status.Unsettled
+status_for [] (report ∷ reports) = status.Differ
+status_for [] [] = status.Ok
+
+abbrev pub world_status : {Config : Type 0} → Course → WorldState Config → Status
+world_status course w = status_for (unsettled (is_submitted w.entries) (reports_of course w)) (differing (is_decided w.entries) (reports_of course w))

@@ -1,28 +1,27 @@
 ghost use Rattle.std.specs.Prelude.{◌≡◌, [], IfOk, IsErrOf, Some, None, IsTrue, IsSome};
+ghost use Rattle.std.specs.List.{All};
 ghost use Rattle.nm_io.specs.Count.{Rose};
+ghost use Rattle.nm_proto.specs.FlatContent.{flat_meaning};
 ghost use Rattle.nm_scenario.specs.Scenario.{scenario_of};
+ghost use Rattle.nm_world.specs.World.{IsFirst, run, start};
 ghost use Rattle.nm_console.specs.Words.{command_of, texts_of};
 ghost use Rattle.nm_console.specs.Status.{is_whole};
-ghost use Rattle.nm_console.specs.Console.{Answers, CutOff, Says, Tells, answer, course_of, devices_told, faulted, replayed, told, world_of, world_told};
+ghost use Rattle.nm_console.specs.Console.{Answers, CutOff, Says, Tells, answer, course_of, devices_told, faulted, no_plan, replayed, told, world_told};
 
-use crate::change_text::write_world;
 use crate::command::{Command, command_of};
-use crate::course::{Course, is_decided, is_submitted};
-use crate::report::{differing, reports_of, status_for, unsettled};
-use crate::status::Status;
-use crate::text::{USAGE, put, write_devices, write_fault};
-use crate::world::World;
+use crate::refusal::{USAGE, write_fault};
+use crate::status::{Status, status_for};
 use nm_base::token::token_of;
 use nm_base::{ChangeNo, Label, NoMemory};
+use nm_device::MANAGER;
 use nm_io::{ReadAllFault, Sink, Source, read_all, write_all};
-use nm_proto::{FlatConfig, FlatContent, FlatEdit};
-use nm_scenario::{
-    BYTE_LIMIT, ChangePlan, Event, Listed, ReadError, Scenario, ScenarioKind, read_scenario,
-};
+use nm_proto::{ChangePlan, Event, FlatConfig, FlatContent, FlatEdit, Listed};
+use nm_report::text::put;
+use nm_report::{differing, reports_of, unsettled, write_devices, write_world};
+use nm_scenario::{BYTE_LIMIT, ReadError, Scenario, ScenarioKind, read_scenario};
+use nm_world::course::{is_decided, is_submitted};
+use nm_world::{Course, World};
 use std::alloc::Global;
-
-/// The user of the manager's sessions. No operator may have this name.
-const MANAGER: &str = "netm";
 
 /// A status and a text.
 #[derive(Drop)]
@@ -146,19 +145,40 @@ fn say_fault(alloc: Global, kind: ScenarioKind) -> Result<Said, NoMemory>
     })
 }
 
-// The answer to a scenario: its world, where it has a change set, and else its devices.
+// The answer to a scenario: its world, told as a change set's where it has one.
 fn say_scenario(alloc: Global, scenario: Scenario) -> Result<Said, NoMemory>
+    requires { All (IsFirst flat_meaning) scenario.devices }
     ensures { IfOk result (λ said. Tells (told scenario) said.status said.text.items) }
 {
     let Scenario {
         devices,
         edits,
         mut changes,
+        operators,
         events,
+        trace,
     } = scenario;
+    let operators = operators.len();
     match changes.take_first() {
-        None => say_devices(alloc, devices.as_slice()),
-        Some(plan) => say_change(alloc, devices, edits, &plan, events.as_slice()),
+        None => {
+            let none = no_plan(alloc);
+            let world = world_of(alloc, devices, edits, &none, operators, events.as_slice())?;
+            say_devices(alloc, trace, &world)
+        }
+        Some(plan) => {
+            let world = world_of(alloc, devices, edits, &plan, operators, events.as_slice())?;
+            say_world(alloc, trace, &world)
+        }
+    }
+}
+
+// Without a change set nothing is planned.
+fn no_plan(alloc: Global) -> ChangePlan
+    ensures { result ≡ no_plan }
+{
+    ChangePlan {
+        timeout: 600,
+        edits: Listed::new(alloc),
     }
 }
 
@@ -175,15 +195,18 @@ fn course_of(alloc: Global, plan: &ChangePlan) -> Result<Course, NoMemory>
     })
 }
 
-// The answer of the world that the events lead to.
-fn say_change(
+// The world that the events lead to.
+fn world_of(
     alloc: Global,
     devices: Listed<FlatConfig>,
     edits: Listed<FlatEdit>,
     plan: &ChangePlan,
+    operators: usize,
     events: &[Event],
-) -> Result<Said, NoMemory>
-    ensures { IfOk result (λ said. Tells (world_told (course_of plan.now) (world_of devices edits plan.now events.now)) said.status said.text.items) }
+) -> Result<World<FlatContent>, NoMemory>
+    requires { All (IsFirst flat_meaning) devices }
+    ensures course { IfOk result (λ w. w.course ≡ course_of plan.now) }
+    ensures state { IfOk result (λ w. w.state ≡ run flat_meaning edits (course_of plan.now) (start devices plan.now.edits operators) events.now) }
 {
     let content = FlatContent::new(alloc);
     let course = course_of(alloc, plan)?;
@@ -194,18 +217,15 @@ fn say_change(
         devices,
         course,
         plan.edits.as_slice(),
+        operators,
     )?;
     world.run(events)?;
-    say_world(alloc, &content, &world)
+    Ok(world)
 }
 
-// The text and the status of a world.
-fn say_world(
-    alloc: Global,
-    content: &FlatContent,
-    world: &World<FlatContent>,
-) -> Result<Said, NoMemory>
-    ensures { IfOk result (λ said. Tells (world_told world.now.course world.now.state) said.status said.text.items) }
+// The text and the status of a world with a change set.
+fn say_world(alloc: Global, trace: bool, world: &World<FlatContent>) -> Result<Said, NoMemory>
+    ensures { IfOk result (λ said. Tells (world_told trace world.now.course world.now.state) said.status said.text.items) }
 {
     let course = world.course();
     let entries = world.entries();
@@ -215,7 +235,8 @@ fn say_world(
     let status = status_for(unsettled.as_slice(), differing.as_slice());
     let text = write_world(
         alloc,
-        content,
+        &FlatContent::new(alloc),
+        trace,
         world,
         reports.as_slice(),
         differing.as_slice(),
@@ -224,10 +245,17 @@ fn say_world(
     Ok(Said { status, text })
 }
 
-fn say_devices(alloc: Global, devices: &[FlatConfig]) -> Result<Said, NoMemory>
-    ensures { IfOk result (λ said. Tells (devices_told devices.now) said.status said.text.items) }
+// The text of a world without a change set.
+fn say_devices(alloc: Global, trace: bool, world: &World<FlatContent>) -> Result<Said, NoMemory>
+    ensures { IfOk result (λ said. Tells (devices_told trace world.now.state) said.status said.text.items) }
 {
-    let text = write_devices(alloc, &FlatContent::new(alloc), devices)?;
+    let text = write_devices(
+        alloc,
+        &FlatContent::new(alloc),
+        trace,
+        world.trail(),
+        world.devices(),
+    )?;
     Ok(Said {
         status: Status::Ok,
         text,

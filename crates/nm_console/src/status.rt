@@ -1,4 +1,7 @@
-ghost use Rattle.std.specs.Prelude.{◌≡◌};
+ghost use Rattle.std.specs.Prelude.{◌≡◌, IsTrue};
+ghost use Rattle.nm_console.specs.Status.{is_whole, status_for};
+
+use nm_report::DeviceReport;
 
 /// How the program ended. Its number is the exit status.
 #[derive(Clone, Copy, Debug, PartialEq, Eq)]
@@ -38,5 +41,17 @@ impl Status {
             Status::NoMemory => 8,
             Status::Unsettled => 10,
         }
+    }
+}
+
+/// The status of a text that names these devices.
+pub fn status_for(unsettled: &[DeviceReport], differing: &[DeviceReport]) -> Status
+    ensures value { result ≡ status_for unsettled.now differing.now }
+    ensures whole { IsTrue (is_whole result) }
+{
+    match (unsettled, differing) {
+        ([], []) => Status::Ok,
+        ([], _) => Status::Differ,
+        _ => Status::Unsettled,
     }
 }

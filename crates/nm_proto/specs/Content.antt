@@ -1,5 +1,5 @@
 -- What a content means: configurations and edits as values, and the laws that every content keeps.
-use Rattle.std.specs.Prelude.{◌≡◌, ℕ, ◌≤◌, Bool, ◌&&◌, ◌||◌, ◌==◌, not, nat_lt, List, Option, Some, None, Result, Ok, Err}
+use Rattle.std.specs.Prelude.{◌≡◌, ℕ, ◌≤◌, ◌-◌, ◌^◌, min, Bool, ◌&&◌, ◌||◌, ◌==◌, not, nat_lt, List, Option, Some, None, Result, Ok, Err}
 use Rattle.nm_base.specs.declared.tag.Tag.{Tag}
 use Rattle.nm_base.specs.Tag.{tag_number}
 use Rattle.nm_base.specs.Mask.{mask_contains}
@@ -28,6 +28,12 @@ pub record Meaning (Config Edit Node : Type 0) : Type 1 where
   pub violation : Config → Option Refusal
   -- the numbers whose marks are in the configuration
   pub has_mark : Config → ℕ → Bool
+  -- how many rows are outside the marks
+  pub rows : Config → ℕ
+
+-- a count of rows as it is told: the greatest number stands for all that are above it
+abbrev pub counted_rows : ℕ → ℕ
+counted_rows rows = min rows (2 ^ 32 - 1)
 
 -- the number is one of the change sets whose marks go
 abbrev pub is_taken : Marks → ℕ → Bool

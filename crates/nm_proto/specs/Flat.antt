@@ -4,7 +4,7 @@ use Rattle.std.specs.Prelude.{◌≡◌, ℕ, ◌≤◌, Bool, true, not, nat_lt
 use Rattle.std.specs.List.{flat_map, join_with_byte}
 use Rattle.std.specs.Option.{option_map}
 use Rattle.std.specs.Ordering.{nat_cmp}
-use Rattle.std.specs.FinMap.{FinMap, contains_key, insert, remove, retain_keys, empty, entries, keys, code}
+use Rattle.std.specs.FinMap.{FinMap, contains_key, insert, remove, retain_keys, empty, entries, keys, len, code}
 use Rattle.std.specs.Coded.{Coded, code_by, coded×, coded_ℕ}
 use base.Stored.{coded_unit}
 use Rattle.nm_base.specs.declared.tag.Tag.TheVariants.{InvalidValue, DataMissing}
@@ -75,6 +75,10 @@ flat_violation config = option_map (λ e. record { tag = InvalidValue; path = de
 
 abbrev pub flat_has_mark : FlatState → ℕ → Bool
 flat_has_mark config n = contains_key config.marks n
+
+-- a row is a cell
+abbrev pub flat_rows : FlatState → ℕ
+flat_rows config = len config.cells
 
 -- one cell in the text, `"7":2,`
 abbrev pub cell_text : ℕ × ℕ → List ℕ

@@ -12,7 +12,7 @@ use Rattle.nm_proto.specs.declared.message.Marks.{Marks}
 use Rattle.nm_proto.specs.declared.flat.FlatEdit.{FlatEdit}
 use Rattle.nm_proto.specs.declared.flat.FlatNode.{FlatNode}
 use Rattle.nm_proto.specs.Content.{Refusal, Meaning, Laws, IsAnswerable, is_taken, marks_after}
-use Rattle.nm_proto.specs.Flat.{FlatState, cells_edited, kept_unless, least_absent, marked, with_marks, flat_edited, flat_violation, flat_has_mark}
+use Rattle.nm_proto.specs.Flat.{FlatState, cells_edited, kept_unless, least_absent, marked, with_marks, flat_edited, flat_violation, flat_has_mark, flat_rows}
 
 -- all configurations and edits belong, and no edit names a mark
 abbrev pub flat_meaning : Meaning FlatState FlatEdit FlatNode
@@ -23,6 +23,7 @@ flat_meaning = record {
   edited = λ config edit. flat_edited config edit.changes;
   violation = flat_violation;
   has_mark = flat_has_mark;
+  rows = flat_rows;
 }
 
 -- the marks of what an edit makes

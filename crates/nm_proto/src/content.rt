@@ -1,5 +1,5 @@
 ghost use Rattle.std.specs.Prelude.{◌≡◌, ℕ, List, IfOk};
-ghost use Rattle.nm_proto.specs.Content.{Meaning, Laws, Applies, Checks};
+ghost use Rattle.nm_proto.specs.Content.{Meaning, Laws, Applies, Checks, counted_rows};
 
 use crate::message::{DefaultOperation, Marks};
 use nm_base::{ChangeNo, Label, NoMemory, Tag};
@@ -46,6 +46,10 @@ pub trait Content {
     /// Whether the mark of a change set is in the configuration. It takes no memory.
     fn has_mark(&self, config: &Self::Config, change: ChangeNo) -> bool
         ensures { result ≡ (meaning self.now).has_mark config.now change };
+
+    /// How many rows the configuration has outside the marks, and 4294967295 where there are more. It takes no memory.
+    fn rows(&self, config: &Self::Config) -> u32
+        ensures { result ≡ counted_rows ((meaning self.now).rows config.now) };
 
     ghost laws: { (x : Self) → Laws (meaning x) };
 }

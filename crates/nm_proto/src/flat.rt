@@ -131,6 +131,10 @@ impl Content for FlatContent {
     fn has_mark(&self, config: &FlatConfig, change: ChangeNo) -> bool {
         config.marks.contains(change.get())
     }
+
+    fn rows(&self, config: &FlatConfig) -> u32 {
+        u32::try_from(config.cells.len()).unwrap_or(u32::MAX)
+    }
 }
 
 impl Show for FlatContent {

@@ -1,4 +1,5 @@
-//! What managers and devices say to each other, what a content is, and the flat contents.
+//! What managers and devices say to each other, what a journal and a plan hold, what a content is, and the flat
+//! contents.
 //!
 //! Stands on `nm_base`. The layers above rely on copies and comparisons of messages as equations, on
 //! `Content` with its meaning and its laws, and on flat configurations as finite maps.
@@ -6,12 +7,18 @@
 
 pub mod content;
 pub mod flat;
+pub mod journal;
+pub mod listed;
 pub mod message;
 pub mod number_map;
+pub mod plan;
 #[cfg(test)]
 mod tests;
 
 pub use content::{ApplyFault, CheckFault, Content, Show, Tables};
 pub use flat::{FlatConfig, FlatContent, FlatEdit, FlatNode};
+pub use journal::{AbortCause, Entry, Verdict};
+pub use listed::Listed;
 pub use message::{DefaultOperation, Marks, Reply, Request, Store};
 pub use number_map::NumberMap;
+pub use plan::{ChangePlan, Event, PlannedEdit};

@@ -1,5 +1,5 @@
 use super::*;
-use nm_base::{ChangeMask, ChangeNo, Label, NoMemory, Tag, write_decimal};
+use nm_base::{ChangeMask, ChangeNo, DeviceMask, DeviceNo, Label, NoMemory, Tag, write_decimal};
 use std::alloc::Global;
 use std::test::Fail;
 use std::thread;
@@ -197,5 +197,75 @@ fn contents_cross_threads(rt: HostRuntime) -> Result<(), Fail> {
     assert!(rt; there && here);
     let ((config, edit, node), ()) = thread::join(&rt, move || (config, edit, node), || ());
     assert!(rt; config.cells().contains(node.0) && edit.changes.contains(node.0));
+    Ok(())
+}
+
+// The decision of one change set is told apart from that of another, and from its end.
+#[test]
+fn entries_are_told_apart(rt: HostRuntime) -> Result<(), Fail> {
+    let one = ChangeNo::new(1).ok_or("1")?;
+    let two = ChangeNo::new(2).ok_or("2")?;
+    let device = DeviceNo::new(32).ok_or("32")?;
+    let cause = AbortCause::Refused {
+        device,
+        tag: Tag::LockDenied,
+    };
+    let verdict = Verdict::Abort(cause);
+    let decided = Entry::Decided {
+        change: one,
+        verdict,
+    };
+    for (other, same) in [
+        (decided, true),
+        (
+            Entry::Decided {
+                change: two,
+                verdict,
+            },
+            false,
+        ),
+        (
+            Entry::Decided {
+                change: one,
+                verdict: Verdict::Commit,
+            },
+            false,
+        ),
+        (
+            Entry::Ended {
+                change: one,
+                kept: DeviceMask(0),
+            },
+            false,
+        ),
+    ] {
+        assert_eq!(rt; decided.same(&other), same);
+    }
+    assert!(rt; !cause.same(&AbortCause::Broken { device }));
+    assert!(rt; !Verdict::Abort(AbortCause::Forgotten).same(&verdict));
+    Ok(())
+}
+
+// A row is a cell; marks aren't counted.
+#[test]
+fn rows_are_cells(rt: HostRuntime) -> Result<(), Fail> {
+    let content = FlatContent::new(rt.alloc());
+    let config = FlatConfig::new(rt.alloc(), cells_of(rt.alloc(), &[(7, 1), (9, 2)])?);
+    assert_eq!(rt; content.rows(&config), 2);
+    assert_eq!(rt; content.rows(&marked(rt.alloc(), &config, 1, 0)?), 2);
+    Ok(())
+}
+
+#[test]
+fn lists_keep_their_order(rt: HostRuntime) -> Result<(), Fail> {
+    let mut list = Listed::new(rt.alloc());
+    list.push(2u32)?;
+    list.push(3)?;
+    list.push_front(1)?;
+    assert_eq!(rt; list.len(), 3);
+    assert_eq!(rt; list.get(1).copied(), Some(2));
+    assert_eq!(rt; list.take_first(), Some(1));
+    assert_eq!(rt; list.as_slice(), [2, 3].as_slice());
+    assert_eq!(rt; list.into_vec().as_slice(), [2, 3].as_slice());
     Ok(())
 }

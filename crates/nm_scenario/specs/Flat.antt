@@ -3,11 +3,11 @@ use Rattle.std.specs.Prelude.{ℕ, ◌+◌, ◌^◌, nat_lt, List, Option, Some,
 use Rattle.std.specs.Ordering.{nat_cmp}
 use Rattle.std.specs.FinMap.{FinMap, insert, empty}
 use Rattle.serde_json.specs.Data.{Data, null, boolean, number, string, array, object, Members, no_members, member}
-use Rattle.serde_json.specs.Find.{as_number, as_u64}
+use Rattle.serde_json.specs.Find.{as_u64}
 use Rattle.nm_base.specs.Decimal.{number_of}
 use Rattle.nm_scenario.specs.declared.fault.ScenarioKind.TheVariants.{Content, TooMany}
 use Rattle.nm_scenario.specs.declared.fault.Fault.{Fault}
-use Rattle.nm_scenario.specs.Reading.{◌>>=◌, here}
+use Rattle.nm_scenario.specs.Reading.{◌>>=◌, here, natural_of}
 
 -- the greatest number of rows of one device, and of nodes of one edit
 abbrev pub row_limit : ℕ
@@ -19,10 +19,6 @@ node_limit = 5000
 -- a number of at most 32 bits, spelt as a decimal
 abbrev pub key_of : List ℕ → Option ℕ
 key_of name = option_and_then (λ n. if nat_lt n (2 ^ 32) then Some n else None) (number_of name)
-
--- a JSON number without sign, fraction or exponent, of at most 64 bits (RFC 8259 section 6)
-abbrev pub natural_of : Data → Option ℕ
-natural_of part = option_and_then as_u64 (as_number part)
 
 -- what is there, or a fault of the whole configuration or edit
 abbrev pub or_unread : {A : Type 0} → Option A → Result A Fault

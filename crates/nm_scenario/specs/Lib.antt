@@ -1,3 +1,5 @@
 pub mod Reading
+pub mod Words
 pub mod Flat
+pub mod Requests
 pub mod Scenario

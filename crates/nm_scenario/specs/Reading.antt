@@ -1,8 +1,8 @@
 -- Reading the parts of a JSON value: what is there, or the first fault with its place (this project's own).
 -- The code builds its values piece by piece; these are functions from JSON values to values.
-use Rattle.std.specs.Prelude.{◌≡◌, ℕ, ◌+◌, List, [], ◌∷◌, ◌++◌, Bool, nat_lt, Option, Some, None, Result, Ok, Err, if◌then◌else◌}
+use Rattle.std.specs.Prelude.{◌≡◌, ℕ, ◌+◌, List, [], ◌∷◌, ◌++◌, Bool, ◌&&◌, nat_lt, nat_le, Option, Some, None, option_and_then, Result, Ok, Err, if◌then◌else◌}
 use Rattle.serde_json.specs.Data.{Data, null, boolean, number, string, array, object, Items, no_items, item, Members, no_members, member}
-use Rattle.serde_json.specs.Find.{get}
+use Rattle.serde_json.specs.Find.{get, as_number, as_u64}
 use Rattle.nm_scenario.specs.declared.fault.ScenarioKind.{ScenarioKind}
 use Rattle.nm_scenario.specs.declared.fault.ScenarioKind.TheVariants.{Missing, Unknown, BadValue, TooMany}
 use Rattle.nm_scenario.specs.declared.fault.Step.{Step}
@@ -102,3 +102,15 @@ list_at limit read (boolean b) = here BadValue
 list_at limit read (number n) = here BadValue
 list_at limit read (string text) = here BadValue
 list_at limit read (object m) = here BadValue
+
+-- a JSON number without sign, fraction or exponent, of at most 64 bits (RFC 8259 section 6)
+abbrev pub natural_of : Data → Option ℕ
+natural_of part = option_and_then as_u64 (as_number part)
+
+-- a number of JSON in a range
+abbrev pub in_range : ℕ → ℕ → Option ℕ → Result ℕ Fault
+in_range low high None = here BadValue
+in_range low high (Some n) = if nat_le low n && nat_le n high then Ok n else here BadValue
+
+unfoldable pub number_within : ℕ → ℕ → Data → Result ℕ Fault
+number_within low high part = in_range low high (natural_of part)

@@ -1,13 +1,14 @@
 -- The scenario of a JSON value, or its first fault: the members of each object in this order, unknown members last
 -- (this project's own). The code reads forward once; these are functions of the whole value.
-use Rattle.std.specs.Prelude.{ℕ, ◌+◌, ◌-◌, ◌*◌, ◌^◌, List, [], ◌∷◌, Bool, true, false, ◌&&◌, ◌||◌, ◌==◌, nat_lt, nat_le, min, length, map, slice_get, Option, Some, None, option_and_then, is_none, unwrap_or, Result, Ok, Err, codes, if◌then◌else◌}
+use Rattle.std.specs.Prelude.{ℕ, ◌+◌, ◌-◌, ◌*◌, ◌^◌, List, [], ◌∷◌, ◌++◌, Bool, true, false, ◌&&◌, ◌||◌, ◌==◌, nat_lt, nat_le, min, length, map, slice_get, Option, Some, None, is_none, Result, Ok, Err, codes, if◌then◌else◌}
 use Rattle.std.specs.Str.{bytes_eq, is_utf8}
 use Rattle.std.specs.List.{flat_map}
 use Rattle.std.specs.FinMap.{empty}
 use Rattle.serde_json.specs.Data.{Data, null, boolean, number, string, array, object, Items, no_items, item}
 use Rattle.serde_json.specs.Read.{read}
 use Rattle.serde_json.specs.Find.{at, as_str, as_bool}
-use Rattle.nm_proto.specs.declared.message.DefaultOperation.{DefaultOperation}
+use Rattle.nm_proto.specs.declared.message.Request.{Request}
+use Rattle.nm_proto.specs.declared.message.Request.TheVariants.{Edit}
 use Rattle.nm_proto.specs.declared.message.DefaultOperation.TheVariants.{Merge}
 use Rattle.nm_proto.specs.declared.message.Marks.{Marks}
 use Rattle.nm_proto.specs.declared.flat.FlatEdit.{FlatEdit}
@@ -17,14 +18,20 @@ use Rattle.nm_scenario.specs.declared.fault.ScenarioKind.TheVariants.{TooLong, N
 use Rattle.nm_scenario.specs.declared.fault.Step.TheVariants.{Item}
 use Rattle.nm_scenario.specs.declared.fault.Fault.{Fault}
 use Rattle.nm_scenario.specs.declared.scenario.Scenario.{Scenario}
-use Rattle.nm_scenario.specs.declared.scenario.ChangePlan.{ChangePlan}
-use Rattle.nm_scenario.specs.declared.scenario.PlannedEdit.{PlannedEdit}
+use Rattle.nm_proto.specs.declared.plan.ChangePlan.{ChangePlan}
+use Rattle.nm_proto.specs.declared.plan.PlannedEdit.{PlannedEdit}
 use Rattle.nm_scenario.specs.declared.scenario.ReadChange.{ReadChange}
 use Rattle.nm_scenario.specs.declared.scenario.ReadEdit.{ReadEdit}
-use Rattle.nm_scenario.specs.declared.scenario.Event.{Event}
-use Rattle.nm_scenario.specs.declared.scenario.Event.TheVariants.{Submit, Turn, Deliver, Answer, Round}
-use Rattle.nm_scenario.specs.Reading.{◌>>=◌, here, there, required, optional, object_at, only_known, list_at, count_of, items_after}
-use Rattle.nm_scenario.specs.Flat.{natural_of, cells_at, changes_at}
+use Rattle.nm_scenario.specs.declared.scenario.ReadRequest.{ReadRequest}
+use Rattle.nm_scenario.specs.declared.scenario.ReadRequest.TheVariants.{Known, WithEdit}
+use Rattle.nm_scenario.specs.declared.scenario.ReadEvent.{ReadEvent}
+use Rattle.nm_scenario.specs.declared.scenario.ReadEvent.TheVariants.{Other, Asked}
+use Rattle.nm_proto.specs.declared.plan.Event.{Event}
+use Rattle.nm_proto.specs.declared.plan.Event.TheVariants.{Submit, Turn, Deliver, Answer, Foreign, Leave, Round}
+use Rattle.nm_scenario.specs.Reading.{◌>>=◌, here, there, required, optional, object_at, only_known, list_at, count_of, items_after, natural_of, in_range, number_within}
+use Rattle.nm_scenario.specs.Words.{array_at, is_word, item_count, counted, natural_in, argument, part_in}
+use Rattle.nm_scenario.specs.Flat.{cells_at, changes_at}
+use Rattle.nm_scenario.specs.Requests.{default_at, change_limit, request_at, is_unbuilt_request}
 
 -- ---- the whole
 
@@ -35,14 +42,6 @@ device_limit = 32
 abbrev pub knows_scenario : List ℕ → Bool
 knows_scenario name = bytes_eq name (codes "netm") || bytes_eq name (codes "contents") || bytes_eq name (codes "modules") || bytes_eq name (codes "devices") || bytes_eq name (codes "changes")
     || bytes_eq name (codes "operators") || bytes_eq name (codes "faults") || bytes_eq name (codes "events") || bytes_eq name (codes "drain") || bytes_eq name (codes "trace")
-
--- a number of JSON in a range
-abbrev pub in_range : ℕ → ℕ → Option ℕ → Result ℕ Fault
-in_range low high None = here BadValue
-in_range low high (Some n) = if nat_le low n && nat_le n high then Ok n else here BadValue
-
-unfoldable pub number_within : ℕ → ℕ → Data → Result ℕ Fault
-number_within low high part = in_range low high (natural_of part)
 
 -- flat contents are built
 abbrev pub contents_of : Option (List ℕ) → Result (Unit {0}) Fault
@@ -72,6 +71,14 @@ off_of (Some false) = Ok tt
 
 unfoldable pub off_at : Data → Result (Unit {0}) Fault
 off_at part = off_of (as_bool part)
+
+-- a switch
+abbrev pub switch_of : Option Bool → Result Bool Fault
+switch_of None = here BadValue
+switch_of (Some on) = Ok on
+
+unfoldable pub switch_at : Data → Result Bool Fault
+switch_at part = switch_of (as_bool part)
 
 -- ---- devices
 
@@ -113,14 +120,6 @@ knows_change name = bytes_eq name (codes "timeout") || bytes_eq name (codes "edi
 
 abbrev pub knows_edit : List ℕ → Bool
 knows_edit name = bytes_eq name (codes "device") || bytes_eq name (codes "default") || bytes_eq name (codes "edit")
-
--- the default operation merge is built (RFC 6241 section 7.2)
-abbrev pub default_of : Option (List ℕ) → Result DefaultOperation Fault
-default_of None = here BadValue
-default_of (Some word) = if bytes_eq word (codes "merge") then Ok Merge else (if bytes_eq word (codes "replace") || bytes_eq word (codes "none") then here NotBuilt else here BadValue)
-
-unfoldable pub default_at : Data → Result DefaultOperation Fault
-default_at part = default_of (as_str part)
 
 -- the device of the last edit, 0 where there is none
 abbrev pub device_of : Option ReadEdit → ℕ
@@ -175,11 +174,46 @@ change_at devices [] part = do
   known ← only_known knows_change part
   Ok (record { timeout = timeout; edits = edits })
 
-abbrev pub change_limit : ℕ
-change_limit = 64
-
 unfoldable pub changes_read_at : List FlatState → Data → Result (List ReadChange) Fault
 changes_read_at devices part = list_at change_limit (change_at devices) part
+
+-- ---- operators
+
+abbrev pub operator_limit : ℕ
+operator_limit = 16
+
+-- the greatest length of a user's name, in bytes
+abbrev pub user_limit : ℕ
+user_limit = 64
+
+abbrev pub knows_operator : List ℕ → Bool
+knows_operator name = bytes_eq name (codes "user") || bytes_eq name (codes "script")
+
+-- a user's name: a text that isn't empty, isn't too long and isn't the manager's own
+abbrev pub user_of : Option (List ℕ) → Result (List ℕ) Fault
+user_of None = here BadValue
+user_of (Some name) = if bytes_eq name (codes "netm") then here BadValue else (if nat_le 1 (length name) && nat_le (length name) user_limit then Ok name else here BadValue)
+
+unfoldable pub user_at : Data → Result (List ℕ) Fault
+user_at part = user_of (as_str part)
+
+-- an operator: its user, and a script that has to be empty
+unfoldable pub operator_at : List (List ℕ) → Data → Result (List ℕ) Fault
+operator_at before part = do
+  whole ← object_at part
+  user ← required (codes "user") user_at part
+  script ← optional (codes "script") tt (empty_list_at (here NotBuilt)) part
+  known ← only_known knows_operator part
+  Ok user
+
+-- operators beside change sets aren't built
+abbrev pub built_beside : ℕ → Data → Result (Unit {0}) Fault
+built_beside changes part = if changes == 0 then Ok tt else empty_list_at (here NotBuilt) part
+
+unfoldable pub operators_at : ℕ → Data → Result (List (List ℕ)) Fault
+operators_at changes part = do
+  built ← built_beside changes part
+  list_at operator_limit operator_at part
 
 -- ---- events
 
@@ -189,109 +223,100 @@ event_limit = 100000
 abbrev pub turn_limit : ℕ
 turn_limit = 1000
 
--- the word of an event
-abbrev pub word_of : Data → Option (List ℕ)
-word_of whole = option_and_then as_str (at 0 whole)
-
-abbrev pub is_word : Data → List ℕ → Bool
-is_word whole word = bytes_eq (unwrap_or (word_of whole) []) word
-
--- how many items an event has
-abbrev pub item_count : Data → ℕ
-item_count (array items) = count_of items
-item_count null = 0
-item_count (boolean b) = 0
-item_count (number n) = 0
-item_count (string text) = 0
-item_count (object m) = 0
-
 abbrev pub is_within : ℕ → ℕ → Option ℕ → Bool
 is_within low high None = false
 is_within low high (Some n) = nat_le low n && nat_le n high
 
--- the number at a place of an event
-abbrev pub natural_in : ℕ → Data → Option ℕ
-natural_in place whole = option_and_then natural_of (at place whole)
-
-abbrev pub argument_of : ℕ → ℕ → ℕ → Option ℕ → Result ℕ Fault
-argument_of place low high None = there BadValue (Item place)
-argument_of place low high (Some n) = if nat_le low n && nat_le n high then Ok n else there BadValue (Item place)
-
--- an argument in its range
-unfoldable pub argument : ℕ → ℕ → ℕ → Data → Result ℕ Fault
-argument place low high whole = argument_of place low high (natural_in place whole)
-
--- a list of so many items
-unfoldable pub counted : ℕ → Data → Result (Unit {0}) Fault
-counted count whole = if item_count whole == count then Ok tt else here BadValue
-
-unfoldable pub submit_at : ℕ → Data → Result Event Fault
+unfoldable pub submit_at : ℕ → Data → Result ReadEvent Fault
 submit_at changes whole = do
   count ← counted 2 whole
   change ← argument 1 1 (min changes change_limit) whole
-  Ok (Submit change)
+  Ok (Other (Submit change))
 
-unfoldable pub turn_at : ℕ → Data → Result Event Fault
+unfoldable pub turn_at : ℕ → Data → Result ReadEvent Fault
 turn_at changes whole = do
   count ← counted 2 whole
   change ← argument 1 1 (min changes change_limit) whole
-  Ok (Turn change)
+  Ok (Other (Turn change))
 
-unfoldable pub deliver_at : ℕ → ℕ → Data → Result Event Fault
+unfoldable pub deliver_at : ℕ → ℕ → Data → Result ReadEvent Fault
 deliver_at changes devices whole = do
   count ← counted 4 whole
   change ← argument 1 1 (min changes change_limit) whole
   device ← argument 2 1 (min devices device_limit) whole
   link ← argument 3 0 (2 ^ 32 - 1) whole
-  Ok (Deliver change device link)
+  Ok (Other (Deliver change device link))
 
-unfoldable pub answer_at : ℕ → ℕ → Data → Result Event Fault
+unfoldable pub answer_at : ℕ → ℕ → Data → Result ReadEvent Fault
 answer_at changes devices whole = do
   count ← counted 5 whole
   change ← argument 1 1 (min changes change_limit) whole
   device ← argument 2 1 (min devices device_limit) whole
   link ← argument 3 0 (2 ^ 32 - 1) whole
   reply ← argument 4 0 (2 ^ 32 - 1) whole
-  Ok (Answer change device link reply)
+  Ok (Other (Answer change device link reply))
 
-unfoldable pub round_at : ℕ → Data → Result Event Fault
+unfoldable pub round_at : ℕ → Data → Result ReadEvent Fault
 round_at changes whole = do
   count ← counted 3 whole
   change ← argument 1 1 (min changes change_limit) whole
   turns ← argument 2 1 turn_limit whole
-  Ok (Round change turns)
+  Ok (Other (Round change turns))
+
+-- an operator of the scenario
+abbrev pub user_named : Option (List ℕ) → Result (List ℕ) Fault
+user_named None = there BadValue (Item 1)
+user_named (Some user) = Ok user
+
+-- an operator that asks a device
+unfoldable pub asked_at : List (List ℕ) → ℕ → Data → Result ReadEvent Fault
+asked_at operators devices whole = do
+  count ← counted 4 whole
+  operator ← argument 1 1 (min (length operators) operator_limit) whole
+  device ← argument 2 1 (min devices device_limit) whole
+  user ← user_named (slice_get operators (operator - 1))
+  request ← part_in 3 (request_at user) whole
+  Ok (Asked operator device request)
+
+-- whether the request at the place of an event's request isn't built
+abbrev pub asks_unbuilt : Option Data → Bool
+asks_unbuilt None = false
+asks_unbuilt (Some part) = is_unbuilt_request part
+
+unfoldable pub foreign_at : List (List ℕ) → ℕ → Data → Result ReadEvent Fault
+foreign_at operators devices whole = if asks_unbuilt (at 3 whole) then here NotBuilt else asked_at operators devices whole
+
+unfoldable pub leave_at : List (List ℕ) → ℕ → Data → Result ReadEvent Fault
+leave_at operators devices whole = do
+  count ← counted 3 whole
+  operator ← argument 1 1 (min (length operators) operator_limit) whole
+  device ← argument 2 1 (min devices device_limit) whole
+  Ok (Other (Leave operator device))
 
 -- the words of events that aren't built
 abbrev pub is_unbuilt : Data → Bool
 is_unbuilt whole = is_word whole (codes "break") || is_word whole (codes "lose") || is_word whole (codes "advance") || is_word whole (codes "restart")
-    || is_word whole (codes "forget") || is_word whole (codes "crash") || is_word whole (codes "foreign") || is_word whole (codes "leave")
+    || is_word whole (codes "forget") || is_word whole (codes "crash")
 
-unfoldable pub other_event_at : Data → Result Event Fault
+unfoldable pub other_event_at : Data → Result ReadEvent Fault
 other_event_at whole = if is_unbuilt whole then here NotBuilt else there BadValue (Item 0)
 
--- an event by its word
-unfoldable pub by_word : ℕ → ℕ → Data → Result Event Fault
-by_word changes devices whole =
+-- an event by its word, in a scenario of so many change sets and devices and of these operators
+unfoldable pub by_word : ℕ → ℕ → List (List ℕ) → Data → Result ReadEvent Fault
+by_word changes devices operators whole =
     if is_word whole (codes "submit") then submit_at changes whole
     else (if is_word whole (codes "turn") then turn_at changes whole
     else (if is_word whole (codes "deliver") then deliver_at changes devices whole
     else (if is_word whole (codes "answer") then answer_at changes devices whole
+    else (if is_word whole (codes "foreign") then foreign_at operators devices whole
+    else (if is_word whole (codes "leave") then leave_at operators devices whole
     else (if is_word whole (codes "round") then round_at changes whole
-    else other_event_at whole))))
+    else other_event_at whole))))))
 
--- a list at all
-abbrev pub array_at : Data → Result (Unit {0}) Fault
-array_at (array items) = Ok tt
-array_at null = here BadValue
-array_at (boolean b) = here BadValue
-array_at (number n) = here BadValue
-array_at (string text) = here BadValue
-array_at (object m) = here BadValue
-
-unfoldable pub event_at : ℕ → ℕ → List Event → Data → Result Event Fault
-event_at changes devices before whole = do
+unfoldable pub event_at : ℕ → ℕ → List (List ℕ) → List ReadEvent → Data → Result ReadEvent Fault
+event_at changes devices operators before whole = do
   list ← array_at whole
-  by_word changes devices whole
+  by_word changes devices operators whole
 
 -- the turns of a well-formed round
 abbrev pub round_turns : ℕ → Data → Option ℕ
@@ -312,16 +337,16 @@ elementary_total changes no_items = 0
 elementary_total changes (item part rest) = elementary changes part + elementary_total changes rest
 
 -- at most event_limit elementary events
-abbrev pub events_within : ℕ → ℕ → Items → Result (List Event) Fault
-events_within changes devices items = if nat_lt event_limit (elementary_total changes items) then here TooMany else items_after (event_at changes devices) [] 0 items
+abbrev pub events_within : ℕ → ℕ → List (List ℕ) → Items → Result (List ReadEvent) Fault
+events_within changes devices operators items = if nat_lt event_limit (elementary_total changes items) then here TooMany else items_after (event_at changes devices operators) [] 0 items
 
-unfoldable pub events_at : ℕ → ℕ → Data → Result (List Event) Fault
-events_at changes devices (array items) = events_within changes devices items
-events_at changes devices null = here BadValue
-events_at changes devices (boolean b) = here BadValue
-events_at changes devices (number n) = here BadValue
-events_at changes devices (string text) = here BadValue
-events_at changes devices (object m) = here BadValue
+unfoldable pub events_at : ℕ → ℕ → List (List ℕ) → Data → Result (List ReadEvent) Fault
+events_at changes devices operators (array items) = events_within changes devices operators items
+events_at changes devices operators null = here BadValue
+events_at changes devices operators (boolean b) = here BadValue
+events_at changes devices operators (number n) = here BadValue
+events_at changes devices operators (string text) = here BadValue
+events_at changes devices operators (object m) = here BadValue
 
 -- ---- putting together
 
@@ -337,6 +362,35 @@ plans_from n (c ∷ cs) = record { timeout = c.timeout; edits = planned_from n c
 abbrev pub edits_of : List ReadChange → List FlatEdit
 edits_of changes = flat_map (λ c. map (λ e. e.edit) c.edits) changes
 
+-- the edits of events get the numbers after those
+abbrev pub numbered_request : ℕ → ReadRequest → Request
+numbered_request n (Known request) = request
+numbered_request n (WithEdit operation edit) = Edit (record { 0 = n }) operation None
+
+abbrev pub numbered_event : ℕ → ReadEvent → Event
+numbered_event n (Other event) = event
+numbered_event n (Asked operator device request) = Foreign operator device (numbered_request n request)
+
+abbrev pub edit_of_request : ReadRequest → List FlatEdit
+edit_of_request (Known request) = []
+edit_of_request (WithEdit operation edit) = edit ∷ []
+
+abbrev pub edit_of_event : ReadEvent → List FlatEdit
+edit_of_event (Other event) = []
+edit_of_event (Asked operator device request) = edit_of_request request
+
+abbrev pub events_from : ℕ → List ReadEvent → List Event
+events_from n [] = []
+events_from n (e ∷ es) = numbered_event n e ∷ events_from (n + length (edit_of_event e)) es
+
+abbrev pub edits_of_events : List ReadEvent → List FlatEdit
+edits_of_events events = flat_map edit_of_event events
+
+-- the scenario of what was read
+abbrev pub put_together : List FlatState → List ReadChange → List (List ℕ) → List ReadEvent → Bool → Scenario
+put_together devices changes operators events trace =
+    record { devices = devices; edits = edits_of changes ++ edits_of_events events; changes = plans_from 0 changes; operators = operators; events = events_from (length (edits_of changes)) events; trace = trace }
+
 unfoldable pub scenario_at : Data → Result Scenario Fault
 scenario_at part = do
   whole ← object_at part
@@ -345,13 +399,13 @@ scenario_at part = do
   modules ← optional (codes "modules") tt (empty_list_at (here BadValue)) part
   devices ← required (codes "devices") devices_at part
   changes ← optional (codes "changes") [] (changes_read_at devices) part
-  operators ← optional (codes "operators") tt (empty_list_at (here NotBuilt)) part
+  operators ← optional (codes "operators") [] (operators_at (length changes)) part
   faults ← optional (codes "faults") tt (empty_list_at (here NotBuilt)) part
-  events ← optional (codes "events") [] (events_at (length changes) (length devices)) part
+  events ← optional (codes "events") [] (events_at (length changes) (length devices) operators) part
   drain ← optional (codes "drain") tt off_at part
-  trace ← optional (codes "trace") tt off_at part
+  trace ← optional (codes "trace") false switch_at part
   known ← only_known knows_scenario part
-  Ok (record { devices = devices; edits = edits_of changes; changes = plans_from 0 changes; events = events })
+  Ok (put_together devices changes operators events trace)
 
 -- ---- bytes
 

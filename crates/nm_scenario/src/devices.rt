@@ -6,11 +6,10 @@ ghost use Rattle.nm_scenario.specs.Scenario.{knows_device, running_at, device_at
 
 use crate::fault::{ReadError, ScenarioKind};
 use crate::flat::read_cells;
-use crate::listed::Listed;
 use crate::reader::{
     ItemReader, Names, Reader, fault_here, read_list, read_object, read_only_known, required_member,
 };
-use nm_proto::{CheckFault, Content, FlatConfig, FlatContent};
+use nm_proto::{CheckFault, Content, FlatConfig, FlatContent, Listed};
 use serde_json::Value;
 use std::alloc::Global;
 

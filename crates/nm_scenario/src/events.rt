@@ -1,15 +1,21 @@
-ghost use Rattle.std.specs.Prelude.{◌≡◌, ◌+◌, ◌≤◌, ◌<◌, ◌^◌, ℕ, IfOk, Option, nat_lt, [], length, min};
+ghost use Rattle.std.specs.Prelude.{◌≡◌, ◌-◌, ◌≤◌, ◌<◌, ◌^◌, ℕ, IfOk, Option, nat_lt, [], length, min, slice_get};
 ghost use Rattle.serde_json.specs.View.{view, items_view};
-ghost use Rattle.nm_scenario.specs.Reading.{Gives, count_of};
-ghost use Rattle.nm_scenario.specs.Scenario.{array_at, argument, counted, item_count, is_word, is_within, natural_in, is_unbuilt, other_event_at, submit_at, turn_at, deliver_at, answer_at, round_at, by_word, event_at, round_turns, elementary, elementary_total, event_limit, events_within, events_at, device_limit, change_limit};
+ghost use Rattle.nm_scenario.specs.Reading.{Gives};
+ghost use Rattle.serde_json.specs.Find.{at};
+ghost use Rattle.nm_scenario.specs.Words.{argument, item_count, is_word, natural_in};
+ghost use Rattle.nm_scenario.specs.Requests.{change_limit};
+ghost use Rattle.nm_scenario.specs.Scenario.{is_within, is_unbuilt, other_event_at, submit_at, turn_at, deliver_at, answer_at, round_at, operator_limit, user_named, asked_at, asks_unbuilt, foreign_at, leave_at, by_word, event_at, round_turns, elementary, elementary_total, event_limit, events_within, events_at, device_limit};
 
 use crate::changes::CHANGE_LIMIT;
 use crate::devices::DEVICE_LIMIT;
 use crate::fault::{ReadError, ScenarioKind, Step};
-use crate::listed::Listed;
+use crate::operators::OPERATOR_LIMIT;
 use crate::reader::{ItemReader, Reader, fault_at, fault_here, read_items};
-use crate::scenario::Event;
-use nm_base::{ChangeNo, DeviceNo};
+use crate::requests::{RequestOf, is_unbuilt_request};
+use crate::scenario::ReadEvent;
+use crate::words::{argument, counted, is_word, item_count, natural_in, read_array, read_part};
+use nm_base::{ChangeNo, DeviceNo, Label};
+use nm_proto::{Event, Listed};
 use serde_json::Value;
 use std::alloc::Global;
 
@@ -19,78 +25,15 @@ pub const EVENT_LIMIT: u64 = 100_000;
 /// How many turns one round may have.
 pub const TURN_LIMIT: u64 = 1_000;
 
-/// An element of the member `events`, in a scenario of so many change sets and devices.
+/// An element of the member `events`, in a scenario of so many change sets and devices and of these operators.
 #[derive(Drop)]
-struct EventOf {
+struct EventOf<'a> {
     changes: usize,
     devices: usize,
+    operators: &'a Listed<Label>,
 }
 
-// Whether an event's word is this one.
-fn is_word(whole: &Value, word: &str) -> bool
-    ensures { result ≡ is_word (view whole.now) word.now }
-{
-    match whole.get(0).and_then(Value::as_str) {
-        None => word.is_empty(),
-        Some(found) => found == word,
-    }
-}
-
-// The number at a place of an event.
-fn natural_in(whole: &Value, place: usize) -> Option<u64>
-    ensures { result ≡ natural_in place (view whole.now) }
-{
-    match whole.get(place) {
-        None => None,
-        Some(part) => part.as_u64(),
-    }
-}
-
-// How many items an event has.
-fn item_count(whole: &Value) -> usize
-    ensures { result ≡ item_count (view whole.now) }
-{
-    match whole.as_array() {
-        None => 0,
-        Some(items) => count(items.as_slice()),
-    }
-}
-
-#[tactic(auto, using(crate::proofs::Counts::counts))]
-fn count(items: &[Value]) -> usize
-    ensures { result ≡ count_of (items_view items.now) }
-{
-    items.len()
-}
-
-#[tactic(auto, unfolding(crate::specs::Scenario::argument))]
-fn argument(
-    alloc: Global,
-    whole: &Value,
-    place: usize,
-    low: u64,
-    high: u64,
-) -> Result<u64, ReadError>
-    ensures value { Gives result (argument place low high (view whole.now)) }
-    ensures range { IfOk result (λ n. (low ≤ n) × (n ≤ high)) }
-{
-    match natural_in(whole, place) {
-        Some(number) if low <= number && number <= high => Ok(number),
-        _ => fault_at(alloc, ScenarioKind::BadValue, Step::Item(place)),
-    }
-}
-
-#[tactic(auto, unfolding(crate::specs::Scenario::counted))]
-fn counted(alloc: Global, whole: &Value, count: usize) -> Result<(), ReadError>
-    ensures { Gives result (counted count (view whole.now)) }
-{
-    if item_count(whole) == count {
-        return Ok(());
-    }
-    fault_here(alloc, ScenarioKind::BadValue)
-}
-
-impl EventOf {
+impl<'a> EventOf<'a> {
     // The change set that an event names in the first place after its word.
     fn change(&self, alloc: Global, whole: &Value) -> Result<ChangeNo, ReadError>
         ensures { Gives result (argument 1 1 (min self.now.changes change_limit) (view whole.now)) }
@@ -107,40 +50,40 @@ impl EventOf {
     }
 
     #[tactic(auto, unfolding(crate::specs::Scenario::submit_at))]
-    fn submit(&self, alloc: Global, whole: &Value) -> Result<Event, ReadError>
+    fn submit(&self, alloc: Global, whole: &Value) -> Result<ReadEvent, ReadError>
         ensures { Gives result (submit_at self.now.changes (view whole.now)) }
     {
         counted(alloc, whole, 2)?;
         let change = self.change(alloc, whole)?;
-        Ok(Event::Submit { change })
+        Ok(ReadEvent::Other(Event::Submit { change }))
     }
 
     #[tactic(auto, unfolding(crate::specs::Scenario::turn_at))]
-    fn turn(&self, alloc: Global, whole: &Value) -> Result<Event, ReadError>
+    fn turn(&self, alloc: Global, whole: &Value) -> Result<ReadEvent, ReadError>
         ensures { Gives result (turn_at self.now.changes (view whole.now)) }
     {
         counted(alloc, whole, 2)?;
         let change = self.change(alloc, whole)?;
-        Ok(Event::Turn { change })
+        Ok(ReadEvent::Other(Event::Turn { change }))
     }
 
     #[tactic(auto, unfolding(crate::specs::Scenario::deliver_at))]
-    fn deliver(&self, alloc: Global, whole: &Value) -> Result<Event, ReadError>
+    fn deliver(&self, alloc: Global, whole: &Value) -> Result<ReadEvent, ReadError>
         ensures { Gives result (deliver_at self.now.changes self.now.devices (view whole.now)) }
     {
         counted(alloc, whole, 4)?;
         let change = self.change(alloc, whole)?;
         let device = self.device(alloc, whole)?;
         let link = argument(alloc, whole, 3, 0, u64::from(u32::MAX))? as u32;
-        Ok(Event::Deliver {
+        Ok(ReadEvent::Other(Event::Deliver {
             change,
             device,
             link,
-        })
+        }))
     }
 
     #[tactic(auto, unfolding(crate::specs::Scenario::answer_at))]
-    fn answer(&self, alloc: Global, whole: &Value) -> Result<Event, ReadError>
+    fn answer(&self, alloc: Global, whole: &Value) -> Result<ReadEvent, ReadError>
         ensures { Gives result (answer_at self.now.changes self.now.devices (view whole.now)) }
     {
         counted(alloc, whole, 5)?;
@@ -148,27 +91,82 @@ impl EventOf {
         let device = self.device(alloc, whole)?;
         let link = argument(alloc, whole, 3, 0, u64::from(u32::MAX))? as u32;
         let number = argument(alloc, whole, 4, 0, u64::from(u32::MAX))? as u32;
-        Ok(Event::Answer {
+        Ok(ReadEvent::Other(Event::Answer {
             change,
             device,
             link,
             number,
-        })
+        }))
     }
 
     #[tactic(auto, unfolding(crate::specs::Scenario::round_at))]
-    fn round(&self, alloc: Global, whole: &Value) -> Result<Event, ReadError>
+    fn round(&self, alloc: Global, whole: &Value) -> Result<ReadEvent, ReadError>
         ensures { Gives result (round_at self.now.changes (view whole.now)) }
     {
         counted(alloc, whole, 3)?;
         let change = self.change(alloc, whole)?;
         let turns = argument(alloc, whole, 2, 1, TURN_LIMIT)? as u32;
-        Ok(Event::Round { change, turns })
+        Ok(ReadEvent::Other(Event::Round { change, turns }))
+    }
+
+    fn operator(&self, alloc: Global, whole: &Value) -> Result<u32, ReadError>
+        ensures value { Gives result (argument 1 1 (min (length self.now.operators.now) operator_limit) (view whole.now)) }
+        ensures from_one { IfOk result (λ n. 1 ≤ n) }
+    {
+        let last = self.operators.len().min(OPERATOR_LIMIT) as u64;
+        Ok(argument(alloc, whole, 1, 1, last)? as u32)
+    }
+
+    // The name of an operator.
+    fn user(&self, alloc: Global, operator: u32) -> Result<Label, ReadError>
+        requires { 1 ≤ operator }
+        ensures { Gives result (user_named (slice_get self.now.operators.now (operator - 1))) }
+    {
+        match self.operators.get(operator as usize - 1) {
+            None => fault_at(alloc, ScenarioKind::BadValue, Step::Item(1)),
+            Some(user) => Ok(user.copy()?),
+        }
+    }
+
+    #[tactic(auto, unfolding(crate::specs::Scenario::asked_at))]
+    fn asked(&self, alloc: Global, whole: &Value) -> Result<ReadEvent, ReadError>
+        ensures { Gives result (asked_at self.now.operators.now self.now.devices (view whole.now)) }
+    {
+        counted(alloc, whole, 4)?;
+        let operator = self.operator(alloc, whole)?;
+        let device = self.device(alloc, whole)?;
+        let user = self.user(alloc, operator)?;
+        let request = read_part(alloc, whole, 3, &RequestOf { user })?;
+        Ok(ReadEvent::Asked {
+            operator,
+            device,
+            request,
+        })
+    }
+
+    #[tactic(auto, unfolding(crate::specs::Scenario::foreign_at))]
+    fn foreign(&self, alloc: Global, whole: &Value) -> Result<ReadEvent, ReadError>
+        ensures { Gives result (foreign_at self.now.operators.now self.now.devices (view whole.now)) }
+    {
+        if asks_unbuilt(whole) {
+            return fault_here(alloc, ScenarioKind::NotBuilt);
+        }
+        self.asked(alloc, whole)
+    }
+
+    #[tactic(auto, unfolding(crate::specs::Scenario::leave_at))]
+    fn leave(&self, alloc: Global, whole: &Value) -> Result<ReadEvent, ReadError>
+        ensures { Gives result (leave_at self.now.operators.now self.now.devices (view whole.now)) }
+    {
+        counted(alloc, whole, 3)?;
+        let operator = self.operator(alloc, whole)?;
+        let device = self.device(alloc, whole)?;
+        Ok(ReadEvent::Other(Event::Leave { operator, device }))
     }
 
     #[tactic(auto, unfolding(crate::specs::Scenario::by_word))]
-    fn by_word(&self, alloc: Global, whole: &Value) -> Result<Event, ReadError>
-        ensures { Gives result (by_word self.now.changes self.now.devices (view whole.now)) }
+    fn by_word(&self, alloc: Global, whole: &Value) -> Result<ReadEvent, ReadError>
+        ensures { Gives result (by_word self.now.changes self.now.devices self.now.operators.now (view whole.now)) }
     {
         if is_word(whole, "submit") {
             return self.submit(alloc, whole);
@@ -182,6 +180,12 @@ impl EventOf {
         if is_word(whole, "answer") {
             return self.answer(alloc, whole);
         }
+        if is_word(whole, "foreign") {
+            return self.foreign(alloc, whole);
+        }
+        if is_word(whole, "leave") {
+            return self.leave(alloc, whole);
+        }
         if is_word(whole, "round") {
             return self.round(alloc, whole);
         }
@@ -190,7 +194,7 @@ impl EventOf {
 }
 
 #[tactic(auto, unfolding(crate::specs::Scenario::other_event_at))]
-fn other_event(alloc: Global, whole: &Value) -> Result<Event, ReadError>
+fn other_event(alloc: Global, whole: &Value) -> Result<ReadEvent, ReadError>
     ensures { Gives result (other_event_at (view whole.now)) }
 {
     if is_unbuilt(whole) {
@@ -209,31 +213,30 @@ fn is_unbuilt(whole: &Value) -> bool
         || is_word(whole, "restart")
         || is_word(whole, "forget")
         || is_word(whole, "crash")
-        || is_word(whole, "foreign")
-        || is_word(whole, "leave")
 }
 
-fn read_array(alloc: Global, whole: &Value) -> Result<(), ReadError>
-    ensures { Gives result (array_at (view whole.now)) }
+// Whether the request of an operator's event isn't built.
+fn asks_unbuilt(whole: &Value) -> bool
+    ensures { result ≡ asks_unbuilt (at 3 (view whole.now)) }
 {
-    match whole {
-        Value::Array(_) => Ok(()),
-        _ => fault_here(alloc, ScenarioKind::BadValue),
+    match whole.get(3) {
+        None => false,
+        Some(request) => is_unbuilt_request(request),
     }
 }
 
-impl ItemReader for EventOf {
-    type Out = Event;
+impl<'a> ItemReader for EventOf<'a> {
+    type Out = ReadEvent;
 
-    ghost reads = { λ r. event_at r.changes r.devices };
+    ghost reads = { λ r. event_at r.changes r.devices r.operators.now };
 
     #[tactic(auto, unfolding(crate::specs::Scenario::event_at))]
     fn read(
         &self,
         alloc: Global,
-        _before: &Listed<Event>,
+        _before: &Listed<ReadEvent>,
         part: &Value,
-    ) -> Result<Event, ReadError> {
+    ) -> Result<ReadEvent, ReadError> {
         read_array(alloc, part)?;
         self.by_word(alloc, part)
     }
@@ -289,20 +292,21 @@ fn are_too_many(items: &[Value], changes: u64) -> bool
     false
 }
 
-/// The member `events`, in a scenario of so many change sets and devices.
+/// The member `events`, in a scenario of so many change sets and devices and of these operators.
 #[derive(Drop)]
-pub struct Events {
+pub struct Events<'a> {
     pub changes: usize,
     pub devices: usize,
+    pub operators: &'a Listed<Label>,
 }
 
-impl Reader for Events {
-    type Out = Listed<Event>;
+impl<'a> Reader for Events<'a> {
+    type Out = Listed<ReadEvent>;
 
-    ghost reads = { λ r. events_at r.changes r.devices };
+    ghost reads = { λ r. events_at r.changes r.devices r.operators.now };
 
     #[tactic(auto, unfolding(crate::specs::Scenario::events_at))]
-    fn read(&self, alloc: Global, part: &Value) -> Result<Listed<Event>, ReadError> {
+    fn read(&self, alloc: Global, part: &Value) -> Result<Listed<ReadEvent>, ReadError> {
         match part.as_array() {
             None => fault_here(alloc, ScenarioKind::BadValue),
             Some(items) => self.within(alloc, items.as_slice()),
@@ -310,9 +314,9 @@ impl Reader for Events {
     }
 }
 
-impl Events {
-    fn within(&self, alloc: Global, items: &[Value]) -> Result<Listed<Event>, ReadError>
-        ensures { Gives result (events_within self.now.changes self.now.devices (items_view items.now)) }
+impl<'a> Events<'a> {
+    fn within(&self, alloc: Global, items: &[Value]) -> Result<Listed<ReadEvent>, ReadError>
+        ensures { Gives result (events_within self.now.changes self.now.devices self.now.operators.now (items_view items.now)) }
     {
         if are_too_many(items, self.changes as u64) {
             return fault_here(alloc, ScenarioKind::TooMany);
@@ -320,6 +324,7 @@ impl Events {
         let event = EventOf {
             changes: self.changes,
             devices: self.devices,
+            operators: self.operators,
         };
         read_items(alloc, items, &event)
     }

@@ -1,8 +1,8 @@
 ghost use Rattle.std.specs.Prelude.{◌≡◌};
 ghost use Rattle.nm_scenario.specs.declared.fault.ReadError.TheVariants.{NoMemory};
 
-use crate::listed::Listed;
 use nm_base::Label;
+use nm_proto::Listed;
 use std::alloc::{AllocError, AllocFailed};
 
 /// What is wrong with a scenario.

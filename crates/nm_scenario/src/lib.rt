@@ -9,16 +9,19 @@ mod devices;
 mod events;
 pub mod fault;
 mod flat;
-pub mod listed;
 mod numbering;
+#[cfg(test)]
+mod operator_tests;
+mod operators;
 mod read;
 mod reader;
+mod requests;
 pub mod scenario;
 #[cfg(test)]
 mod tests;
 mod values;
+mod words;
 
 pub use fault::{Fault, ReadError, ScenarioKind, Step};
-pub use listed::Listed;
 pub use read::{BYTE_LIMIT, read_scenario};
-pub use scenario::{ChangePlan, Event, PlannedEdit, Scenario};
+pub use scenario::Scenario;

@@ -1,19 +1,21 @@
-ghost use Rattle.std.specs.Prelude.{◌≡◌, ◌≤◌, ◌<◌, length, nat_lt};
+ghost use Rattle.std.specs.Prelude.{◌≡◌, ◌≤◌, ◌<◌, length, nat_lt, IfOk};
 ghost use Rattle.serde_json.specs.View.{view};
 ghost use Rattle.nm_scenario.specs.Reading.{Gives};
-ghost use Rattle.nm_scenario.specs.Scenario.{knows_scenario, scenario_at, scenario_from, scenario_of, byte_limit, json_of};
+ghost use Rattle.nm_scenario.specs.Scenario.{knows_scenario, put_together, scenario_at, scenario_from, scenario_of, byte_limit, json_of};
 
 use crate::changes::Changes;
 use crate::devices::Devices;
 use crate::events::Events;
 use crate::fault::{ReadError, ScenarioKind};
-use crate::listed::Listed;
-use crate::numbering::{Numbered, with_numbers};
+use crate::numbering::{Numbered, with_event_numbers, with_numbers};
+use crate::operators::Operators;
 use crate::reader::{
     Names, fault_here, optional_member, read_object, read_only_known, required_member,
 };
-use crate::scenario::Scenario;
-use crate::values::{Contents, EmptyList, NumberWithin, Off};
+use crate::scenario::{ReadChange, ReadEvent, Scenario};
+use crate::values::{Contents, EmptyList, NumberWithin, Off, Switch};
+use nm_base::{Label, NoMemory};
+use nm_proto::{FlatConfig, Listed};
 use serde_json::Value;
 use std::alloc::Global;
 
@@ -94,13 +96,13 @@ fn read_whole(alloc: Global, whole: &Value) -> Result<Scenario, ReadError>
         Listed::new(alloc),
         &Changes { devices: &devices },
     )?;
-    optional_member(
+    let operators = optional_member(
         alloc,
         whole,
         "operators",
-        (),
-        &EmptyList {
-            otherwise: ScenarioKind::NotBuilt,
+        Listed::new(alloc),
+        &Operators {
+            changes: reads.len(),
         },
     )?;
     optional_member(
@@ -115,16 +117,33 @@ fn read_whole(alloc: Global, whole: &Value) -> Result<Scenario, ReadError>
     let sizes = Events {
         changes: reads.len(),
         devices: devices.len(),
+        operators: &operators,
     };
     let events = optional_member(alloc, whole, "events", Listed::new(alloc), &sizes)?;
     optional_member(alloc, whole, "drain", (), &Off)?;
-    optional_member(alloc, whole, "trace", (), &Off)?;
+    let trace = optional_member(alloc, whole, "trace", false, &Switch)?;
     read_only_known(alloc, whole, &ScenarioNames)?;
-    let Numbered { changes, edits } = with_numbers(alloc, reads)?;
+    Ok(put_together(alloc, devices, reads, operators, events, trace)?)
+}
+
+fn put_together(
+    alloc: Global,
+    devices: Listed<FlatConfig>,
+    reads: Listed<ReadChange>,
+    operators: Listed<Label>,
+    events: Listed<ReadEvent>,
+    trace: bool,
+) -> Result<Scenario, NoMemory>
+    ensures { IfOk result (λ whole. whole ≡ put_together devices reads operators events trace) }
+{
+    let Numbered { changes, mut edits } = with_numbers(alloc, reads)?;
+    let events = with_event_numbers(alloc, events, &mut edits)?;
     Ok(Scenario {
         devices,
         edits,
         changes,
+        operators,
         events,
+        trace,
     })
 }

@@ -6,8 +6,8 @@ ghost use Rattle.serde_json.specs.View.{items_view, members_view};
 ghost use Rattle.nm_scenario.specs.Reading.{Gives, here, there, under, required, optional, list_at, items_after, within, only_known, object_at, first_unknown, none_unknown, count_of};
 
 use crate::fault::{Fault, ReadError, ScenarioKind, Step};
-use crate::listed::Listed;
 use nm_base::Label;
+use nm_proto::Listed;
 use serde_json::{Map, Value};
 use std::alloc::Global;
 
@@ -42,7 +42,7 @@ pub fn fault_at<T>(alloc: Global, kind: ScenarioKind, step: Step) -> Result<T, R
 }
 
 /// The error, seen from one step further out.
-fn seen_from_outside<T>(error: ReadError, step: Step) -> Result<T, ReadError>
+pub fn seen_from_outside<T>(error: ReadError, step: Step) -> Result<T, ReadError>
     ensures { (read : Result T Fault) → Gives (Err error) read → Gives result (under step read) }
 {
     match error {

@@ -1,11 +1,11 @@
 use super::*;
-use nm_base::{ChangeNo, DeviceNo, EditNo, NoMemory};
-use nm_proto::DefaultOperation;
+use nm_base::{DeviceNo, EditNo, NoMemory};
+use nm_proto::{DefaultOperation, Event, PlannedEdit};
 use std::alloc::{AllocError, Global};
 use std::test::Fail;
 
 // Two devices and one change set, without the brace at the end.
-const DEVICES: &str =
+pub const DEVICES: &str =
     r#"{"netm":1,"contents":"flat","devices":[{"running":{"7":1}},{"running":{}}]"#;
 
 const CHANGE: &str = r#","changes":[{"edits":[{"device":1,"edit":{"7":2}}]}]"#;
@@ -44,7 +44,7 @@ fn fault_text(alloc: Global, fault: &Fault) -> Result<String, AllocError> {
 }
 
 // `read`, or the first fault.
-fn told(alloc: Global, bytes: &[u8]) -> Result<String, NoMemory> {
+pub fn told(alloc: Global, bytes: &[u8]) -> Result<String, NoMemory> {
     match read_scenario(alloc, bytes) {
         Ok(_) => Ok(String::from_str(alloc, "read")?),
         Err(ReadError::Bad(fault)) => Ok(fault_text(alloc, &fault)?),
@@ -53,7 +53,7 @@ fn told(alloc: Global, bytes: &[u8]) -> Result<String, NoMemory> {
 }
 
 // `n` times the same text, between two others.
-fn repeated(
+pub fn repeated(
     alloc: Global,
     open: &str,
     item: &str,
@@ -124,19 +124,24 @@ fn members_are_told(rt: HostRuntime) -> Result<(), Fail> {
         (r#","modules":["module x {}"]}"#, "bad-value /modules"),
         (r#","modules":null}"#, "bad-value /modules"),
         (r#","changes":null}"#, "bad-value /changes"),
-        (r#","operators":[{"user":"ann"}]}"#, "not-built /operators"),
+        (r#","operators":[{"user":"ann"}]}"#, "read"),
         (r#","operators":{}}"#, "bad-value /operators"),
         (r#","faults":[1]}"#, "not-built /faults"),
         (r#","faults":0}"#, "bad-value /faults"),
         (r#","events":{}}"#, "bad-value /events"),
         (r#","drain":true}"#, "not-built /drain"),
         (r#","drain":0}"#, "bad-value /drain"),
-        (r#","trace":true}"#, "not-built /trace"),
+        (r#","trace":true}"#, "read"),
         (r#","trace":null}"#, "bad-value /trace"),
         (r#","trace":true,"drain":0}"#, "bad-value /drain"),
         // The least of the unknown names, after all that is known.
         (r#","users":1,"extra":2}"#, "unknown /extra"),
-        (r#","extra":2,"trace":true}"#, "not-built /trace"),
+        (r#","extra":2,"drain":true}"#, "not-built /drain"),
+        (r#","extra":2,"trace":true}"#, "unknown /extra"),
+        (
+            r#","trace":"on","operators":[7]}"#,
+            "bad-value /operators/0",
+        ),
         (r#","":2}"#, "unknown /"),
     ] {
         let text = format!(in rt.alloc(); "{DEVICES}{text}")?;
@@ -434,8 +439,8 @@ fn events_are_told(rt: HostRuntime) -> Result<(), Fail> {
         (r#"["restart",1]"#, "not-built /events/0"),
         (r#"["forget",1]"#, "not-built /events/0"),
         (r#"["crash"]"#, "not-built /events/0"),
-        (r#"["foreign",1,1,["validate"]]"#, "not-built /events/0"),
-        (r#"["leave",1,1]"#, "not-built /events/0"),
+        (r#"["foreign",1,1,["validate"]]"#, "bad-value /events/0/1"),
+        (r#"["leave",1,1]"#, "bad-value /events/0/1"),
     ] {
         let text = format!(in rt.alloc(); "{DEVICES}{CHANGE},\"events\":[{text}]}}")?;
         let told = told(rt.alloc(), text.as_bytes())?;
@@ -465,6 +470,25 @@ fn elementary_events_are_limited(rt: HostRuntime) -> Result<(), Fail> {
     Ok(())
 }
 
+// The change set, the device, the link and the last number of an event, 0 where it has none.
+fn numbers_of(event: &Event) -> (u32, u32, u32, u32) {
+    match event {
+        Event::Deliver {
+            change,
+            device,
+            link,
+        } => (change.get(), u32::from(device.get()), *link, 0),
+        Event::Answer {
+            change,
+            device,
+            link,
+            number,
+        } => (change.get(), u32::from(device.get()), *link, *number),
+        Event::Round { change, turns } => (change.get(), 0, 0, *turns),
+        _ => (0, 0, 0, 0),
+    }
+}
+
 // What is read: each event with its numbers, and each edit under its own.
 #[test]
 fn scenarios_are_read(rt: HostRuntime) -> Result<(), Fail> {
@@ -475,23 +499,11 @@ fn scenarios_are_read(rt: HostRuntime) -> Result<(), Fail> {
     let Ok(scenario) = read_scenario(rt.alloc(), text.as_bytes()) else {
         return Err("refused".into());
     };
-    let change = ChangeNo::new(1).ok_or("change 1")?;
+    for (place, want) in [(0, (1, 2, 3, 0)), (1, (1, 2, 3, 4)), (2, (1, 0, 0, 9))] {
+        let event = scenario.events.get(place).ok_or("event")?;
+        assert_eq!(rt; numbers_of(event), want, "{place}");
+    }
     let device = DeviceNo::new(2).ok_or("device 2")?;
-    let events = [
-        Event::Deliver {
-            change,
-            device,
-            link: 3,
-        },
-        Event::Answer {
-            change,
-            device,
-            link: 3,
-            number: 4,
-        },
-        Event::Round { change, turns: 9 },
-    ];
-    assert_eq!(rt; scenario.events.as_slice(), events.as_slice());
     let plan = scenario.changes.get(0).ok_or("change set")?;
     let planned = PlannedEdit {
         device,

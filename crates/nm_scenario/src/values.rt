@@ -1,8 +1,9 @@
 ghost use Rattle.std.specs.Prelude.{◌≡◌, ◌≤◌, ℕ, Result, IfOk};
 ghost use Rattle.serde_json.specs.View.{view, items_view};
 ghost use Rattle.nm_scenario.specs.declared.fault.ScenarioKind.{ScenarioKind};
-ghost use Rattle.nm_scenario.specs.Reading.{Gives, here};
-ghost use Rattle.nm_scenario.specs.Scenario.{number_within, contents_at, empty_list_at, nothing_in, off_at, default_at};
+ghost use Rattle.nm_scenario.specs.Reading.{Gives, here, number_within};
+ghost use Rattle.nm_scenario.specs.Requests.{default_at};
+ghost use Rattle.nm_scenario.specs.Scenario.{contents_at, empty_list_at, nothing_in, off_at, switch_at};
 
 use crate::fault::{ReadError, ScenarioKind};
 use crate::reader::{Reader, fault_here};
@@ -22,7 +23,7 @@ impl Reader for NumberWithin {
 
     ghost reads = { λ r. number_within r.low r.high };
 
-    #[tactic(auto, unfolding(crate::specs::Scenario::number_within))]
+    #[tactic(auto, unfolding(crate::specs::Reading::number_within))]
     fn read(&self, alloc: Global, part: &Value) -> Result<u64, ReadError> {
         match part.as_u64() {
             Some(number) if self.low <= number && number <= self.high => Ok(number),
@@ -106,6 +107,24 @@ impl Reader for Off {
     }
 }
 
+/// A switch.
+#[derive(Drop)]
+pub struct Switch;
+
+impl Reader for Switch {
+    type Out = bool;
+
+    ghost reads = { λ _. switch_at };
+
+    #[tactic(auto, unfolding(crate::specs::Scenario::switch_at))]
+    fn read(&self, alloc: Global, part: &Value) -> Result<bool, ReadError> {
+        match part.as_bool() {
+            None => fault_here(alloc, ScenarioKind::BadValue),
+            Some(on) => Ok(on),
+        }
+    }
+}
+
 /// The default operation of an edit.
 #[derive(Drop)]
 pub struct Operation;
@@ -115,7 +134,7 @@ impl Reader for Operation {
 
     ghost reads = { λ _. default_at };
 
-    #[tactic(auto, unfolding(crate::specs::Scenario::default_at))]
+    #[tactic(auto, unfolding(crate::specs::Requests::default_at))]
     fn read(&self, alloc: Global, part: &Value) -> Result<DefaultOperation, ReadError> {
         match part.as_str() {
             None => fault_here(alloc, ScenarioKind::BadValue),

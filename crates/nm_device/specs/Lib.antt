@@ -1,0 +1,5 @@
+pub mod Pending
+pub mod Device
+pub mod Commit
+pub mod Table
+pub mod History

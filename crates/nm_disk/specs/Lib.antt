@@ -1,0 +1,8 @@
+pub mod Count
+pub mod Image
+pub mod ImageLaws
+pub mod Moments
+pub mod Memory
+pub mod MemoryLaws
+pub mod File
+pub mod Any

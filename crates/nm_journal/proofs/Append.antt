@@ -1,0 +1,60 @@
+-- The disk at each step of an appending.
+use Rattle.std.proofs.Common.{◌≡◌, ℕ, ◌+◌, ◌*◌, ◌≤◌, Option, Some, None, Result, Ok, Err, List, [], ◌∷◌, ◌++◌, length, refl, sym, ◌∙◌, ap, subst, arith}
+use Rattle.std.specs.Option.{IsSome, IfSome}
+use Rattle.std.specs.Result.{OnOk}
+use Rattle.std.proofs.lemmas.Bool.{false≢true}
+use Rattle.nm_disk.specs.Image.{with_piece, told_with_piece, LeavesOnly, IsTorn}
+use Rattle.nm_proto.specs.declared.journal.Entry.{Entry}
+use Rattle.nm_journal.specs.Record.{record_of, entry_of}
+use Rattle.nm_journal.specs.Entries.{MayFollow}
+use Rattle.nm_journal.specs.Fits.{EndsAtGate, ReadsWithOrWithout, MayTear}
+use Rattle.nm_journal.proofs.Gate.{IsStaged, stage_torn, stage_done, gate_torn, gate_done}
+
+pub on_ok_two : {T E P Q R : Type 0} (r : Result T E) → (P → Q → R) → OnOk r P → OnOk r Q → OnOk r R
+on_ok_two (Ok x) f p q = f p q
+on_ok_two (Err e) f p q = tt
+
+-- there is room for the record behind the gate
+pub within : (told : Option (List ℕ)) (entries : List Entry) → ((bytes : List ℕ) → told ≡ Some bytes → EndsAtGate entries bytes) → IfSome told (λ bytes. 16 * length entries + 1 ≤ length bytes)
+within None entries holds = tt
+within (Some bytes) entries holds = omega (arith, (holds bytes refl).there)
+
+-- the first write, torn
+pub first_torn : (may_leave : List ℕ → Type 0) (entries : List Entry) (n : ℕ) → ((image : List ℕ) → may_leave image → EndsAtGate entries image)
+    → (image : List ℕ) → MayTear may_leave (16 * length entries + 1) n image → EndsAtGate entries image
+first_torn may_leave entries n holds image torn = stage_torn entries n torn.0 image (holds torn.0 torn.1) torn.2
+
+-- the record is on the disk behind the closed gate
+pub record Staging (entries : List Entry) (entry : Entry) (told : Option (List ℕ)) (may_leave : List ℕ → Type 0) : Type 0 where
+  pub bytes : List ℕ
+  pub tells : told ≡ Some bytes
+  pub staged : IsStaged entries entry bytes
+  pub only : LeavesOnly bytes may_leave
+
+pub first_done : (before told : Option (List ℕ)) (may_leave : List ℕ → Type 0) (entries : List Entry) (entry : Entry) (block : List ℕ) → ((bytes : List ℕ) → before ≡ Some bytes → EndsAtGate entries bytes)
+    → block ≡ record_of entry ++ 0 ∷ [] → told ≡ told_with_piece before (16 * length entries + 1) block → IfSome told (λ bytes. LeavesOnly bytes may_leave) → IsSome before → Staging entries entry told may_leave
+first_done None told may_leave entries entry block holds is_block same only some = absurd (false≢true some)
+first_done (Some old) told may_leave entries entry block holds is_block same only some =
+    let bytes = with_piece old (16 * length entries + 1) (record_of entry ++ 0 ∷ []) in
+    let tells : told ≡ Some bytes = same ∙ ap (λ b. Some (with_piece old (16 * length entries + 1) b)) is_block in
+    record {
+      bytes = bytes;
+      tells = tells;
+      staged = stage_done entries entry old (holds old refl);
+      only = subst (λ o. IfSome o (λ b. LeavesOnly b may_leave)) tells only;
+    }
+
+-- the second write, torn
+pub second_torn : (entries : List Entry) (entry : Entry) (told : Option (List ℕ)) (may_leave : List ℕ → Type 0) → MayFollow entries entry → entry_of (record_of entry) ≡ Some entry → Staging entries entry told may_leave
+    → (image : List ℕ) → MayTear may_leave (16 * length entries) 1 image → ReadsWithOrWithout entries entry image
+second_torn entries entry told may_leave follows reads staging image torn =
+    gate_torn entries entry follows reads staging.bytes image staging.staged (subst (λ old. IsTorn (16 * length entries) 1 old image) (staging.only torn.0 torn.1) torn.2)
+
+-- the second write, done
+pub second_done : (entries : List Entry) (entry : Entry) (told now : Option (List ℕ)) (may_leave leaves : List ℕ → Type 0) → MayFollow entries entry → entry_of (record_of entry) ≡ Some entry → Staging entries entry told may_leave
+    → now ≡ told_with_piece told (16 * length entries) (1 ∷ []) → IfSome now (λ bytes. LeavesOnly bytes leaves) → (image : List ℕ) → leaves image → EndsAtGate (entries ++ entry ∷ []) image
+second_done entries entry told now may_leave leaves follows reads staging same only image left =
+    let bytes = with_piece staging.bytes (16 * length entries) (1 ∷ []) in
+    let tells : now ≡ Some bytes = same ∙ ap (λ o. told_with_piece o (16 * length entries) (1 ∷ [])) staging.tells in
+    let is : image ≡ bytes = subst (λ o. IfSome o (λ b. LeavesOnly b leaves)) tells only image left in
+    subst (EndsAtGate (entries ++ entry ∷ [])) (sym is) (gate_done entries entry follows reads staging.bytes staging.staged)

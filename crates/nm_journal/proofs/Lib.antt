@@ -1,0 +1,11 @@
+pub mod OneRecord
+pub mod Reach
+pub mod Records
+pub mod Gate
+pub mod Bound
+pub mod Loop
+pub mod Told
+pub mod Append
+pub mod Front
+pub mod Close
+pub mod Reopen

@@ -1,0 +1,49 @@
+-- What a disk may hold of a journal (this project's own).
+use Rattle.std.specs.Prelude.{◌≡◌, ◌⊎◌, ℕ, ◌*◌, ◌<◌, List, [], ◌∷◌, ◌++◌, length, Option, Some, None, IsSome, Ok, slice_index}
+use Rattle.nm_disk.specs.Image.{IsTorn, LeavesOnly}
+use Rattle.nm_proto.specs.declared.journal.Entry.{Entry}
+use Rattle.nm_journal.specs.Entries.{entries_of}
+
+-- a journal: its entries, and the entry that it was to append when its disk failed, where it is stopped
+pub record JournalState : Type 0 where
+  pub entries : List Entry
+  pub failed : Option Entry
+
+-- bytes that read as these entries, with a closed gate after them
+pub record EndsAtGate (entries : List Entry) (bytes : List ℕ) : Type 0 where
+  pub reads : entries_of bytes ≡ Ok entries
+  pub there : 16 * length entries < length bytes
+  pub closed : slice_index bytes (16 * length entries) ≡ 0
+
+-- bytes that read as these entries, or as these with one more
+abbrev pub ReadsWithOrWithout : List Entry → Entry → List ℕ → Type 0
+ReadsWithOrWithout entries entry bytes = (entries_of bytes ≡ Ok entries) ⊎ (entries_of bytes ≡ Ok (entries ++ entry ∷ []))
+
+-- what an image of a disk that a journal fits holds
+abbrev pub IsImageOf : Option Entry → List Entry → List ℕ → Type 0
+IsImageOf None entries image = EndsAtGate entries image
+IsImageOf (Some entry) entries image = ReadsWithOrWithout entries entry image
+
+-- a journal fits each disk that doesn't tell its bytes, and one that tells them where each of its images holds the
+-- journal's entries with a closed gate after them, or those and perhaps the entry at which it stopped
+abbrev pub Fits : {D : Type 0} → (D → Option (List ℕ)) → (D → List ℕ → Type 0) → JournalState → D → Type 0
+Fits told may_leave journal disk = IsSome (told disk) → (image : List ℕ) → may_leave disk image → IsImageOf journal.failed journal.entries image
+
+-- an image that a write of n bytes may leave of those that a crash might have left before
+abbrev pub MayTear : (List ℕ → Type 0) → ℕ → ℕ → List ℕ → Type 0
+MayTear before at n image = (old : List ℕ) × before old × IsTorn at n old image
+
+-- bytes that read as these entries
+abbrev pub ReadsAs : List Entry → List ℕ → Type 0
+ReadsAs entries bytes = entries_of bytes ≡ Ok entries
+
+-- what a crash leaves while a journal is reopened over these bytes: an image that was there, or one that reads as they do
+-- where they read as a list
+abbrev pub WasThereOrReadsAs : (List ℕ → Type 0) → List ℕ → List ℕ → Type 0
+WasThereOrReadsAs before bytes image = before image ⊎ ((entries : List Entry) × ReadsAs entries bytes × ReadsAs entries image)
+
+-- what was read of a disk after a sync: so many bytes, which read as these entries, and a crash leaves no others
+pub record IsRead (entries : List Entry) (size : ℕ) (may_leave : List ℕ → Type 0) (bytes : List ℕ) : Type 0 where
+  pub size_is : size ≡ length bytes
+  pub reads : ReadsAs entries bytes
+  pub only : LeavesOnly bytes may_leave

@@ -1,0 +1,161 @@
+ghost use Rattle.std.specs.Prelude.{◌≡◌, ◌≢◌, ◌⊎◌, ◌↔◌, ◌≤◌, ◌<◌, ◌++◌, [], ◌∷◌, List, ℕ, Some, None, Ok, Err, length, OnOk, OnErr, IfOk, IfErr, IfSome, IsSome, is_some};
+ghost use Rattle.nm_disk.specs.Count.{Rose};
+ghost use Rattle.nm_disk.specs.Image.{LeavesOnly, AnyMoment};
+ghost use Rattle.nm_journal.specs.Entries.{entries_of, MayFollow, IsInOrder};
+ghost use Rattle.nm_journal.specs.Fits.{Fits, ReadsAs, ReadsWithOrWithout, WasThereOrReadsAs};
+ghost use Rattle.nm_journal.specs.declared.fault.JournalFault.TheVariants.{Damaged, DiskFault, NotEmpty, NoMemory, Stopped};
+
+use crate::fault::JournalFault;
+use crate::reading::{MOST_BYTES, MOST_ENTRIES};
+use crate::steps::{begin, close, read_back, write_record};
+use nm_disk::Disk;
+use nm_proto::Entry;
+use std::alloc::Global;
+use std::marker::Model;
+
+/// A journal on a disk: its entries, and the entry at which it stopped where its disk failed.
+///
+/// It is given its disk with each call. A stopped journal appends nothing more; to go on, open it again.
+#[derive(Drop)]
+pub struct Journal {
+    entries: Vec<Entry>,
+    failed: Option<Entry>,
+}
+
+impl Model for Journal {
+    ghost use Rattle.std.specs.Prelude.{◌≤◌, vec_capacity};
+    ghost use Rattle.nm_journal.specs.Entries.{IsInOrder};
+    ghost use Rattle.nm_journal.specs.Fits.{JournalState};
+
+    ghost Value = { JournalState };
+
+    ghost view = { λ journal. record { entries = journal.entries.items; failed = journal.failed } };
+
+    ghost invariant = { λ journal. IsInOrder journal.entries.items × (192 ≤ vec_capacity journal.entries) };
+}
+
+impl Journal {
+    /// A journal of no entries on an empty disk.
+    ///
+    /// It takes the room of all its entries first. On a disk that holds bytes it writes nothing.
+    pub fn fresh<D: Disk>(alloc: Global, disk: &mut D) -> Result<Journal, JournalFault>
+        ensures value { IfOk result (λ journal. journal ≡ record { entries = []; failed = None }) }
+        ensures fits { IfOk result (λ journal. Fits D.told D.may_leave journal disk.new) }
+        ensures empty { OnOk result (IfSome (D.told disk.old) (λ bytes. bytes ≡ [])) }
+
+        ensures not_empty { (size : ℕ) → result ≡ Err (NotEmpty size) → (0 < size) × IfSome (D.told disk.old) (λ bytes. size ≡ length bytes) × (D.told disk.new ≡ D.told disk.old) }
+        ensures disk_fault { result ≡ Err DiskFault → Rose (D.faults disk.old) (D.faults disk.new) }
+        ensures no_memory { result ≡ Err NoMemory → disk.new ≡ disk.old }
+        ensures no_other { IfErr result (λ fault. ((fault ≡ DiskFault) ⊎ ((size : ℕ) × (fault ≡ NotEmpty size))) ⊎ (fault ≡ NoMemory)) }
+
+        // A crash during the call leaves what was there, where there was something, and else an empty list.
+        ensures any_moment_full { IfSome (D.told disk.old) (λ bytes. bytes ≢ [] → AnyMoment D.moment D.might_have_left disk.old disk.new (D.may_leave disk.old)) }
+        ensures any_moment_empty { IsSome (D.told disk.old) → LeavesOnly [] (D.may_leave disk.old) → AnyMoment D.moment D.might_have_left disk.old disk.new (ReadsAs []) }
+        ensures tells { is_some (D.told disk.new) ≡ is_some (D.told disk.old) }
+        ensures count { D.faults disk.old ≤ D.faults disk.new }
+    {
+        let entries = Vec::with_capacity(alloc, MOST_ENTRIES)?;
+        match begin(disk) {
+            Ok(()) => Ok(Journal {
+                entries,
+                failed: None,
+            }),
+            Err(fault) => Err(fault),
+        }
+    }
+
+    /// The journal that a disk holds, whatever a crash made of it, and its entries.
+    ///
+    /// It takes the room of all its entries first, twice. What is behind the last record is taken away.
+    pub fn reopen<D: Disk>(
+        alloc: Global,
+        disk: &mut D,
+    ) -> Result<(Journal, Vec<Entry>), JournalFault>
+        ensures value { IfOk result (λ opened. opened.0 ≡ record { entries = opened.1.items; failed = None }) }
+        ensures entries { IfOk result (λ opened. IfSome (D.told disk.old) (ReadsAs opened.1.items)) }
+        ensures in_order { IfOk result (λ opened. IsInOrder opened.1.items) }
+        ensures fits { IfOk result (λ opened. Fits D.told D.may_leave opened.0 disk.new) }
+
+        ensures damaged { (offset : ℕ) → result ≡ Err (Damaged offset) → IfSome (D.told disk.old) (λ bytes. entries_of bytes ≡ Err offset) × (D.told disk.new ≡ D.told disk.old) }
+        ensures disk_fault { result ≡ Err DiskFault → Rose (D.faults disk.old) (D.faults disk.new) }
+        ensures no_memory { result ≡ Err NoMemory → disk.new ≡ disk.old }
+        ensures no_other { IfErr result (λ fault. ((fault ≡ DiskFault) ⊎ ((offset : ℕ) × (fault ≡ Damaged offset))) ⊎ (fault ≡ NoMemory)) }
+
+        // A crash during the call leaves an image that was there, or one that reads as the same list.
+        ensures any_moment { IfSome (D.told disk.old) (λ bytes. AnyMoment D.moment D.might_have_left disk.old disk.new (WasThereOrReadsAs (D.may_leave disk.old) bytes)) }
+        ensures tells { is_some (D.told disk.new) ≡ is_some (D.told disk.old) }
+        ensures count { D.faults disk.old ≤ D.faults disk.new }
+    {
+        let mut entries = Vec::with_capacity(alloc, MOST_ENTRIES)?;
+        let mut copied = Vec::with_capacity(alloc, MOST_ENTRIES)?;
+        let mut bytes = vec![in alloc; 0; MOST_BYTES]?;
+        let size = match read_back(disk, &mut bytes, &mut entries) {
+            Ok(size) => size,
+            Err(fault) => return Err(fault),
+        };
+        match close(disk, &entries, size) {
+            Ok(()) => {
+                copied.extend_from_slice(&entries).unwrap();
+                let journal = Journal {
+                    entries,
+                    failed: None,
+                };
+                Ok((journal, copied))
+            }
+            Err(_) => Err(JournalFault::DiskFault),
+        }
+    }
+
+    /// Appends an entry that may come next. At Ok it is acknowledged: each crash from then on leaves a
+    /// disk that has it.
+    ///
+    /// It takes no memory. After a disk fault the journal is stopped until it is opened again.
+    pub fn append<D: Disk>(&mut self, disk: &mut D, entry: Entry) -> Result<(), JournalFault>
+        requires follows { MayFollow self.old.entries entry }
+        requires fits { Fits D.told D.may_leave self.old disk.old }
+
+        ensures added { OnOk result (self.new ≡ record self.old { entries = self.old.entries ++ entry ∷ [] }) }
+        ensures fits { Fits D.told D.may_leave self.new disk.new }
+
+        ensures stopped { (result ≡ Err Stopped) ↔ IsSome self.old.failed }
+        ensures untouched { result ≡ Err Stopped → (self.new ≡ self.old) × (disk.new ≡ disk.old) }
+        ensures fault { result ≡ Err DiskFault → self.new ≡ record self.old { failed = Some entry } }
+        ensures disk_fault { result ≡ Err DiskFault → Rose (D.faults disk.old) (D.faults disk.new) }
+        ensures no_other { IfErr result (λ fault. (fault ≡ Stopped) ⊎ (fault ≡ DiskFault)) }
+
+        // A crash at any moment of the call leaves the entries from before it, with the new one or without.
+        ensures any_moment { self.old.failed ≡ None → IsSome (D.told disk.old)
+            → AnyMoment D.moment D.might_have_left disk.old disk.new (ReadsWithOrWithout self.old.entries entry) }
+        ensures tells { is_some (D.told disk.new) ≡ is_some (D.told disk.old) }
+        ensures count { D.faults disk.old ≤ D.faults disk.new }
+    {
+        if self.failed.is_some() {
+            return Err(JournalFault::Stopped);
+        }
+        match write_record(disk, &self.entries, &entry) {
+            Ok(()) => {
+                self.entries.push(entry).unwrap();
+                Ok(())
+            }
+            Err(_) => {
+                self.failed = Some(entry);
+                Err(JournalFault::DiskFault)
+            }
+        }
+    }
+
+    /// The entries, the first of them first.
+    pub fn entries(&self) -> &[Entry]
+        ensures entries { result.now ≡ self.now.entries }
+        ensures in_order { IsInOrder result.now }
+    {
+        &self.entries
+    }
+
+    /// Whether the disk failed, so that nothing more is appended.
+    pub fn is_stopped(&self) -> bool
+        ensures { result ≡ is_some self.now.failed }
+    {
+        self.failed.is_some()
+    }
+}

@@ -1,0 +1,154 @@
+ghost use Rattle.std.specs.Prelude.{◌≡◌, ◌≢◌, ◌⊎◌, ◌≤◌, ◌<◌, ◌+◌, ◌*◌, ◌^◌, ◌++◌, [], ◌∷◌, true, List, ℕ, Some, min, length, take, OnOk, OnErr, IfOk, IfSome, IsSome, is_some, IfErr, Ok, Err, vec_capacity};
+ghost use Rattle.nm_disk.specs.Count.{Rose};
+ghost use Rattle.nm_disk.specs.Image.{told_with_piece, LeavesOnly, IsPerhapsCut, AnyMoment};
+ghost use Rattle.nm_journal.specs.Entries.{entries_of, MayFollow, IsInOrder};
+ghost use Rattle.nm_journal.specs.Fits.{EndsAtGate, ReadsAs, ReadsWithOrWithout, MayTear, IsRead};
+ghost use Rattle.nm_journal.specs.declared.fault.JournalFault.TheVariants.{Damaged, DiskFault, NotEmpty};
+
+use crate::fault::JournalFault;
+use crate::reading::read_into;
+use crate::record::block_of;
+use nm_base::Failed;
+use nm_disk::Disk;
+use nm_proto::Entry;
+
+// Writes a piece, and brings it onto the disk.
+fn write_and_sync<D: Disk>(disk: &mut D, at: u64, piece: &[u8]) -> Result<(), Failed>
+    requires { IfSome (D.told disk.old) (λ bytes. at ≤ length bytes) }
+    ensures written { OnOk result (D.told disk.new ≡ told_with_piece (D.told disk.old) at piece.now) }
+    ensures durable { OnOk result (IfSome (D.told disk.new) (λ bytes. LeavesOnly bytes (D.may_leave disk.new))) }
+    ensures any_moment { IsSome (D.told disk.old) → AnyMoment D.moment D.might_have_left disk.old disk.new (MayTear (D.may_leave disk.old) at (length piece.now)) }
+    ensures tells { is_some (D.told disk.new) ≡ is_some (D.told disk.old) }
+    ensures count { D.faults disk.old ≤ D.faults disk.new }
+    ensures failed { OnErr result (Rose (D.faults disk.old) (D.faults disk.new)) }
+{
+    disk.write_at(at, piece)?;
+    disk.sync()
+}
+
+// Appends the record of an entry behind the records of the others: first the record and a closed gate
+// behind it, then the open gate before it.
+pub(crate) fn write_record<D: Disk>(
+    disk: &mut D,
+    entries: &[Entry],
+    entry: &Entry,
+) -> Result<(), Failed>
+    requires follows { MayFollow entries.now entry.now }
+    requires few { length entries.now < 192 }
+    requires fits { IsSome (D.told disk.old) → (image : List ℕ) → D.may_leave disk.old image → EndsAtGate entries.now image }
+    ensures added { OnOk result (IsSome (D.told disk.old) → (image : List ℕ) → D.may_leave disk.new image → EndsAtGate (entries.now ++ entry.now ∷ []) image) }
+    ensures any_moment { IsSome (D.told disk.old) → AnyMoment D.moment D.might_have_left disk.old disk.new (ReadsWithOrWithout entries.now entry.now) }
+    ensures tells { is_some (D.told disk.new) ≡ is_some (D.told disk.old) }
+    ensures count { D.faults disk.old ≤ D.faults disk.new }
+    ensures failed { OnErr result (Rose (D.faults disk.old) (D.faults disk.new)) }
+{
+    let gate = 16 * entries.len() as u64;
+    // The record has to be on the disk before its gate is opened.
+    write_and_sync(disk, gate + 1, &block_of(entry))?;
+    write_and_sync(disk, gate, &[1])
+}
+
+// Brings the bytes onto the disk and reads as many of them as the piece has, or fewer where there are
+// no more. Answers how many there are, and how many were read.
+pub(crate) fn read_front<D: Disk>(disk: &mut D, into: &mut [u8]) -> Result<(u64, usize), Failed>
+    ensures within { IfOk result (λ sizes. sizes.1 ≤ length into.new) }
+    ensures size { IfOk result (λ sizes. IfSome (D.told disk.old) (λ bytes. sizes.0 ≡ length bytes)) }
+    ensures front { IfOk result (λ sizes. IfSome (D.told disk.old) (λ bytes. take sizes.1 into.new ≡ take (length into.old) bytes)) }
+    ensures same { D.told disk.new ≡ D.told disk.old }
+    ensures durable { OnOk result (IfSome (D.told disk.old) (λ bytes. LeavesOnly bytes (D.may_leave disk.new))) }
+    ensures any_moment { IsSome (D.told disk.old) → AnyMoment D.moment D.might_have_left disk.old disk.new (D.may_leave disk.old) }
+    ensures count { D.faults disk.old ≤ D.faults disk.new }
+    ensures failed { OnErr result (Rose (D.faults disk.old) (D.faults disk.new)) }
+{
+    disk.sync()?;
+    let size = disk.len()?;
+    let count = size.min(into.len() as u64) as usize;
+    let read = disk.read(0, &mut into[..count])?;
+    Ok((size, read))
+}
+
+// Takes away what is behind the gate at the end of a list.
+fn cut_behind<D: Disk>(disk: &mut D, end: u64, size: u64) -> Result<(), Failed>
+    requires end { end < 2 ^ 32 }
+    requires size { IfSome (D.told disk.old) (λ bytes. size ≡ length bytes) }
+    ensures done { OnOk result (IfSome (D.told disk.old) (λ bytes. D.told disk.new ≡ Some (take (end + 1) bytes))) }
+    ensures durable { OnOk result ((bytes : List ℕ) → D.told disk.old ≡ Some bytes → LeavesOnly bytes (D.may_leave disk.old) → LeavesOnly (take (end + 1) bytes) (D.may_leave disk.new)) }
+    ensures any_moment { (bytes : List ℕ) → D.told disk.old ≡ Some bytes → LeavesOnly bytes (D.may_leave disk.old)
+        → AnyMoment D.moment D.might_have_left disk.old disk.new (IsPerhapsCut (end + 1) bytes) }
+    ensures tells { is_some (D.told disk.new) ≡ is_some (D.told disk.old) }
+    ensures count { D.faults disk.old ≤ D.faults disk.new }
+    ensures failed { OnErr result (Rose (D.faults disk.old) (D.faults disk.new)) }
+{
+    if size > end + 1 {
+        disk.cut(end + 1)?;
+    }
+    Ok(())
+}
+
+// Reads the entries of a disk into an empty list, and answers how many bytes the disk holds.
+pub(crate) fn read_back<D: Disk>(
+    disk: &mut D,
+    bytes: &mut [u8],
+    entries: &mut Vec<Entry>,
+) -> Result<u64, JournalFault>
+    requires piece { length bytes.old ≡ 3089 }
+    requires empty { entries.old.items ≡ [] }
+    requires room { 192 ≤ vec_capacity entries.old }
+    ensures read { IfOk result (λ size. IfSome (D.told disk.old) (IsRead entries.new.items size (D.may_leave disk.new))) }
+    ensures in_order { IsInOrder entries.new.items }
+    ensures room { 192 ≤ vec_capacity entries.new }
+    ensures damaged { (offset : ℕ) → result ≡ Err (Damaged offset) → IfSome (D.told disk.old) (λ told. entries_of told ≡ Err offset) }
+    ensures disk_fault { result ≡ Err DiskFault → Rose (D.faults disk.old) (D.faults disk.new) }
+    ensures no_other { IfErr result (λ fault. (fault ≡ DiskFault) ⊎ ((offset : ℕ) × (fault ≡ Damaged offset))) }
+    ensures same { D.told disk.new ≡ D.told disk.old }
+    ensures any_moment { IsSome (D.told disk.old) → AnyMoment D.moment D.might_have_left disk.old disk.new (D.may_leave disk.old) }
+    ensures count { D.faults disk.old ≤ D.faults disk.new }
+{
+    let (size, count) = match read_front(disk, bytes) {
+        Ok(sizes) => sizes,
+        Err(_) => return Err(JournalFault::DiskFault),
+    };
+    match read_into(&bytes[..count], entries) {
+        Ok(()) => Ok(size),
+        Err(offset) => Err(JournalFault::Damaged { offset }),
+    }
+}
+
+// Closes the list behind its last record: takes away what stands there, and writes a closed gate.
+//
+// The byte behind the last record is never cut away, since that record is read only with it.
+pub(crate) fn close<D: Disk>(disk: &mut D, entries: &[Entry], size: u64) -> Result<(), Failed>
+    requires few { length entries.now ≤ 192 }
+    requires read { IfSome (D.told disk.old) (IsRead entries.now size (D.may_leave disk.old)) }
+    ensures closed { OnOk result (IsSome (D.told disk.old) → (image : List ℕ) → D.may_leave disk.new image → EndsAtGate entries.now image) }
+    ensures any_moment { IsSome (D.told disk.old) → AnyMoment D.moment D.might_have_left disk.old disk.new (ReadsAs entries.now) }
+    ensures tells { is_some (D.told disk.new) ≡ is_some (D.told disk.old) }
+    ensures count { D.faults disk.old ≤ D.faults disk.new }
+    ensures failed { OnErr result (Rose (D.faults disk.old) (D.faults disk.new)) }
+{
+    let end = 16 * entries.len() as u64;
+    cut_behind(disk, end, size)?;
+    write_and_sync(disk, end, &[0])
+}
+
+// Writes the closed gate of an empty list onto an empty disk.
+pub(crate) fn begin<D: Disk>(disk: &mut D) -> Result<(), JournalFault>
+    ensures empty { OnOk result (IfSome (D.told disk.old) (λ bytes. bytes ≡ [])) }
+    ensures closed { OnOk result (IsSome (D.told disk.old) → (image : List ℕ) → D.may_leave disk.new image → EndsAtGate [] image) }
+    ensures not_empty { (size : ℕ) → result ≡ Err (NotEmpty size) → (0 < size) × IfSome (D.told disk.old) (λ bytes. size ≡ length bytes) × (D.told disk.new ≡ D.told disk.old) }
+    ensures disk_fault { result ≡ Err DiskFault → Rose (D.faults disk.old) (D.faults disk.new) }
+    ensures no_other { IfErr result (λ fault. (fault ≡ DiskFault) ⊎ ((size : ℕ) × (fault ≡ NotEmpty size))) }
+    ensures any_moment_full { IfSome (D.told disk.old) (λ bytes. bytes ≢ [] → AnyMoment D.moment D.might_have_left disk.old disk.new (D.may_leave disk.old)) }
+    ensures any_moment_empty { IsSome (D.told disk.old) → LeavesOnly [] (D.may_leave disk.old) → AnyMoment D.moment D.might_have_left disk.old disk.new (ReadsAs []) }
+    ensures tells { is_some (D.told disk.new) ≡ is_some (D.told disk.old) }
+    ensures count { D.faults disk.old ≤ D.faults disk.new }
+{
+    match disk.len() {
+        Ok(0) => match write_and_sync(disk, 0, &[0]) {
+            Ok(()) => Ok(()),
+            Err(_) => Err(JournalFault::DiskFault),
+        },
+        Ok(length) => Err(JournalFault::NotEmpty { length }),
+        Err(_) => Err(JournalFault::DiskFault),
+    }
+}

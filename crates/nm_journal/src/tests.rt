@@ -1,0 +1,249 @@
+use super::*;
+use nm_base::{ChangeNo, DeviceMask, DeviceNo, Label, Tag};
+use nm_disk::{Disk, FileDisk, MemoryDisk};
+use nm_proto::{AbortCause, Entry, Verdict};
+use std::alloc::Global;
+use std::fs;
+use std::test::Fail;
+
+// The journal of one change set on devices 1 and 2 that was committed and kept on both, as it is
+// written out by hand from the format.
+const WHOLE: [u8; 49] = [
+    1, 1, 0, 0, 0, 1, 0, 0, 0, 3, 0, 0, 0, 0, 0, 0, //
+    1, 2, 0, 0, 0, 1, 1, 0, 0, 0, 0, 0, 0, 0, 0, 0, //
+    1, 3, 0, 0, 0, 1, 0, 0, 0, 3, 0, 0, 0, 0, 0, 0, //
+    0,
+];
+
+// Appends the three entries of that journal to a fresh one, and stops at the first fault.
+#[tactic(auto, unfolding(crate::specs::Entries::is_within))]
+fn run<D: Disk>(alloc: Global, disk: &mut D) -> Result<Journal, JournalFault> {
+    let Some(change) = ChangeNo::new(1) else {
+        return Err(JournalFault::Stopped);
+    };
+    let devices = DeviceMask(3);
+    let mut journal = Journal::fresh(alloc, disk)?;
+    journal.append(disk, Entry::Started { change, devices })?;
+    let verdict = Verdict::Commit;
+    journal.append(disk, Entry::Decided { change, verdict })?;
+    let kept = devices;
+    journal.append(disk, Entry::Ended { change, kept })?;
+    Ok(journal)
+}
+
+#[test]
+fn a_whole_run_is_written_and_read(rt: HostRuntime) -> Result<(), Fail> {
+    let mut disk = MemoryDisk::with_limit(rt.alloc(), 8192, 100)?;
+    let journal = run(rt.alloc(), &mut disk)?;
+    assert_eq!(rt; disk.bytes(), WHOLE.as_slice());
+    let read = read_entries(rt.alloc(), &WHOLE)?;
+    assert!(rt; read.as_slice() == journal.entries());
+    assert_eq!(rt; read.len(), 3);
+    let (_, again) = Journal::reopen(rt.alloc(), &mut disk)?;
+    assert!(rt; again.as_slice() == journal.entries());
+    assert_eq!(rt; disk.bytes(), WHOLE.as_slice());
+    Ok(())
+}
+
+// How many entries the bytes stand for, or the offset at which they are damaged.
+fn count(alloc: Global, bytes: &[u8]) -> Result<usize, JournalFault> {
+    match read_entries(alloc, bytes) {
+        Ok(entries) => Ok(entries.len()),
+        Err(fault) => Err(fault),
+    }
+}
+
+// The run makes 15 disk calls: three to begin, and four for each entry. Each of them fails in turn,
+// and the disk is read after that.
+#[test]
+fn a_run_is_stopped_at_each_call(rt: HostRuntime) -> Result<(), Fail> {
+    let read_after = [0, 0, 0, 0, 0, 0, 1, 1, 1, 1, 2, 2, 2, 2, 3];
+    for (before, expected) in read_after.iter().enumerate() {
+        let call = before as u64 + 1;
+        let mut disk = MemoryDisk::with_limit(rt.alloc(), 8192, 100)?;
+        disk.plan(&[call])?;
+        let stopped = match run(rt.alloc(), &mut disk) {
+            Ok(_) => None,
+            Err(fault) => Some(fault),
+        };
+        assert_eq!(rt; stopped, Some(JournalFault::DiskFault), "call {call}");
+        assert_eq!(rt;
+            count(rt.alloc(), disk.bytes()),
+            Ok(*expected),
+            "call {call}"
+        );
+    }
+    let mut disk = MemoryDisk::with_limit(rt.alloc(), 8192, 100)?;
+    disk.plan(&[16])?;
+    assert!(rt; run(rt.alloc(), &mut disk).is_ok());
+    Ok(())
+}
+
+// The fifth call brings the first record onto the disk. The journal is stopped until it is reopened,
+// and then it takes the entry.
+#[test]
+fn a_stopped_journal_is_reopened(rt: HostRuntime) -> Result<(), Fail> {
+    let change = ChangeNo::new(1).ok_or("1")?;
+    let devices = DeviceMask(3);
+    let mut disk = MemoryDisk::with_limit(rt.alloc(), 8192, 100)?;
+    disk.plan(&[5])?;
+    let mut journal = Journal::fresh(rt.alloc(), &mut disk)?;
+    let failed = journal.append(&mut disk, Entry::Started { change, devices });
+    assert_eq!(rt; failed, Err(JournalFault::DiskFault));
+    assert!(rt; journal.is_stopped());
+    let stopped = journal.append(&mut disk, Entry::Started { change, devices });
+    assert_eq!(rt; stopped, Err(JournalFault::Stopped));
+    let (mut again, entries) = Journal::reopen(rt.alloc(), &mut disk)?;
+    assert_eq!(rt; entries.len(), 0);
+    assert_eq!(rt; disk.bytes(), [0].as_slice());
+    let added = again.append(&mut disk, Entry::Started { change, devices });
+    assert_eq!(rt; added, Ok(()));
+    assert_eq!(rt; count(rt.alloc(), disk.bytes()), Ok(1));
+    Ok(())
+}
+
+// Three readings by hand: a list that ends after one record, a record behind a closed gate, and a
+// record of no kind behind an open one.
+#[test]
+fn lists_end_or_are_damaged(rt: HostRuntime) {
+    let mut bytes = WHOLE;
+    assert_eq!(rt; count(rt.alloc(), &[]), Ok(0));
+    assert_eq!(rt; count(rt.alloc(), &bytes[..16]), Ok(0));
+    assert_eq!(rt; count(rt.alloc(), &bytes[..17]), Ok(1));
+    bytes[16] = 0;
+    assert_eq!(rt; count(rt.alloc(), &bytes[..33]), Ok(1));
+    bytes[16] = 1;
+    bytes[17] = 9;
+    assert_eq!(rt;
+        count(rt.alloc(), &bytes[..33]),
+        Err(JournalFault::Damaged { offset: 16 })
+    );
+    assert_eq!(rt; count(rt.alloc(), &bytes[..32]), Ok(1));
+}
+
+// One byte of the whole journal is another one: its place, its value, and what is read then.
+#[test]
+fn each_byte_of_a_record_counts(rt: HostRuntime) {
+    let first = Err(JournalFault::Damaged { offset: 0 });
+    let second = Err(JournalFault::Damaged { offset: 16 });
+    let third = Err(JournalFault::Damaged { offset: 32 });
+    let cases: [(&str, usize, u8, Result<usize, JournalFault>); 21] = [
+        ("a closed gate", 0, 0, Ok(0)),
+        ("a gate torn open", 0, 255, Ok(3)),
+        ("no kind", 1, 0, first),
+        ("a kind too high", 1, 4, first),
+        ("a change set far too high", 2, 1, first),
+        ("a change set too high", 5, 65, first),
+        ("no change set", 5, 0, first),
+        ("another change set", 5, 2, second),
+        ("no devices", 9, 0, first),
+        ("fewer devices", 9, 1, third),
+        ("a byte that isn't zero", 10, 1, first),
+        ("the last that isn't zero", 15, 1, first),
+        ("a closed gate", 16, 0, Ok(1)),
+        ("another kind", 17, 1, second),
+        ("a change set that isn't started", 21, 2, second),
+        ("no verdict", 22, 0, second),
+        ("a verdict too high", 22, 5, second),
+        ("a device of a commit", 23, 1, second),
+        ("a tag of a commit", 24, 1, second),
+        ("a byte that isn't zero", 25, 1, second),
+        ("kept devices of others", 41, 4, third),
+    ];
+    for (name, place, value, expected) in cases {
+        let mut bytes = WHOLE;
+        if place < 49 {
+            bytes[place] = value;
+        }
+        assert_eq!(rt; count(rt.alloc(), &bytes), expected, "{name}");
+    }
+}
+
+// The value 200 at each place: another open gate is open too, and any devices may be started beside the
+// two that are kept.
+#[test]
+fn a_wrong_byte_stands_at_each_place(rt: HostRuntime) {
+    for place in 0..48 {
+        let mut bytes = WHOLE;
+        bytes[place] = 200;
+        let expected = match place {
+            0 | 16 | 32 | 6..=8 => Ok(3),
+            1..=5 | 10..=15 => Err(JournalFault::Damaged { offset: 0 }),
+            17..=31 => Err(JournalFault::Damaged { offset: 16 }),
+            _ => Err(JournalFault::Damaged { offset: 32 }),
+        };
+        assert_eq!(rt; count(rt.alloc(), &bytes), expected, "byte {place}");
+    }
+}
+
+// Bytes 22 to 25, the decision, and what is read then: an abort keeps no device.
+#[test]
+fn verdicts_are_read(rt: HostRuntime) {
+    let second = Err(JournalFault::Damaged { offset: 16 });
+    let third = Err(JournalFault::Damaged { offset: 32 });
+    let cases: [(&str, [u8; 4], u8, Result<usize, JournalFault>); 10] = [
+        ("refused", [2, 2, 3, 0], 0, Ok(3)),
+        ("refused, and one kept", [2, 2, 3, 0], 1, third),
+        ("refused by another device", [2, 3, 3, 0], 0, second),
+        ("refused by none", [2, 0, 3, 0], 0, second),
+        ("refused by device 33", [2, 33, 3, 0], 0, second),
+        ("the greatest tag", [2, 1, 8, 0], 0, Ok(3)),
+        ("a tag too high", [2, 1, 9, 0], 0, second),
+        ("broken", [3, 1, 0, 0], 0, Ok(3)),
+        ("broken, with a tag", [3, 1, 1, 0], 0, second),
+        ("forgotten", [4, 0, 0, 0], 0, Ok(3)),
+    ];
+    for (name, verdict, kept, expected) in cases {
+        let mut bytes = WHOLE;
+        bytes[22..26].copy_from_slice(&verdict);
+        bytes[41] = kept;
+        assert_eq!(rt; count(rt.alloc(), &bytes), expected, "{name}");
+    }
+}
+
+// An abort is written as it is read: device 2, tag 3.
+#[test]
+fn aborts_are_written(rt: HostRuntime) -> Result<(), Fail> {
+    let change = ChangeNo::new(64).ok_or("64")?;
+    let device = DeviceNo::new(2).ok_or("2")?;
+    let tag = Tag::LockDenied;
+    let bytes = record::block_of(&Entry::Decided {
+        change,
+        verdict: Verdict::Abort(AbortCause::Refused { device, tag }),
+    });
+    assert_eq!(rt; bytes, [2, 0, 0, 0, 64, 2, 2, 3, 0, 0, 0, 0, 0, 0, 0, 0]);
+    Ok(())
+}
+
+#[test]
+fn a_disk_with_bytes_is_refused(rt: HostRuntime) -> Result<(), Fail> {
+    let mut disk = MemoryDisk::with_limit(rt.alloc(), 64, 100)?;
+    assert_eq!(rt; disk.write_at(0, &WHOLE[..17]), Ok(()));
+    let refused = match Journal::fresh(rt.alloc(), &mut disk) {
+        Ok(_) => None,
+        Err(fault) => Some(fault),
+    };
+    assert_eq!(rt; refused, Some(JournalFault::NotEmpty { length: 17 }));
+    Ok(())
+}
+
+// A real file: written, closed, opened again with more behind its end, and its bytes compared.
+#[test]
+fn a_file_holds_a_journal(rt: HostRuntime) -> Result<(), Fail> {
+    let name = "nm_journal_file.tmp";
+    let _ = fs::remove_file(&rt, name);
+    let path = Label::new(rt.alloc(), name)?;
+    let mut disk = FileDisk::at(rt, path.copy()?);
+    let written = run(rt.alloc(), &mut disk)?;
+    drop(disk);
+    assert_eq!(rt; fs::read(&rt, name)?.as_slice(), WHOLE.as_slice());
+    let mut longer = WHOLE.to_vec(rt.alloc())?;
+    longer.extend_from_slice(b"torn")?;
+    fs::write(&rt, name, longer.as_slice())?;
+    let mut again = FileDisk::at(rt, path);
+    let (_, entries) = Journal::reopen(rt.alloc(), &mut again)?;
+    assert!(rt; entries.as_slice() == written.entries());
+    drop(again);
+    assert_eq!(rt; fs::read(&rt, name)?.as_slice(), WHOLE.as_slice());
+    Ok(fs::remove_file(&rt, name)?)
+}

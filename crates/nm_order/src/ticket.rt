@@ -1,0 +1,18 @@
+use nm_base::{ChangeNo, DeviceMask};
+
+/// A change set that was submitted, and its devices.
+#[derive(Clone, Copy, Debug)]
+pub struct Ticket {
+    pub change: ChangeNo,
+    pub devices: DeviceMask,
+}
+
+// What stands where no ticket was put yet.
+impl Default for Ticket {
+    fn default() -> Ticket {
+        Ticket {
+            change: ChangeNo::new(1).unwrap(),
+            devices: DeviceMask(0),
+        }
+    }
+}

@@ -1,0 +1,14 @@
+//! What is reported of a world, and its text.
+//!
+//! Stands on `nm_world`. The layer above relies on each text as an equation with a definition in `specs/Text.antt`.
+#![tactic(auto)]
+
+pub mod change_text;
+pub mod report;
+#[cfg(test)]
+mod tests;
+pub mod text;
+pub mod trace;
+
+pub use change_text::{write_devices, write_world};
+pub use report::{DeviceReport, differing, reports_of, unsettled};

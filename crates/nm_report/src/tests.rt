@@ -1,0 +1,68 @@
+use crate::trace::{write_reply, write_verdict};
+use nm_base::{DeviceNo, Label, NoMemory, SessionId, Tag};
+use nm_proto::{AbortCause, Reply, Verdict};
+use std::alloc::Global;
+use std::test::Fail;
+
+// Whether a reply is written so.
+fn writes(alloc: Global, reply: &Reply, want: &str) -> Result<bool, NoMemory> {
+    let mut out = Vec::new(alloc);
+    write_reply(&mut out, reply)?;
+    Ok(out.as_slice() == want.as_bytes())
+}
+
+// Replies as a trace prints them.
+#[test]
+fn replies_are_written(rt: HostRuntime) -> Result<(), Fail> {
+    let session = SessionId::new(2).ok_or("2")?;
+    for (reply, want) in [
+        (Reply::Done, "ok"),
+        (Reply::Opened(session), "opened 2"),
+        (Reply::LockId(1), "lock-id 1"),
+        (Reply::Mark(false), "mark false"),
+        (Reply::Rows(4294967295), "rows 4294967295"),
+    ] {
+        assert!(rt; writes(rt.alloc(), &reply, want)?);
+    }
+    Ok(())
+}
+
+#[test]
+fn errors_are_written(rt: HostRuntime) -> Result<(), Fail> {
+    let denied = Reply::Error {
+        tag: Tag::LockDenied,
+        session: Some(0),
+        path: None,
+    };
+    let invalid = Reply::Error {
+        tag: Tag::InvalidValue,
+        session: None,
+        path: Some(Label::new(rt.alloc(), "7")?),
+    };
+    assert!(rt; writes(rt.alloc(), &denied, "error lock-denied session 0")?);
+    assert!(rt; writes(rt.alloc(), &invalid, "error invalid-value path 7")?);
+    Ok(())
+}
+
+#[test]
+fn verdicts_are_written(rt: HostRuntime) -> Result<(), Fail> {
+    let device = DeviceNo::new(2).ok_or("2")?;
+    let tag = Tag::DataMissing;
+    for (verdict, want) in [
+        (Verdict::Commit, "commit"),
+        (
+            Verdict::Abort(AbortCause::Refused { device, tag }),
+            "abort refused 2 data-missing",
+        ),
+        (
+            Verdict::Abort(AbortCause::Broken { device }),
+            "abort broken 2",
+        ),
+        (Verdict::Abort(AbortCause::Forgotten), "abort forgotten"),
+    ] {
+        let mut out = Vec::new(rt.alloc());
+        write_verdict(&mut out, &verdict)?;
+        assert!(rt; out.as_slice() == want.as_bytes());
+    }
+    Ok(())
+}

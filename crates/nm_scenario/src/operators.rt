@@ -1,0 +1,123 @@
+ghost use Rattle.std.specs.Prelude.{◌≡◌, Some};
+ghost use Rattle.serde_json.specs.View.{view};
+ghost use Rattle.nm_scenario.specs.Reading.{Gives};
+ghost use Rattle.nm_scenario.specs.Scenario.{knows_operator, user_of, user_at, operator_at, built_beside, operators_at};
+
+use crate::fault::{ReadError, ScenarioKind};
+use crate::reader::{
+    ItemReader, Names, Reader, fault_here, optional_member, read_list, read_object,
+    read_only_known, required_member,
+};
+use crate::values::EmptyList;
+use nm_base::Label;
+use nm_proto::Listed;
+use serde_json::Value;
+use std::alloc::Global;
+
+/// How many operators a scenario may have.
+pub const OPERATOR_LIMIT: usize = 16;
+
+/// How long a user's name may be, in bytes.
+pub const USER_LIMIT: usize = 64;
+
+/// The member `user` of an operator.
+#[derive(Drop)]
+struct User;
+
+impl Reader for User {
+    type Out = Label;
+
+    ghost reads = { λ _. user_at };
+
+    #[tactic(auto, unfolding(crate::specs::Scenario::user_at))]
+    fn read(&self, alloc: Global, part: &Value) -> Result<Label, ReadError> {
+        match part.as_str() {
+            None => fault_here(alloc, ScenarioKind::BadValue),
+            Some(name) => read_user(alloc, name),
+        }
+    }
+}
+
+// The name `netm` is the manager's own.
+fn read_user(alloc: Global, name: &str) -> Result<Label, ReadError>
+    ensures { Gives result (user_of (Some name.now)) }
+{
+    if name == "netm" {
+        return fault_here(alloc, ScenarioKind::BadValue);
+    }
+    if 1 <= name.len() && name.len() <= USER_LIMIT {
+        return Ok(Label::new(alloc, name)?);
+    }
+    fault_here(alloc, ScenarioKind::BadValue)
+}
+
+#[derive(Drop)]
+struct OperatorNames;
+
+impl Names for OperatorNames {
+    ghost knows = { λ _. knows_operator };
+
+    fn knows(&self, name: &str) -> bool {
+        name == "user" || name == "script"
+    }
+}
+
+/// One element of the member `operators`.
+#[derive(Drop)]
+struct Operator;
+
+impl ItemReader for Operator {
+    type Out = Label;
+
+    ghost reads = { λ _. operator_at };
+
+    #[tactic(auto, unfolding(crate::specs::Scenario::operator_at))]
+    fn read(
+        &self,
+        alloc: Global,
+        _before: &Listed<Label>,
+        part: &Value,
+    ) -> Result<Label, ReadError> {
+        read_object(alloc, part)?;
+        let user = required_member(alloc, part, "user", &User)?;
+        let script = EmptyList {
+            otherwise: ScenarioKind::NotBuilt,
+        };
+        optional_member(alloc, part, "script", (), &script)?;
+        read_only_known(alloc, part, &OperatorNames)?;
+        Ok(user)
+    }
+}
+
+/// The member `operators`, in a scenario of so many change sets.
+#[derive(Drop)]
+pub struct Operators {
+    pub changes: usize,
+}
+
+impl Reader for Operators {
+    type Out = Listed<Label>;
+
+    ghost reads = { λ r. operators_at r.changes };
+
+    #[tactic(auto, unfolding(crate::specs::Scenario::operators_at))]
+    fn read(&self, alloc: Global, part: &Value) -> Result<Listed<Label>, ReadError> {
+        self.none_beside(alloc, part)?;
+        read_list(alloc, part, OPERATOR_LIMIT, &Operator)
+    }
+}
+
+impl Operators {
+    // No operators beside change sets.
+    fn none_beside(&self, alloc: Global, part: &Value) -> Result<(), ReadError>
+        ensures { Gives result (built_beside self.now.changes (view part.now)) }
+    {
+        if self.changes == 0 {
+            return Ok(());
+        }
+        let none = EmptyList {
+            otherwise: ScenarioKind::NotBuilt,
+        };
+        none.read(alloc, part)
+    }
+}

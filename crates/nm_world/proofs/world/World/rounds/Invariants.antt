@@ -1,0 +1,10 @@
+use Rattle.std.proofs.Common.{◌≡◌, ◌-◌}
+use Rattle.nm_world.specs.World.{rounds, with_state}
+use Rattle.nm_world.proofs.world.World.rounds.Given as goal
+
+-- the rounds that are left lead from here where all of them lead from the beginning
+abbrev pub invariant-loop : goal.invariant-loop
+invariant-loop g l =
+    (l.self ≡ with_state l.fn.self l.self.state)
+    × (rounds (g.C.Content.meaning l.fn.self.content) l.fn.self.edits (l.turns - l.counter) l.fn.self.course l.self.state
+    ≡ rounds (g.C.Content.meaning l.fn.self.content) l.fn.self.edits l.turns l.fn.self.course l.fn.self.state)

@@ -1,0 +1,10 @@
+use Rattle.std.proofs.Common.{◌≡◌, drop}
+use Rattle.nm_world.specs.World.{run, with_state}
+use Rattle.nm_world.proofs.world.World.run.Given as goal
+
+-- the events that are left lead from here where all of them lead from the beginning
+abbrev pub invariant-loop-event : goal.invariant-loop-event
+invariant-loop-event g l =
+    (l.self ≡ with_state l.fn.self l.self.state)
+    × (run (g.C.Content.meaning l.fn.self.content) l.fn.self.edits l.fn.self.course l.self.state (drop l.event-index l.events)
+    ≡ run (g.C.Content.meaning l.fn.self.content) l.fn.self.edits l.fn.self.course l.fn.self.state l.fn.events)

@@ -1,0 +1,4 @@
+pub mod Course
+pub mod World
+pub mod Outcome
+pub mod Support

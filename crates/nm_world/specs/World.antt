@@ -1,0 +1,381 @@
+-- The world: devices with their histories, the manager's links and journal, operators, and what each event does to it.
+-- An event that doesn't apply changes nothing but the trail (this project's own). The code changes its parts in place;
+-- these are functions of the whole.
+use Rattle.std.specs.Prelude.{◌≡◌, ℕ, zero, suc, ◌+◌, ◌-◌, ◌==◌, List, [], ◌∷◌, ◌++◌, Bool, false, ◌&&◌, nat_le, length, map, find, replicate, Option, Some, None, is_some, option_and_then, slice_get, slice_set, if◌then◌else◌}
+use Rattle.nm_proto.specs.declared.message.Request.{Request}
+use Rattle.nm_proto.specs.declared.message.Reply.{Reply}
+use Rattle.nm_proto.specs.declared.journal.Verdict.TheVariants as verdict
+use Rattle.nm_proto.specs.declared.plan.PlannedEdit.{PlannedEdit}
+use Rattle.nm_proto.specs.declared.plan.Event.{Event}
+use Rattle.nm_proto.specs.declared.plan.Event.TheVariants.{Submit, Turn, Deliver, Answer, Foreign, Leave, Round}
+use Rattle.nm_proto.specs.Content.{Meaning}
+use Rattle.nm_sessions.specs.Sessions.{is_open}
+use Rattle.nm_device.specs.Device.{IsSound}
+use Rattle.nm_device.specs.History.{RecordedState, recorded, is_opening, Served, served, lost}
+use Rattle.nm_world.specs.declared.link.Link.{Link}
+use Rattle.nm_world.specs.declared.course.Course.{Course}
+use Rattle.nm_world.specs.declared.course.Action.{Action}
+use Rattle.nm_world.specs.declared.course.Action.TheVariants.{Wait, Send, Decide, Finish}
+use Rattle.nm_world.specs.declared.course.Entry.{Entry}
+use Rattle.nm_world.specs.declared.course.Entry.TheVariants.{Started, Decided, Ended}
+use Rattle.nm_world.specs.declared.happened.Happened.{Happened}
+use Rattle.nm_world.specs.declared.happened.Happened.TheVariants as happened
+use Rattle.nm_world.specs.Course.{unused, outstanding, requests_of, next_action, is_submitted, session_in, session_of}
+
+-- device d and its link stand at place d - 1, and so does the session that an operator was last given on it. The trail
+-- is what came of each event, oldest first
+pub record WorldState (Config : Type 0) : Type 0 where
+  pub devices : List (RecordedState Config)
+  pub links : List Link
+  pub entries : List Entry
+  pub operators : List (List (Option ℕ))
+  pub trail : List Happened
+
+-- the device is sound for the content
+abbrev pub IsSoundDevice : {Config TheEdit Node : Type 0} → Meaning Config TheEdit Node → RecordedState Config → Type 0
+IsSoundDevice m r = IsSound m r.device
+
+-- a configuration that a device may begin with: it belongs to the content and is valid
+pub record IsFirst {Config TheEdit Node : Type 0} (m : Meaning Config TheEdit Node) (config : Config) : Type 0 where
+  pub belongs : m.belongs config
+  pub valid : m.violation config ≡ None
+
+-- ---- a link
+
+-- a link after an event, and what came of it
+pub record LinkMoved : Type 0 where
+  pub link : Link
+  pub happened : Happened
+
+-- a link is as an event leaves it, and this came of it
+pub record IsMoved (what : Happened) (link : Link) (moved : LinkMoved) : Type 0 where
+  pub happened_is : what ≡ moved.happened
+  pub link_is : link ≡ moved.link
+
+-- a request more is sent on a link
+abbrev pub with_sent : Link → Request → Link
+with_sent link request = record link { sent = link.sent ++ request ∷ [] }
+
+abbrev pub sent_if : Link → PlannedEdit → Option Request → LinkMoved
+sent_if link planned None = record { link = link; happened = happened.Idle }
+sent_if link planned (Some request) = record { link = with_sent link request; happened = happened.Sent planned.device 1 request }
+
+abbrev pub sent_for : Course → Link → Option PlannedEdit → LinkMoved
+sent_for course link None = record { link = link; happened = happened.Idle }
+sent_for course link (Some planned) = sent_if link planned (slice_get (requests_of course planned) (length link.sent))
+
+-- the next request of the course is sent on a link, where one is left
+abbrev pub sent_on : Course → Link → LinkMoved
+sent_on course link = sent_for course link link.edit
+
+-- a reply is handled: the next one of the link, where it was sent
+abbrev pub handled_on : Link → ℕ → LinkMoved
+handled_on link number =
+    if number == link.handled + 1 && nat_le number (length link.replies) then record { link = record link { handled = number }; happened = happened.Handled }
+    else record { link = link; happened = happened.Idle }
+
+-- the device's reply is sent on a link
+abbrev pub with_reply : Link → Reply → Link
+with_reply link reply = record link { replies = link.replies ++ reply ∷ [] }
+
+-- how many replies were sent on a link
+abbrev pub replies_on : Option Link → ℕ
+replies_on None = 0
+replies_on (Some link) = length link.replies
+
+-- ---- an operator
+
+-- the session that an operator was last given on the device at a place
+abbrev pub slot_in : Option (Option ℕ) → Option ℕ
+slot_in None = None
+slot_in (Some session) = session
+
+abbrev pub slot_of : List (Option ℕ) → ℕ → Option ℕ
+slot_of operator place = slot_in (slice_get operator place)
+
+abbrev pub open_on : {Config : Type 0} → RecordedState Config → Option ℕ → Option ℕ
+open_on r None = None
+open_on r (Some session) = if is_open r.device.sessions session then Some session else None
+
+-- the session that it has there, where that is still open
+abbrev pub session_at : {Config : Type 0} → List (Option ℕ) → RecordedState Config → ℕ → Option ℕ
+session_at operator r place = open_on r (slot_of operator place)
+
+abbrev pub with_session : List (Option ℕ) → ℕ → Option ℕ → List (Option ℕ)
+with_session operator place None = operator
+with_session operator place (Some session) = slice_set operator place (Some session)
+
+-- it keeps the session that a reply gives it
+abbrev pub with_opened : List (Option ℕ) → ℕ → Reply → List (Option ℕ)
+with_opened operator place reply = with_session operator place (session_in reply)
+
+-- the operator of a number, from 1
+abbrev pub operator_at : List (List (Option ℕ)) → ℕ → Option (List (Option ℕ))
+operator_at operators number = if number == 0 then None else slice_get operators (number - 1)
+
+-- ---- a device and its link, or a device and an operator
+
+-- a device and its link after a delivery, and what came of it
+pub record Delivery (Config : Type 0) : Type 0 where
+  pub device : RecordedState Config
+  pub link : Link
+  pub happened : Happened
+
+-- a device and an operator after a request, and what came of it
+pub record Asking (Config : Type 0) : Type 0 where
+  pub device : RecordedState Config
+  pub operator : List (Option ℕ)
+  pub happened : Happened
+
+-- a device and its link are as a delivery leaves them, and this came of it
+pub record IsDelivered {Config : Type 0} (what : Happened) (device : RecordedState Config) (link : Link) (d : Delivery Config) : Type 0 where
+  pub happened_is : what ≡ d.happened
+  pub device_is : device ≡ d.device
+  pub link_is : link ≡ d.link
+
+-- a device and an operator are as a request leaves them, and this came of it
+pub record IsAsked {Config : Type 0} (what : Happened) (device : RecordedState Config) (operator : List (Option ℕ)) (a : Asking Config) : Type 0 where
+  pub happened_is : what ≡ a.happened
+  pub device_is : device ≡ a.device
+  pub operator_is : operator ≡ a.operator
+
+module _ {Config : Type 0} where
+  abbrev pub replied_on : RecordedState Config → Link → Option (Served Config) → Delivery Config
+  replied_on r link None = record { device = r; link = link; happened = happened.Idle }
+  replied_on r link (Some s) = record { device = s.after; link = with_reply link s.reply; happened = happened.Replied s.reply s.undone }
+
+  abbrev pub not_asked : RecordedState Config → List (Option ℕ) → Asking Config
+  not_asked r operator = record { device = r; operator = operator; happened = happened.Idle }
+
+  abbrev pub replied_to : RecordedState Config → List (Option ℕ) → ℕ → Option (Served Config) → Asking Config
+  replied_to r operator place None = not_asked r operator
+  replied_to r operator place (Some s) = record { device = s.after; operator = with_opened operator place s.reply; happened = happened.Replied s.reply s.undone }
+
+  abbrev pub left_if : RecordedState Config → List (Option ℕ) → Option (RecordedState Config) → Asking Config
+  left_if r operator None = not_asked r operator
+  left_if r operator (Some after) = record { device = after; operator = operator; happened = happened.Left false }
+
+  abbrev pub left_on : RecordedState Config → List (Option ℕ) → Option ℕ → Asking Config
+  left_on r operator None = not_asked r operator
+  left_on r operator (Some session) = left_if r operator (lost r session)
+
+  -- the session that the operator has on the device at a place is lost
+  abbrev pub left_from : RecordedState Config → List (Option ℕ) → ℕ → Asking Config
+  left_from r operator place = left_on r operator (session_at operator r place)
+
+module _ {Config TheEdit Node : Type 0} (m : Meaning Config TheEdit Node) (edits : List TheEdit) where
+  abbrev pub delivered_if : RecordedState Config → Link → Option Request → Delivery Config
+  delivered_if r link None = record { device = r; link = link; happened = happened.Idle }
+  delivered_if r link (Some request) = replied_on r link (served m edits r (session_of link) request)
+
+  -- the device does the request that is outstanding on its link, and sends its reply
+  abbrev pub delivered_to : RecordedState Config → Link → Delivery Config
+  delivered_to r link = delivered_if r link (outstanding link)
+
+  -- who has a session doesn't ask for another
+  abbrev pub asked_in : RecordedState Config → List (Option ℕ) → ℕ → Request → Option ℕ → Asking Config
+  asked_in r operator place request session = if is_opening request && is_some session then not_asked r operator else replied_to r operator place (served m edits r session request)
+
+  -- the device at a place does a request of an operator
+  abbrev pub asked_of : RecordedState Config → List (Option ℕ) → ℕ → Request → Asking Config
+  asked_of r operator place request = asked_in r operator place request (session_at operator r place)
+
+-- ---- the lists that an event changes, one place of each
+
+-- the links after an event, and what came of it
+pub record LinksMoved : Type 0 where
+  pub links : List Link
+  pub happened : Happened
+
+abbrev pub links_sent : Course → List Link → ℕ → Option Link → LinksMoved
+links_sent course links place None = record { links = links; happened = happened.Idle }
+links_sent course links place (Some link) = record { links = slice_set links place (sent_on course link).link; happened = (sent_on course link).happened }
+
+abbrev pub links_handled : List Link → ℕ → ℕ → Option Link → LinksMoved
+links_handled links place number None = record { links = links; happened = happened.Idle }
+links_handled links place number (Some link) = record { links = slice_set links place (handled_on link number).link; happened = (handled_on link number).happened }
+
+-- the devices and the links after a delivery, and what came of it
+pub record Deliveries (Config : Type 0) : Type 0 where
+  pub devices : List (RecordedState Config)
+  pub links : List Link
+  pub happened : Happened
+
+-- the devices and the operators after a request, and what came of it
+pub record Askings (Config : Type 0) : Type 0 where
+  pub devices : List (RecordedState Config)
+  pub operators : List (List (Option ℕ))
+  pub happened : Happened
+
+module _ {Config : Type 0} where
+  abbrev pub none_delivered : List (RecordedState Config) → List Link → Deliveries Config
+  none_delivered devices links = record { devices = devices; links = links; happened = happened.Idle }
+
+  abbrev pub one_delivered : List (RecordedState Config) → List Link → ℕ → Delivery Config → Deliveries Config
+  one_delivered devices links place d = record { devices = slice_set devices place d.device; links = slice_set links place d.link; happened = d.happened }
+
+  abbrev pub none_asked : List (RecordedState Config) → List (List (Option ℕ)) → Askings Config
+  none_asked devices operators = record { devices = devices; operators = operators; happened = happened.Idle }
+
+  abbrev pub one_asked : List (RecordedState Config) → List (List (Option ℕ)) → ℕ → ℕ → Asking Config → Askings Config
+  one_asked devices operators number place a = record { devices = slice_set devices place a.device; operators = slice_set operators (number - 1) a.operator; happened = a.happened }
+
+  -- an operator who leaves keeps the number of its session
+  abbrev pub one_left : List (RecordedState Config) → List (List (Option ℕ)) → ℕ → Asking Config → Askings Config
+  one_left devices operators place a = record { devices = slice_set devices place a.device; operators = operators; happened = a.happened }
+
+  abbrev pub parted : List (RecordedState Config) → List (List (Option ℕ)) → ℕ → ℕ → Option (List (Option ℕ)) → Option (RecordedState Config) → Askings Config
+  parted devices operators number place None r = none_asked devices operators
+  parted devices operators number place (Some operator) None = none_asked devices operators
+  parted devices operators number place (Some operator) (Some r) = one_left devices operators place (left_from r operator place)
+
+module _ {Config TheEdit Node : Type 0} (m : Meaning Config TheEdit Node) (edits : List TheEdit) where
+  abbrev pub devices_delivered : List (RecordedState Config) → List Link → ℕ → Option Link → Option (RecordedState Config) → Deliveries Config
+  devices_delivered devices links place None r = none_delivered devices links
+  devices_delivered devices links place (Some link) None = none_delivered devices links
+  devices_delivered devices links place (Some link) (Some r) = one_delivered devices links place (delivered_to m edits r link)
+
+  abbrev pub devices_asked : List (RecordedState Config) → List (List (Option ℕ)) → ℕ → ℕ → Request → Option (List (Option ℕ)) → Option (RecordedState Config) → Askings Config
+  devices_asked devices operators number place request None r = none_asked devices operators
+  devices_asked devices operators number place request (Some operator) None = none_asked devices operators
+  devices_asked devices operators number place request (Some operator) (Some r) = one_asked devices operators number place (asked_of m edits r operator place request)
+
+-- the links are as an event leaves them, and this came of it
+pub record AreMoved (what : Happened) (links : List Link) (moved : LinksMoved) : Type 0 where
+  pub happened_is : what ≡ moved.happened
+  pub links_are : links ≡ moved.links
+
+pub record AreDelivered {Config : Type 0} (what : Happened) (devices : List (RecordedState Config)) (links : List Link) (d : Deliveries Config) : Type 0 where
+  pub happened_is : what ≡ d.happened
+  pub devices_are : devices ≡ d.devices
+  pub links_are : links ≡ d.links
+
+pub record AreAsked {Config : Type 0} (what : Happened) (devices : List (RecordedState Config)) (operators : List (List (Option ℕ))) (a : Askings Config) : Type 0 where
+  pub happened_is : what ≡ a.happened
+  pub devices_are : devices ≡ a.devices
+  pub operators_are : operators ≡ a.operators
+
+-- ---- the whole
+
+module _ {Config : Type 0} where
+  -- the world with what came of an event
+  abbrev pub trailed : WorldState Config → Happened → WorldState Config
+  trailed w what = record w { trail = w.trail ++ what ∷ [] }
+
+  abbrev pub idle : WorldState Config → WorldState Config
+  idle w = trailed w happened.Idle
+
+  abbrev pub with_links : WorldState Config → LinksMoved → WorldState Config
+  with_links w moved = trailed (record w { links = moved.links }) moved.happened
+
+  abbrev pub with_deliveries : WorldState Config → Deliveries Config → WorldState Config
+  with_deliveries w d = trailed (record w { devices = d.devices; links = d.links }) d.happened
+
+  abbrev pub with_askings : WorldState Config → Askings Config → WorldState Config
+  with_askings w a = trailed (record w { devices = a.devices; operators = a.operators }) a.happened
+
+  -- the change set is submitted, once
+  abbrev pub submitted : Course → WorldState Config → WorldState Config
+  submitted course w = if is_submitted w.entries then idle w else trailed (record w { entries = w.entries ++ Started course.change ∷ [] }) happened.Started
+
+  abbrev pub sent_at : Course → WorldState Config → ℕ → Option Link → WorldState Config
+  sent_at course w place link = with_links w (links_sent course w.links place link)
+
+  abbrev pub acted : Course → WorldState Config → Action → WorldState Config
+  acted course w Wait = idle w
+  acted course w (Send place) = sent_at course w place (slice_get w.links place)
+  acted course w Decide = trailed (record w { entries = w.entries ++ Decided course.change ∷ [] }) (happened.Decided verdict.Commit)
+  acted course w Finish = trailed (record w { entries = w.entries ++ Ended course.change ∷ [] }) happened.Ended
+
+  -- one action of the manager
+  abbrev pub turned : Course → WorldState Config → WorldState Config
+  turned course w = acted course w (next_action w.entries w.links)
+
+  abbrev pub handled_at : WorldState Config → ℕ → ℕ → Option Link → WorldState Config
+  handled_at w place number link = with_links w (links_handled w.links place number link)
+
+  -- the manager handles a reply of the link at a place
+  abbrev pub answered : WorldState Config → ℕ → ℕ → WorldState Config
+  answered w place number = handled_at w place number (slice_get w.links place)
+
+  abbrev pub left_at : WorldState Config → ℕ → ℕ → Option (List (Option ℕ)) → Option (RecordedState Config) → WorldState Config
+  left_at w number place operator r = with_askings w (parted w.devices w.operators number place operator r)
+
+  -- the session that an operator has at a device is lost
+  abbrev pub left : WorldState Config → ℕ → ℕ → WorldState Config
+  left w number place = left_at w number place (operator_at w.operators number) (slice_get w.devices place)
+
+module _ {Config TheEdit Node : Type 0} (m : Meaning Config TheEdit Node) (edits : List TheEdit) where
+  abbrev pub delivered_at : WorldState Config → ℕ → Option Link → Option (RecordedState Config) → WorldState Config
+  delivered_at w place link r = with_deliveries w (devices_delivered m edits w.devices w.links place link r)
+
+  abbrev pub delivered : WorldState Config → ℕ → WorldState Config
+  delivered w place = delivered_at w place (slice_get w.links place) (slice_get w.devices place)
+
+  abbrev pub asked_at : WorldState Config → ℕ → ℕ → Request → Option (List (Option ℕ)) → Option (RecordedState Config) → WorldState Config
+  asked_at w number place request operator r = with_askings w (devices_asked m edits w.devices w.operators number place request operator r)
+
+  -- an operator asks a device
+  abbrev pub asked : WorldState Config → ℕ → ℕ → Request → WorldState Config
+  asked w number place request = asked_at w number place request (operator_at w.operators number) (slice_get w.devices place)
+
+  -- after a turn that sent: the delivery, and the answer of the last reply
+  abbrev pub followed : WorldState Config → Action → WorldState Config
+  followed w Wait = w
+  followed w (Send place) = answered (delivered w place) place (replies_on (slice_get (delivered w place).links place))
+  followed w Decide = w
+  followed w Finish = w
+
+  abbrev pub round : Course → WorldState Config → WorldState Config
+  round course w = followed (turned course w) (next_action w.entries w.links)
+
+  abbrev pub rounds : ℕ → Course → WorldState Config → WorldState Config
+  rounds zero course w = w
+  rounds (suc n) course w = rounds n course (round course w)
+
+  -- what an event does. The first link of a device is the only one
+  abbrev pub world_step : Course → WorldState Config → Event → WorldState Config
+  world_step course w (Submit change) = submitted course w
+  world_step course w (Turn change) = turned course w
+  world_step course w (Deliver change device link) = if link == 1 then delivered w (device - 1) else idle w
+  world_step course w (Answer change device link number) = if link == 1 then answered w (device - 1) number else idle w
+  world_step course w (Foreign operator device request) = asked w operator (device - 1) request
+  world_step course w (Leave operator device) = left w operator (device - 1)
+  world_step course w (Round change turns) = rounds turns course w
+
+  -- a whole run
+  abbrev pub run : Course → WorldState Config → List Event → WorldState Config
+  run course w [] = w
+  run course w (event ∷ events) = run course (world_step course w event) events
+
+-- ---- the beginning
+
+-- the edit of a device in a plan
+abbrev pub planned_for : ℕ → List PlannedEdit → Option PlannedEdit
+planned_for device edits = find (λ planned. planned.device == device) edits
+
+-- a link for each of so many devices, from a number on
+abbrev pub links_from : ℕ → ℕ → List PlannedEdit → List Link
+links_from device zero edits = []
+links_from device (suc count) edits = unused (planned_for device edits) ∷ links_from (device + 1) count edits
+
+-- devices with these running configurations, nothing submitted, and so many operators without sessions
+abbrev pub start : {Config : Type 0} → List Config → List PlannedEdit → ℕ → WorldState Config
+start running edits operators = record {
+  devices = map recorded running;
+  links = links_from 1 (length running) edits;
+  entries = [];
+  operators = replicate operators (replicate (length running) None);
+  trail = [];
+}
+
+-- a world as the code holds it: its content, the edits of its tables, the course of its change set, and its state
+pub record Whole (TheContent Config TheEdit : Type 0) : Type 0 where
+  pub content : TheContent
+  pub edits : List TheEdit
+  pub course : Course
+  pub state : WorldState Config
+
+-- the same world in another state
+abbrev pub with_state : {TheContent Config TheEdit : Type 0} → Whole TheContent Config TheEdit → WorldState Config → Whole TheContent Config TheEdit
+with_state w state = record w { state = state }

@@ -1,0 +1,23 @@
+//! The world: devices with their histories, the manager's links and journal for one change set, and operators.
+//!
+//! Stands on `nm_device`. The layers above rely on each event as an equation between the world before and after it, on
+//! the trail of what came of each, and on `every_run_is_safe`.
+#![tactic(auto)]
+
+pub mod course;
+pub mod happened;
+pub mod link;
+pub mod operator;
+pub mod outcome;
+pub mod safety;
+mod steps;
+pub mod world;
+#[cfg(test)]
+mod world_tests;
+
+pub use course::{Action, Course, Entry};
+pub use happened::Happened;
+pub use link::Link;
+pub use operator::Operator;
+pub use outcome::Outcome;
+pub use world::World;

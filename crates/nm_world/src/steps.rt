@@ -1,0 +1,220 @@
+ghost use Rattle.std.specs.Prelude.{◌≡◌, IfOk, slice_get, ◌&&◌, option_copied};
+ghost use Rattle.std.specs.List.{All};
+ghost use Rattle.nm_device.specs.History.{is_opening, served};
+ghost use Rattle.nm_world.specs.World.{replied_to, IsSoundDevice, IsDelivered, IsAsked, AreMoved, AreDelivered, AreAsked, delivered_to, asked_of, left_from, links_sent, links_handled, devices_delivered, devices_asked, operator_at, parted};
+
+use crate::course::Course;
+use crate::happened::Happened;
+use crate::link::Link;
+use crate::operator::Operator;
+use nm_base::{NoMemory, SessionId};
+use nm_device::Recorded;
+use nm_proto::{Content, Request};
+
+// A device does the request that is outstanding on its link, and sends its reply.
+fn deliver_to<C: Content>(
+    content: &C,
+    edits: &[C::Edit],
+    device: &mut Recorded<C>,
+    link: &mut Link,
+) -> Result<Happened, NoMemory>
+    requires sound { IsSoundDevice (C.meaning content.now) device.old }
+    requires edits_belong { All (C.meaning content.now).edit_belongs edits.now }
+    ensures delivered { IfOk result (λ happened. IsDelivered happened device.new link.new (delivered_to (C.meaning content.now) edits.now device.old link.old)) }
+    ensures sound { IsSoundDevice (C.meaning content.now) device.new }
+{
+    let Some(request) = link.outstanding() else {
+        return Ok(Happened::Idle);
+    };
+    let Some(told) = device.serve(content, edits, link.session(), request)? else {
+        return Ok(Happened::Idle);
+    };
+    link.take_reply(told.reply)?;
+    Ok(Happened::Replied {
+        reply: told.again,
+        undone: told.undone,
+    })
+}
+
+// A device does a request of an operator. One that has a session there doesn't ask for another.
+fn ask_of<C: Content>(
+    content: &C,
+    edits: &[C::Edit],
+    device: &mut Recorded<C>,
+    operator: &mut Operator,
+    place: usize,
+    request: &Request,
+) -> Result<Happened, NoMemory>
+    requires sound { IsSoundDevice (C.meaning content.now) device.old }
+    requires edits_belong { All (C.meaning content.now).edit_belongs edits.now }
+    ensures asked { IfOk result (λ happened. IsAsked happened device.new operator.new (asked_of (C.meaning content.now) edits.now device.old operator.old place request.now)) }
+    ensures sound { IsSoundDevice (C.meaning content.now) device.new }
+{
+    let session = operator.session(device, place);
+    if asks_again(request, session.is_some()) {
+        return Ok(Happened::Idle);
+    }
+    reply_to(content, edits, device, operator, place, session, request)
+}
+
+// A device does a request on the session of an operator, or the request for one.
+fn reply_to<C: Content>(
+    content: &C,
+    edits: &[C::Edit],
+    device: &mut Recorded<C>,
+    operator: &mut Operator,
+    place: usize,
+    session: Option<SessionId>,
+    request: &Request,
+) -> Result<Happened, NoMemory>
+    requires sound { IsSoundDevice (C.meaning content.now) device.old }
+    requires edits_belong { All (C.meaning content.now).edit_belongs edits.now }
+    ensures replied { IfOk result (λ happened. IsAsked happened device.new operator.new (replied_to device.old operator.old place (served (C.meaning content.now) edits.now device.old session request.now))) }
+    ensures sound { IsSoundDevice (C.meaning content.now) device.new }
+{
+    let Some(told) = device.serve(content, edits, session, request)? else {
+        return Ok(Happened::Idle);
+    };
+    operator.keep(place, &told.reply);
+    Ok(Happened::Replied {
+        reply: told.reply,
+        undone: told.undone,
+    })
+}
+
+// The session that an operator has on a device is lost.
+fn leave_from<C: Content>(
+    content: &C,
+    device: &mut Recorded<C>,
+    operator: &Operator,
+    place: usize,
+) -> Result<Happened, NoMemory>
+    requires sound { IsSoundDevice (C.meaning content.now) device.old }
+    ensures left { IfOk result (λ happened. IsAsked happened device.new operator.now (left_from device.old operator.now place)) }
+    ensures sound { IsSoundDevice (C.meaning content.now) device.new }
+{
+    let Some(session) = operator.session(device, place) else {
+        return Ok(Happened::Idle);
+    };
+    match device.lose(session)? {
+        Some(undone) => Ok(Happened::Left { undone }),
+        None => Ok(Happened::Idle),
+    }
+}
+
+// Whether who has a session asks for one.
+fn asks_again(request: &Request, has_session: bool) -> bool
+    ensures { result ≡ (is_opening request.now && has_session) }
+{
+    matches!(request, Request::OpenSession { .. }) && has_session
+}
+
+// The operator of a number, from 1.
+fn operator_at(operators: &[Operator], number: usize) -> Option<&Operator>
+    ensures { option_copied result ≡ operator_at operators.now number }
+{
+    if number == 0 {
+        return None;
+    }
+    operators.get(number - 1)
+}
+
+/// The next request of the course is sent on the link at a place, where one is left.
+pub fn send_at(links: &mut Vec<Link>, course: &Course, place: usize) -> Result<Happened, NoMemory>
+    ensures { IfOk result (λ happened. AreMoved happened links.new.items (links_sent course.now links.old.items place (slice_get links.old.items place))) }
+{
+    if place < links.len() {
+        links[place].send(course)
+    } else {
+        Ok(Happened::Idle)
+    }
+}
+
+/// The manager handles a reply of the link at a place.
+pub fn handle_at(links: &mut Vec<Link>, place: usize, number: usize) -> Happened
+    ensures { AreMoved result links.new.items (links_handled links.old.items place number (slice_get links.old.items place)) }
+{
+    if place < links.len() {
+        links[place].handle(number)
+    } else {
+        Happened::Idle
+    }
+}
+
+/// The device at a place does the request that is outstanding on its link.
+pub fn deliver_at<C: Content>(
+    content: &C,
+    edits: &[C::Edit],
+    devices: &mut Vec<Recorded<C>>,
+    links: &mut Vec<Link>,
+    place: usize,
+) -> Result<Happened, NoMemory>
+    requires sound { All (IsSoundDevice (C.meaning content.now)) devices.old.items }
+    requires edits_belong { All (C.meaning content.now).edit_belongs edits.now }
+    ensures delivered { IfOk result (λ happened. AreDelivered happened devices.new.items links.new.items (devices_delivered (C.meaning content.now) edits.now devices.old.items links.old.items place (slice_get links.old.items place) (slice_get devices.old.items place))) }
+    ensures sound { All (IsSoundDevice (C.meaning content.now)) devices.new.items }
+{
+    if place >= links.len() {
+        return Ok(Happened::Idle);
+    }
+    if place >= devices.len() {
+        return Ok(Happened::Idle);
+    }
+    deliver_to(content, edits, &mut devices[place], &mut links[place])
+}
+
+/// The device at a place does a request of an operator, by its number from 1.
+pub fn ask_at<C: Content>(
+    content: &C,
+    edits: &[C::Edit],
+    devices: &mut Vec<Recorded<C>>,
+    operators: &mut Vec<Operator>,
+    number: usize,
+    place: usize,
+    request: &Request,
+) -> Result<Happened, NoMemory>
+    requires sound { All (IsSoundDevice (C.meaning content.now)) devices.old.items }
+    requires edits_belong { All (C.meaning content.now).edit_belongs edits.now }
+    ensures asked { IfOk result (λ happened. AreAsked happened devices.new.items operators.new.items (devices_asked (C.meaning content.now) edits.now devices.old.items operators.old.items number place request.now (operator_at operators.old.items number) (slice_get devices.old.items place))) }
+    ensures sound { All (IsSoundDevice (C.meaning content.now)) devices.new.items }
+{
+    if number == 0 {
+        return Ok(Happened::Idle);
+    }
+    if number > operators.len() {
+        return Ok(Happened::Idle);
+    }
+    if place >= devices.len() {
+        return Ok(Happened::Idle);
+    }
+    let operator = &mut operators[number - 1];
+    ask_of(
+        content,
+        edits,
+        &mut devices[place],
+        operator,
+        place,
+        request,
+    )
+}
+
+/// The session that an operator, by its number from 1, has on the device at a place is lost.
+pub fn leave_at<C: Content>(
+    content: &C,
+    devices: &mut Vec<Recorded<C>>,
+    operators: &[Operator],
+    number: usize,
+    place: usize,
+) -> Result<Happened, NoMemory>
+    requires sound { All (IsSoundDevice (C.meaning content.now)) devices.old.items }
+    ensures left { IfOk result (λ happened. AreAsked happened devices.new.items operators.now (parted devices.old.items operators.now number place (operator_at operators.now number) (slice_get devices.old.items place))) }
+    ensures sound { All (IsSoundDevice (C.meaning content.now)) devices.new.items }
+{
+    let Some(operator) = operator_at(operators, number) else {
+        return Ok(Happened::Idle);
+    };
+    if place >= devices.len() {
+        return Ok(Happened::Idle);
+    }
+    leave_from(content, &mut devices[place], operator, place)
+}
