@@ -1,0 +1,4 @@
+pub mod Word
+pub mod Text
+pub mod Rows
+pub mod Flaw

@@ -1,0 +1,5 @@
+pub mod Tables
+pub mod Scopes
+pub mod Within
+pub mod Graphs
+pub mod Standing

@@ -1,0 +1,6 @@
+pub mod Named
+pub mod Table
+pub mod Leads
+pub mod Standing
+pub mod Flaw
+pub mod Graph
