@@ -1,0 +1,12 @@
+pub mod BuiltIn
+pub mod Form
+pub mod Blank
+pub mod Bound
+pub mod Cover
+pub mod Parts
+pub mod Members
+pub mod Built
+pub mod Shape
+pub mod Step
+pub mod Kinds
+pub mod Restricted
