@@ -1,0 +1,7 @@
+pub mod Graphs
+pub mod Worths
+pub mod Gathering
+pub mod Bringing
+pub mod Naming
+pub mod Configs
+pub mod Sizing

@@ -1,0 +1,138 @@
+-- Sets of names.
+use Rattle.std.proofs.Common.{◌≡◌, ◌∙◌, ◌<◌, ◌≤◌, ◌+◌, ◌≢◌, ◌⊎◌, inl, inr, ℕ, zero, suc, List, [], ◌∷◌, ◌++◌, length, map, drop, get_or, set, replicate, Bool, true, false, ◌||◌, ◌&&◌, cond, Option, Some, None, slice_index_or, refl, sym, ap, arith, drop-cons, add-one}
+use Rattle.std.specs.List.{find, list_any}
+use Rattle.std.specs.Str.{bytes_eq}
+use Rattle.std.specs.Ordering.{is_eq, nat_cmp}
+use Rattle.std.specs.Cmp.Lexicographic.{slice_cmp}
+use Rattle.std.proofs.lemmas.Grind.{common_steps}
+use Rattle.std.proofs.lemmas.Bool.{cases_lt, cases_eq}
+use Rattle.std.proofs.lemmas.List.{length-set, get_or-set_same, get_or-set_other, length-replicate, length-append, get_or_append_left}
+use Rattle.std.proofs.Math.Seq.{get_or-append_seam}
+use mathlib.Core.Path.{fun_ext}
+use Rattle.std.proofs.lemmas.Map.Text.{is_eq-slice_cmp}
+use Rattle.nm_grammar.specs.declared.row.Row.{Row}
+use Rattle.nm_grammar.specs.Rows.{same_parent}
+use Rattle.nm_shape.specs.Clash.{argument_at, names_from, has_name, holder_of, is_taken, clash_by, AreTaken, AreClashes}
+
+pub contained : (keys : List (List ℕ)) (name : List ℕ) → list_any (λ k. is_eq (slice_cmp nat_cmp name k)) keys ≡ has_name keys name
+contained [] name = refl
+contained (k ∷ keys) name = rw (is_eq-slice_cmp name k, contained keys name) refl
+
+bytes_same : (a b : List ℕ) → bytes_eq a b ≡ bytes_eq b a
+bytes_same [] [] = refl
+bytes_same [] (y ∷ b) = refl
+bytes_same (x ∷ a) [] = refl
+bytes_same (x ∷ a) (y ∷ b) = grind (arith, common_steps, bytes_same a b)
+
+pub added : (old new : List (List ℕ)) (name n : List ℕ) → list_any (λ k. is_eq (slice_cmp nat_cmp n k)) new ≡ cond (is_eq (slice_cmp nat_cmp name n)) true (list_any (λ k. is_eq (slice_cmp nat_cmp n k)) old)
+    → has_name new n ≡ (bytes_eq n name || has_name old n)
+added old new name n e =
+    sym (contained new n) ∙ e ∙ rw (is_eq-slice_cmp name n, bytes_same name n, contained old n) (elim (bytes_eq n name) as (λ b. cond b true (has_name old n) ≡ (b || has_name old n)) [ true ↦ refl | false ↦ refl ])
+
+dropped : (xs : List ℕ) (i : ℕ) → i < length xs → drop i xs ≡ get_or xs i 0 ∷ drop (i + 1) xs
+dropped xs i lt = drop-cons xs i 0 lt ∙ rw add-one refl
+
+names-drop : (rows : List Row) (nodes : List ℕ) (i : ℕ) → i < length nodes → map (argument_at rows) (drop i nodes) ≡ argument_at rows (get_or nodes i 0) ∷ map (argument_at rows) (drop (i + 1) nodes)
+names-drop rows nodes i lt = ap (λ (l : List ℕ). map (argument_at rows) l) (dropped nodes i lt)
+
+pub find_found : (p : List ℕ → Bool) (rows : List Row) (nodes : List ℕ) (i : ℕ) (all : Option (List ℕ)) → i < length nodes → find p (map (argument_at rows) (drop i nodes)) ≡ all
+    → p (argument_at rows (get_or nodes i 0)) ≡ true → Some (argument_at rows (get_or nodes i 0)) ≡ all
+find_found p rows nodes i all lt is e =
+    let h : find p (map (argument_at rows) (drop i nodes)) ≡ Some (argument_at rows (get_or nodes i 0)) = rw (names-drop rows nodes i lt, e) refl in
+    sym h ∙ is
+
+pub find_passed : (p : List ℕ → Bool) (rows : List Row) (nodes : List ℕ) (i : ℕ) (all : Option (List ℕ)) → i < length nodes → find p (map (argument_at rows) (drop i nodes)) ≡ all
+    → p (argument_at rows (get_or nodes i 0)) ≡ false → find p (map (argument_at rows) (drop (i + 1) nodes)) ≡ all
+find_passed p rows nodes i all lt is e =
+    let h : find p (map (argument_at rows) (drop i nodes)) ≡ find p (map (argument_at rows) (drop (i + 1) nodes)) = rw (names-drop rows nodes i lt, e) refl in
+    sym h ∙ is
+
+or_turn : (a b c : Bool) → (b || (a || c)) ≡ ((a || b) || c)
+or_turn true true c = refl
+or_turn true false c = refl
+or_turn false true c = refl
+or_turn false false c = refl
+
+pub add_next : (rows : List Row) (nodes : List ℕ) (i : ℕ) (old new : List (List ℕ)) (name n : List ℕ) (all : Bool) → i < length nodes → name ≡ argument_at rows (get_or nodes i 0)
+    → has_name new n ≡ (bytes_eq n name || has_name old n) → (has_name (map (argument_at rows) (drop i nodes)) n || has_name old n) ≡ all
+    → (has_name (map (argument_at rows) (drop (i + 1) nodes)) n || has_name new n) ≡ all
+add_next rows nodes i old new name n all lt is e h =
+    let first = ap (λ (l : List (List ℕ)). has_name l n || has_name old n) (names-drop rows nodes i lt) in
+    ap (λ b. has_name (map (argument_at rows) (drop (i + 1) nodes)) n || b) (e ∙ ap (λ (m : List ℕ). bytes_eq n m || has_name old n) is)
+    ∙ or_turn (bytes_eq n (argument_at rows (get_or nodes i 0))) (has_name (map (argument_at rows) (drop (i + 1) nodes)) n) (has_name old n) ∙ sym first ∙ h
+
+pub add_end : (rows : List Row) (nodes : List ℕ) (i : ℕ) (old : List (List ℕ)) (n : List ℕ) (all : Bool) → length nodes ≤ i → (has_name (map (argument_at rows) (drop i nodes)) n || has_name old n) ≡ all → has_name old n ≡ all
+add_end rows nodes i old n all le h =
+    let none : drop i nodes ≡ [] = grind (arith, common_steps) in
+    sym (ap (λ (l : List ℕ). has_name (map (argument_at rows) l) n || has_name old n) none) ∙ h
+
+module _ (bring : ℕ → Option (List ℕ)) (rows : List Row) where
+  none_yet : (n : ℕ) (name : List ℕ) (h : ℕ) → has_name (get_or (replicate n []) h []) name ≡ false
+  none_yet zero name h = refl
+  none_yet (suc n) name zero = refl
+  none_yet (suc n) name (suc h) = none_yet n name h
+
+  pub taken_start : (taken : List (List (List ℕ))) → taken ≡ replicate (length rows) [] → AreTaken bring rows 0 taken
+  unfolding is_taken
+  taken_start taken is = rw is (record { size = length-replicate (length rows) []; each = λ h name lt. none_yet (length rows) name h })
+
+  taken_step : (at : ℕ) (h : ℕ) (name : List ℕ) (holder : Option ℕ) → holder_of rows at ≡ holder
+      → is_taken bring rows h (at + 1) name ≡ ((same_parent holder (Some h) && has_name (names_from rows (bring at)) name) || is_taken bring rows h at name)
+  unfolding is_taken
+  taken_step at h name holder is = rw (add-one, is) refl
+
+  pub taken_none : (taken : List (List (List ℕ))) (at : ℕ) → AreTaken bring rows at taken → holder_of rows at ≡ None → AreTaken bring rows (at + 1) taken
+  taken_none taken at t is = record { size = t.size; each = λ h name lt. t.each h name lt ∙ sym (taken_step at h name None is) }
+
+  other_holder : (h g : ℕ) → g ≢ h → same_parent (Some h) (Some g) ≡ false
+  other_holder h g ne = grind (arith, common_steps)
+
+  same_holder : (h : ℕ) → same_parent (Some h) (Some h) ≡ true
+  same_holder h = grind (arith, common_steps)
+
+  taken_each : (taken : List (List (List ℕ))) (at h : ℕ) (names : List (List ℕ)) → AreTaken bring rows at taken → holder_of rows at ≡ Some h → h < length rows
+      → ((n : List ℕ) → has_name names n ≡ (has_name (names_from rows (bring at)) n || has_name (get_or taken h []) n)) → (g : ℕ) (name : List ℕ) → g < length rows → (g ≡ h) ⊎ (g ≢ h)
+      → has_name (get_or (set taken h names) g []) name ≡ is_taken bring rows g (at + 1) name
+  taken_each taken at h names t is lt more g name within (inl same) =
+      let size = t.size in
+      rw same (ap (λ (l : List (List ℕ)). has_name l name) (get_or-set_same taken h names [] (omega arith)) ∙ more name ∙ ap (λ b. has_name (names_from rows (bring at)) name || b) (t.each h name lt)
+      ∙ sym (taken_step at h name (Some h) is ∙ rw (same_holder h) refl))
+  taken_each taken at h names t is lt more g name within (inr other) =
+      ap (λ (l : List (List ℕ)). has_name l name) (get_or-set_other taken h g names [] other) ∙ t.each g name within ∙ sym (taken_step at g name (Some h) is ∙ rw (other_holder h g other) refl)
+
+  pub taken_more : (taken : List (List (List ℕ))) (at h : ℕ) (names : List (List ℕ)) → AreTaken bring rows at taken → holder_of rows at ≡ Some h → h < length rows
+      → ((n : List ℕ) → has_name names n ≡ (has_name (names_from rows (bring at)) n || has_name (get_or taken h []) n)) → AreTaken bring rows (at + 1) (set taken h names)
+  taken_more taken at h names t is lt more = record { size = length-set taken h names ∙ t.size; each = λ g name within. taken_each taken at h names t is lt more g name within (cases_eq g h) }
+
+  pub clash_none : (at : ℕ) → holder_of rows at ≡ None → None ≡ clash_by bring rows at
+  unfolding clash_by
+  clash_none at is = rw is refl
+
+  pub clash_some : (taken : List (List (List ℕ))) (at h : ℕ) → AreTaken bring rows at taken → holder_of rows at ≡ Some h → h < length rows → find (has_name (get_or taken h [])) (names_from rows (bring at)) ≡ clash_by bring rows at
+  unfolding clash_by
+  clash_some taken at h t is lt =
+      let same : has_name (get_or taken h []) ≡ is_taken bring rows h at = fun_ext (λ name. t.each h name lt) in
+      rw is (ap (λ (p : List ℕ → Bool). find p (names_from rows (bring at))) same)
+
+  -- the clashes of the first rows
+  pub record HaveClashes (n : ℕ) (clashes : List (Option (List ℕ))) : Type 0 where
+    pub size : length clashes ≡ n
+    pub each : (i : ℕ) → i < n → slice_index_or clashes i None ≡ clash_by bring rows i
+
+  pub clashes_none : HaveClashes 0 []
+  clashes_none = record { size = refl; each = λ i lt. absurd (omega arith) }
+
+  clashes_each : (n : ℕ) (clashes : List (Option (List ℕ))) (clash : Option (List ℕ)) → HaveClashes n clashes → clash ≡ clash_by bring rows n → (i : ℕ) → i < n + 1 → (i < n) ⊎ (n ≤ i)
+      → slice_index_or (clashes ++ clash ∷ []) i None ≡ clash_by bring rows i
+  clashes_each n clashes clash h is i lt (inl under) = let size = h.size in get_or_append_left clashes (clash ∷ []) None i (omega arith) ∙ h.each i under
+  clashes_each n clashes clash h is i lt (inr past) =
+      let size = h.size in
+      let same : i ≡ length clashes = omega arith in
+      let last : i ≡ n = omega arith in
+      rw same (get_or-append_seam clashes clash [] None) ∙ is ∙ ap (λ k. clash_by bring rows k) (sym last)
+
+  pub clashes_more : (n : ℕ) (clashes : List (Option (List ℕ))) (clash : Option (List ℕ)) → HaveClashes n clashes → clash ≡ clash_by bring rows n → HaveClashes (n + 1) (clashes ++ clash ∷ [])
+  clashes_more n clashes clash h is = record { size = length-append clashes (clash ∷ []) ∙ ap (λ k. k + 1) h.size; each = λ i lt. clashes_each n clashes clash h is i lt (cases_lt i n) }
+
+  pub clashes_all : (n : ℕ) (clashes : List (Option (List ℕ))) → HaveClashes n clashes → n ≡ length rows → AreClashes bring rows clashes
+  clashes_all n clashes h all = record { size = h.size ∙ all; each = λ i lt. h.each i (omega arith) }

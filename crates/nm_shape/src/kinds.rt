@@ -1,0 +1,54 @@
+//! Kinds of statements.
+
+ghost use Rattle.std.specs.Prelude.{◌≡◌};
+ghost use Rattle.nm_grammar.specs.Flaw as grammar;
+ghost use Rattle.nm_shape.specs.Holding as spec;
+
+use nm_grammar::{Rows, Word};
+
+pub(crate) fn is_holder(word: Word) -> bool
+    ensures { result ≡ spec.is_holder word }
+{
+    match word {
+        Word::Module | Word::Container | Word::List | Word::Grouping => true,
+        _ => false,
+    }
+}
+
+pub(crate) fn is_uses(word: Word) -> bool
+    ensures { result ≡ spec.is_uses word }
+{
+    match word {
+        Word::Uses => true,
+        _ => false,
+    }
+}
+
+pub(crate) fn is_data(word: Word) -> bool
+    ensures { result ≡ grammar.is_data word }
+{
+    match word {
+        Word::Container | Word::Leaf | Word::LeafList | Word::List => true,
+        _ => false,
+    }
+}
+
+pub(crate) fn is_part(word: Word) -> bool
+    ensures { result ≡ spec.is_part word }
+{
+    match word {
+        Word::Uses => true,
+        _ => is_data(word),
+    }
+}
+
+// Whether the row of a number is there, and is a node of data or a uses.
+#[tactic(auto, unfolding(crate::specs::Holding::is_part_at))]
+pub(crate) fn is_part_at(rows: &Rows, at: usize) -> bool
+    ensures { result ≡ spec.is_part_at rows.now at }
+{
+    match rows.row(at) {
+        None => false,
+        Some(row) => is_part(row.word),
+    }
+}

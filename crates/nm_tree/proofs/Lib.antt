@@ -1,0 +1,4 @@
+pub mod Positions
+pub mod Indexes
+pub mod Changes
+pub mod Finding

@@ -1,0 +1,156 @@
+-- Schema trees as lists of nodes, and the nodes that names lead to (RFC 7950 sections 3 and 7.5 to 7.8).
+use Rattle.std.specs.Prelude.{◌≡◌, ℕ, suc, ◌<◌, List, [], ◌∷◌, length, Bool, true, false, ◌==◌, ◌&&◌, Option, Some, None, if◌then◌else◌, slice_get, slice_set, ◌++◌}
+use Rattle.std.specs.List.{position_from, list_any}
+use Rattle.std.specs.Str.{bytes_eq}
+use Rattle.nm_types.specs.LeafType.{TypeOfLeaf}
+use Rattle.nm_tree.specs.declared.node.Node.{Node}
+use Rattle.nm_tree.specs.declared.node.NodeKind.{NodeKind}
+use Rattle.nm_tree.specs.declared.node.NodeKind.TheVariants as kind
+use Rattle.nm_tree.specs.declared.node.Reference.{Reference}
+
+-- a schema tree: the names of its modules, and its nodes, each after the one that it stands in (this project's own)
+pub record SchemaTree : Type 0 where
+  pub modules : List (List ℕ)
+  pub nodes : List Node
+
+-- ---- what stands in what
+
+abbrev pub same_parent : Option ℕ → Option ℕ → Bool
+same_parent None None = true
+same_parent None (Some j) = false
+same_parent (Some i) None = false
+same_parent (Some i) (Some j) = i == j
+
+-- a node stands in a node, or at the top, and has a name
+abbrev pub is_named : Option ℕ → List ℕ → Node → Bool
+is_named parent name n = same_parent n.parent parent && bytes_eq n.name name
+
+-- a node stands at the top, and has a module and a name
+abbrev pub is_top : List ℕ → List ℕ → Node → Bool
+is_top owner name n = bytes_eq n.«module» owner && is_named None name n
+
+-- the first node directly in node i that has a name
+unfoldable pub first_named : List Node → ℕ → List ℕ → Option ℕ
+first_named nodes i name = position_from (is_named (Some i) name) 0 nodes
+
+-- the first node at the top that has a module and a name (RFC 7950 section 5.5: names at the top belong to their module)
+unfoldable pub first_top : List Node → List ℕ → List ℕ → Option ℕ
+first_top nodes owner name = position_from (is_top owner name) 0 nodes
+
+-- the nodes, of which the first is node n, that stand directly in `parent`
+unfoldable pub those_in : ℕ → Option ℕ → List Node → List ℕ
+those_in n parent [] = []
+those_in n parent (r ∷ nodes) = if same_parent r.parent parent then n ∷ those_in (suc n) parent nodes else those_in (suc n) parent nodes
+
+-- the nodes directly in node i, in order
+abbrev pub children : List Node → ℕ → List ℕ
+children nodes i = those_in 0 (Some i) nodes
+
+-- the nodes at the top, in order
+abbrev pub tops : List Node → List ℕ
+tops nodes = those_in 0 None nodes
+
+-- ---- what a node says
+
+-- the type of a leaf or a leaf-list (RFC 7950 sections 7.6.3 and 7.7.3)
+abbrev pub type_of : NodeKind → Option TypeOfLeaf
+type_of (kind.Leaf t d m r) = Some t
+type_of (kind.LeafList t r e) = Some t
+type_of _ = None
+
+abbrev pub type_in : Option Node → Option TypeOfLeaf
+type_in None = None
+type_in (Some n) = type_of n.kind
+
+-- the type of node i
+abbrev pub type_at : List Node → ℕ → Option TypeOfLeaf
+type_at nodes i = type_in (slice_get nodes i)
+
+-- the keys of a list (RFC 7950 section 7.8.2)
+abbrev pub keys_of : NodeKind → List ℕ
+keys_of (kind.List keys uniques e) = keys
+keys_of _ = []
+
+abbrev pub keys_in : Option Node → List ℕ
+keys_in None = []
+keys_in (Some n) = keys_of n.kind
+
+-- the keys of a node, if there is one
+abbrev pub keys_at : List Node → Option ℕ → List ℕ
+keys_at nodes None = []
+keys_at nodes (Some i) = keys_in (slice_get nodes i)
+
+abbrev pub parent_in : Option Node → Option ℕ
+parent_in None = None
+parent_in (Some n) = n.parent
+
+-- the node that node i stands in
+abbrev pub parent_of : List Node → ℕ → Option ℕ
+parent_of nodes i = parent_in (slice_get nodes i)
+
+unfoldable pub is_among : ℕ → List ℕ → Bool
+is_among i is = list_any (λ j. j == i) is
+
+-- node i is a key of the list that it stands in (RFC 7950 section 7.8.2)
+abbrev pub is_key : List Node → ℕ → Bool
+is_key nodes i = is_among i (keys_at nodes (parent_of nodes i))
+
+-- ---- what changes in a node
+
+-- the same leaf or leaf-list with another reference; others have none (RFC 7950 section 9.9)
+abbrev pub with_reference : Option Reference → NodeKind → NodeKind
+with_reference to (kind.Leaf t d m r) = kind.Leaf t d m to
+with_reference to (kind.LeafList t r e) = kind.LeafList t to e
+with_reference to k = k
+
+-- the tree with one node more
+abbrev pub with_node : SchemaTree → Node → SchemaTree
+with_node t n = record { modules = t.modules; nodes = t.nodes ++ n ∷ [] }
+
+-- the same node of another kind
+abbrev pub of_kind : NodeKind → Node → Node
+of_kind k n = record { parent = n.parent; «module» = n.«module»; name = n.name; kind = k }
+
+abbrev pub referring : List Node → ℕ → Option Reference → Option Node → List Node
+referring nodes i to None = nodes
+referring nodes i to (Some n) = slice_set nodes i (of_kind (with_reference to n.kind) n)
+
+-- the nodes once node i has another reference
+abbrev pub with_reference_at : List Node → ℕ → Option Reference → List Node
+with_reference_at nodes i to = referring nodes i to (slice_get nodes i)
+
+-- the tree once node i has another reference
+abbrev pub with_reference_in : SchemaTree → ℕ → Option Reference → SchemaTree
+with_reference_in t i to = record { modules = t.modules; nodes = with_reference_at t.nodes i to }
+
+-- the same list with other keys and unique statements; others have none (RFC 7950 sections 7.8.2 and 7.8.3)
+abbrev pub with_keys : List ℕ → List (List ℕ) → NodeKind → NodeKind
+with_keys keys uniques (kind.List k u e) = kind.List keys uniques e
+with_keys keys uniques k = k
+
+abbrev pub keying : List Node → ℕ → List ℕ → List (List ℕ) → Option Node → List Node
+keying nodes i keys uniques None = nodes
+keying nodes i keys uniques (Some n) = slice_set nodes i (of_kind (with_keys keys uniques n.kind) n)
+
+-- the nodes once node i has other keys and unique statements
+abbrev pub with_keys_at : List Node → ℕ → List ℕ → List (List ℕ) → List Node
+with_keys_at nodes i keys uniques = keying nodes i keys uniques (slice_get nodes i)
+
+-- the tree once node i has other keys and unique statements
+abbrev pub with_keys_in : SchemaTree → ℕ → List ℕ → List (List ℕ) → SchemaTree
+with_keys_in t i keys uniques = record { modules = t.modules; nodes = with_keys_at t.nodes i keys uniques }
+
+-- ---- what holds of a schema tree
+
+abbrev pub module_in : Option Node → Option (List ℕ)
+module_in None = None
+module_in (Some n) = Some n.«module»
+
+-- the module of node i
+abbrev pub module_at : List Node → ℕ → Option (List ℕ)
+module_at nodes i = module_in (slice_get nodes i)
+
+-- a node may stand after these: at the top, or in one of them that has its module
+abbrev pub may_follow : List Node → Option ℕ → List ℕ → Type 0
+may_follow nodes None owner = Unit {0}
+may_follow nodes (Some p) owner = module_at nodes p ≡ Some owner

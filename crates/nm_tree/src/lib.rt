@@ -1,0 +1,17 @@
+//! The schema tree of YANG modules, and the nodes that names lead to.
+//!
+//! Stands on `nm_base` and `nm_types`. The layers above rely on the tree being seen as the list of its nodes, and on
+//! each look-up answering the first node of that list that a definition names.
+#![tactic(auto)]
+
+mod level;
+pub mod lists;
+pub mod node;
+pub mod schema;
+
+pub use lists::{Groups, Numbers};
+pub use node::{Elements, Node, NodeKind, Reference, SharedType};
+pub use schema::Schema;
+
+#[cfg(test)]
+mod tests;
