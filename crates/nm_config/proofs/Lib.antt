@@ -1,0 +1,5 @@
+pub mod Steps
+pub mod Contiguous
+pub mod Meaning
+pub mod Maps
+pub mod Ranges

@@ -1,0 +1,14 @@
+-- A configuration as a finite map, and what stands next in it.
+use Rattle.std.specs.Prelude.{List, Option, filter, slice_get}
+use Rattle.std.specs.Ordering.{is_lt}
+use Rattle.std.specs.FinMap.{FinMap, keys}
+use Rattle.nm_types.specs.Path.{PathStep, path_cmp}
+use Rattle.nm_types.specs.declared.value.Value.{Value}
+
+-- a configuration: one row for each leaf that isn't a key, list entry, leaf-list entry and presence container, from its path to its value (RFC 7950)
+abbrev pub Rows : Type 0
+Rows = FinMap path_cmp Value
+
+-- the first path of a configuration that stands after a path (this project's own)
+abbrev pub next_path : Rows → List PathStep → Option (List PathStep)
+next_path rows path = slice_get (filter (λ other. is_lt (path_cmp path other)) (keys rows)) 0
