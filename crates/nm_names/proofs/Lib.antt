@@ -3,3 +3,4 @@ pub mod Scopes
 pub mod Within
 pub mod Graphs
 pub mod Standing
+pub mod Givens

@@ -8,6 +8,7 @@ mod flaw;
 mod graph;
 mod key;
 mod leads;
+mod modules;
 mod names;
 mod table;
 

@@ -4,7 +4,9 @@ ghost use Rattle.std.specs.Prelude.{◌≡◌, IfOk, Some};
 ghost use Rattle.nm_names.specs.Named as spec;
 
 use crate::key::{Key, Reach, word_number};
+use crate::modules::modules_of;
 use crate::table::{Table, table_of};
+use indexmap::IndexMap;
 use nm_base::NoMemory;
 use nm_grammar::{Row, Rows, Word};
 use std::alloc::Global;
@@ -18,6 +20,7 @@ pub struct Names<'a> {
     rows: &'a Rows,
     beside: Table<'a>,
     within: Table<'a>,
+    modules: IndexMap<&'a str, usize>,
 }
 
 impl<'a> Model for Names<'a> {
@@ -25,12 +28,13 @@ impl<'a> Model for Names<'a> {
     ghost use Rattle.nm_grammar.specs.declared.row.Row.{Row};
     ghost use Rattle.nm_names.specs.declared.key.Reach.TheVariants as reach;
     ghost use Rattle.nm_names.specs.Table.{IsTable};
+    ghost use Rattle.nm_names.specs.Modules.{AreModules};
 
     ghost Value = { List Row };
 
     ghost view = { λ n. n.rows.now };
 
-    ghost invariant = { λ n. IsTable reach.Statement n.rows.now n.beside × IsTable reach.Module n.rows.now n.within };
+    ghost invariant = { λ n. IsTable reach.Statement n.rows.now n.beside × IsTable reach.Module n.rows.now n.within × AreModules n.rows.now n.modules };
 }
 
 /// Whether a module's name is that of the module that netm adds by itself.
@@ -48,10 +52,12 @@ impl<'a> Names<'a> {
     {
         let beside = table_of(alloc, rows, Reach::Statement)?;
         let within = table_of(alloc, rows, Reach::Module)?;
+        let modules = modules_of(alloc, rows)?;
         Ok(Names {
             rows,
             beside,
             within,
+            modules,
         })
     }
 
@@ -94,14 +100,14 @@ impl<'a> Names<'a> {
     }
 
     /// The given module of a name. The module that netm adds by itself is none of them.
-    #[tactic(auto, unfolding(crate::specs::Named::module_named))]
+    #[tactic(auto, unfolding(crate::specs::Named::module_named, crate::specs::Modules::AreModules))]
     pub fn module_named(&self, name: &'a str) -> Option<usize>
         ensures { result ≡ spec.module_named self.now name.now }
     {
         if is_marker(name) {
             return None;
         }
-        self.named(None, Word::Module, name)
+        self.modules.get(name).copied()
     }
 
     /// The first row directly in a row, if there is one, that has a word and the name as its argument.
