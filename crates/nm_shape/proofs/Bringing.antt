@@ -8,7 +8,7 @@ use Rattle.std.specs.declared.vec.Vec.{Vec}
 use Rattle.std.specs.declared.alloc.Global.{Global}
 use Rattle.nm_graph.specs.Graph.{Graph, IsGraph, successors_of}
 use Rattle.nm_graph.specs.Value.{strict, values_at, all_there, Holds}
-use Rattle.nm_shape.specs.Holding.{holding, IsHolding}
+use Rattle.nm_shape.specs.Holding.{holding, bringing, IsHolding, IsBringing}
 use Rattle.nm_shape.specs.Worth.{worth_within, worth_of, AreWorth}
 use Rattle.nm_shape.specs.Members.{bring, bring_step, brought, gathered, members}
 use Rattle.nm_shape.specs.Clash.{known_at, holder_of, clash_by, clash_flaw, duplicate, AreClashes}
@@ -18,14 +18,14 @@ use Rattle.std.proofs.lemmas.Bool.{cases_lt}
 use Rattle.nm_shape.proofs.Worths.{are_worth}
 use Rattle.nm_shape.proofs.Graphs.{successors-within, successors-read, successors-past}
 
-brought-is : (rows : List Row) (groupings : List (Option ℕ)) (i : ℕ) → worth_of (bring_step rows groupings) (holding rows groupings) (length rows) i ≡ brought rows groupings i
+brought-is : (rows : List Row) (groupings : List (Option ℕ)) (i : ℕ) → worth_of (bring_step rows groupings) (bringing rows groupings) (length rows) i ≡ brought rows groupings i
 unfolding brought
 brought-is rows groupings i = refl
 
-pub brought-worth : (rows : List Row) (groupings : List (Option ℕ)) (graph : Graph) (values : List (Option (List ℕ))) → IsHolding rows groupings graph → Holds (strict (bring_step rows groupings)) graph values
+pub brought-worth : (rows : List Row) (groupings : List (Option ℕ)) (graph : Graph) (values : List (Option (List ℕ))) → IsBringing rows groupings graph → Holds (strict (bring_step rows groupings)) graph values
     → AreWorth (brought rows groupings) (length rows) values
-brought-worth rows groupings graph values holding-is holds =
-    let h : AreWorth (worth_of (bring_step rows groupings) (holding rows groupings) (length rows)) (length rows) values = are_worth (bring_step rows groupings) graph (holding rows groupings) (length rows) values holding-is.each holding-is.size holds in
+brought-worth rows groupings graph values bringing-is holds =
+    let h : AreWorth (worth_of (bring_step rows groupings) (bringing rows groupings) (length rows)) (length rows) values = are_worth (bring_step rows groupings) graph (bringing rows groupings) (length rows) values bringing-is.each bringing-is.size holds in
     record { size = h.size; each = λ i lt. h.each i lt ∙ brought-is rows groupings i }
 
 values_at-worth : {Y : Type 0} (value : ℕ → Option Y) (count : ℕ) (values : List (Option Y)) (nodes : List ℕ) → AreWorth value count values → All (λ node. node < count) nodes → values_at values nodes ≡ map value nodes
@@ -46,9 +46,9 @@ unfolding bring_step
 bring_step-past rows groupings i None le = refl
 bring_step-past rows groupings i (Some known) le = rw (slice_get_past rows i le) refl
 
-within-past : (rows : List Row) (groupings : List (Option ℕ)) (steps i : ℕ) → length rows ≤ i → worth_within (strict (bring_step rows groupings)) (holding rows groupings) steps i ≡ None
+within-past : (rows : List Row) (groupings : List (Option ℕ)) (steps i : ℕ) → length rows ≤ i → worth_within (strict (bring_step rows groupings)) (bringing rows groupings) steps i ≡ None
 within-past rows groupings zero i le = refl
-within-past rows groupings (suc steps) i le = bring_step-past rows groupings i (all_there (map (worth_within (strict (bring_step rows groupings)) (holding rows groupings) steps) (holding rows groupings i))) le
+within-past rows groupings (suc steps) i le = bring_step-past rows groupings i (all_there (map (worth_within (strict (bring_step rows groupings)) (bringing rows groupings) steps) (bringing rows groupings i))) le
 
 pub brought-past : (rows : List Row) (groupings : List (Option ℕ)) (i : ℕ) → length rows ≤ i → brought rows groupings i ≡ None
 unfolding brought worth_of
@@ -66,7 +66,7 @@ all-known rows groupings graph known i leads graph-is bring =
     let those : All (λ node. node < length known) (successors_of graph i) = subst (λ n. All (λ node. node < n) (successors_of graph i)) (leads.size ∙ sym bring.size) within in
     subst (λ (nodes : List ℕ). All (λ node. node < length known) nodes) (leads.each i) those
 
-known_each : (rows : List Row) (groupings : List (Option ℕ)) (values : List (Option (List ℕ))) (i : ℕ) → AreWorth (brought rows groupings) (length rows) values → (i < length rows) ⊎ (length rows ≤ i) → known_at values i ≡ brought rows groupings i
+pub known_each : (rows : List Row) (groupings : List (Option ℕ)) (values : List (Option (List ℕ))) (i : ℕ) → AreWorth (brought rows groupings) (length rows) values → (i < length rows) ⊎ (length rows ≤ i) → known_at values i ≡ brought rows groupings i
 unfolding known_at
 known_each rows groupings values i h (inl lt) = h.each i lt
 known_each rows groupings values i h (inr le) = let size = h.size in let e : slice_index_or values i None ≡ None = grind (arith, common_steps) in e ∙ sym (brought-past rows groupings i le)

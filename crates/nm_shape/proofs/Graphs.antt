@@ -1,5 +1,5 @@
 -- The graph of what rows lead to.
-use Rattle.std.proofs.Common.{◌≡◌, ◌<◌, ◌≤◌, ◌+◌, ◌∙◌, ◌⊎◌, inl, inr, ℕ, zero, suc, List, [], ◌∷◌, ◌++◌, length, get_or, slice_get, true, false, Option, Some, None, IfSome, All, filter, option_to_list, refl, sym, ap, subst, arith, if◌then◌else◌}
+use Rattle.std.proofs.Common.{◌≡◌, ◌<◌, ◌≤◌, ◌+◌, ◌∙◌, ◌⊎◌, inl, inr, ℕ, zero, suc, List, [], ◌∷◌, ◌++◌, length, get_or, slice_get, Bool, true, false, Option, Some, None, IfSome, All, filter, option_to_list, refl, sym, ap, subst, arith, if◌then◌else◌}
 use Rattle.std.proofs.lemmas.Grind.{common_steps}
 use Rattle.std.proofs.lemmas.List.{length-append}
 use Rattle.std.proofs.lemmas.Bool.{cases_lt}
@@ -10,7 +10,7 @@ use Rattle.std.specs.declared.alloc.Global.{Global}
 use Rattle.nm_grammar.specs.declared.row.Row.{Row}
 use Rattle.nm_grammar.specs.Rows.{children, AreRows}
 use Rattle.nm_graph.specs.Graph.{Graph, IsGraph, successors_of}
-use Rattle.nm_shape.specs.Holding.{is_holder, is_uses, is_part_at, grouping_at, led_to, holding, AreNamed, Draws}
+use Rattle.nm_shape.specs.Holding.{is_holder, is_uses, is_part_at, grouping_at, led_to, holding, is_data_at, bringing, AreNamed, Draws}
 
 -- after so many rows, the graph has what these lead to, all of it rows
 pub record IsDrawn (next : ℕ → List ℕ) (count : ℕ) (graph : Graph) (n : ℕ) : Type 0 where
@@ -64,6 +64,22 @@ holding-within rows groupings i h named = led_to-within rows groupings i (slice_
 pub holding-past : (rows : List Row) (groupings : List (Option ℕ)) (i : ℕ) → length rows ≤ i → holding rows groupings i ≡ []
 unfolding holding
 holding-past rows groupings i le = rw (slice_get_past rows i le) refl
+
+unless_all : (b : Bool) (P : ℕ → Type 0) (nodes : List ℕ) → All P nodes → All P (if b then [] else nodes)
+unless_all true P nodes h = All-nil P
+unless_all false P nodes h = h
+
+pub bringing-within : (rows : List Row) (groupings : List (Option ℕ)) (i : ℕ) → AreRows rows → AreNamed rows groupings → All (λ node. node < length rows) (bringing rows groupings i)
+unfolding bringing
+bringing-within rows groupings i h named = unless_all (is_data_at rows i) (λ node. node < length rows) (holding rows groupings i) (holding-within rows groupings i h named)
+
+unless_none : (b : Bool) (nodes : List ℕ) → nodes ≡ [] → (if b then [] else nodes) ≡ []
+unless_none true nodes e = refl
+unless_none false nodes e = e
+
+pub bringing-past : (rows : List Row) (groupings : List (Option ℕ)) (i : ℕ) → length rows ≤ i → bringing rows groupings i ≡ []
+unfolding bringing
+bringing-past rows groupings i le = unless_none (is_data_at rows i) (holding rows groupings i) (holding-past rows groupings i le)
 
 module _ (next : ℕ → List ℕ) (count : ℕ) where
   pub drawn_none : IsDrawn next count [] 0

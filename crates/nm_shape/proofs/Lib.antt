@@ -5,3 +5,5 @@ pub mod Bringing
 pub mod Naming
 pub mod Configs
 pub mod Sizing
+pub mod Parts
+pub mod Sharing

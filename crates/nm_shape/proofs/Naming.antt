@@ -12,7 +12,7 @@ use mathlib.Core.Path.{fun_ext}
 use Rattle.std.proofs.lemmas.Map.Text.{is_eq-slice_cmp}
 use Rattle.nm_grammar.specs.declared.row.Row.{Row}
 use Rattle.nm_grammar.specs.Rows.{same_parent}
-use Rattle.nm_shape.specs.Clash.{argument_at, names_from, has_name, holder_of, is_taken, clash_by, AreTaken, AreClashes}
+use Rattle.nm_shape.specs.Clash.{argument_at, names_from, has_name, holder_of, is_taken, clash_by, known_at, Knowledge, names_at, brought_by, Parts, no_parts, has_part, AreTaken, AreClashes}
 
 pub contained : (keys : List (List ℕ)) (name : List ℕ) → list_any (λ k. is_eq (slice_cmp nat_cmp name k)) keys ≡ has_name keys name
 contained [] name = refl
@@ -66,22 +66,26 @@ add_end rows nodes i old n all le h =
     let none : drop i nodes ≡ [] = grind (arith, common_steps) in
     sym (ap (λ (l : List ℕ). has_name (map (argument_at rows) l) n || has_name old n) none) ∙ h
 
-module _ (bring : ℕ → Option (List ℕ)) (rows : List Row) where
-  none_yet : (n : ℕ) (name : List ℕ) (h : ℕ) → has_name (get_or (replicate n []) h []) name ≡ false
-  none_yet zero name h = refl
-  none_yet (suc n) name zero = refl
+module _ (k : Knowledge) where
+  nothing : (name : List ℕ) → has_part k no_parts name ≡ false
+  unfolding has_part
+  nothing name = refl
+
+  none_yet : (n : ℕ) (name : List ℕ) (h : ℕ) → has_part k (get_or (replicate n no_parts) h no_parts) name ≡ false
+  none_yet zero name h = nothing name
+  none_yet (suc n) name zero = nothing name
   none_yet (suc n) name (suc h) = none_yet n name h
 
-  pub taken_start : (taken : List (List (List ℕ))) → taken ≡ replicate (length rows) [] → AreTaken bring rows 0 taken
+  pub taken_start : (taken : List Parts) → taken ≡ replicate (length k.rows) no_parts → AreTaken k 0 taken
   unfolding is_taken
-  taken_start taken is = rw is (record { size = length-replicate (length rows) []; each = λ h name lt. none_yet (length rows) name h })
+  taken_start taken is = rw is (record { size = length-replicate (length k.rows) no_parts; each = λ h name lt. none_yet (length k.rows) name h })
 
-  taken_step : (at : ℕ) (h : ℕ) (name : List ℕ) (holder : Option ℕ) → holder_of rows at ≡ holder
-      → is_taken bring rows h (at + 1) name ≡ ((same_parent holder (Some h) && has_name (names_from rows (bring at)) name) || is_taken bring rows h at name)
-  unfolding is_taken
+  taken_step : (at : ℕ) (h : ℕ) (name : List ℕ) (holder : Option ℕ) → holder_of k.rows at ≡ holder
+      → is_taken (known_at k.brought) k.rows h (at + 1) name ≡ ((same_parent holder (Some h) && brought_by k at name) || is_taken (known_at k.brought) k.rows h at name)
+  unfolding is_taken brought_by names_at
   taken_step at h name holder is = rw (add-one, is) refl
 
-  pub taken_none : (taken : List (List (List ℕ))) (at : ℕ) → AreTaken bring rows at taken → holder_of rows at ≡ None → AreTaken bring rows (at + 1) taken
+  pub taken_none : (taken : List Parts) (at : ℕ) → AreTaken k at taken → holder_of k.rows at ≡ None → AreTaken k (at + 1) taken
   taken_none taken at t is = record { size = t.size; each = λ h name lt. t.each h name lt ∙ sym (taken_step at h name None is) }
 
   other_holder : (h g : ℕ) → g ≢ h → same_parent (Some h) (Some g) ≡ false
@@ -90,29 +94,43 @@ module _ (bring : ℕ → Option (List ℕ)) (rows : List Row) where
   same_holder : (h : ℕ) → same_parent (Some h) (Some h) ≡ true
   same_holder h = grind (arith, common_steps)
 
-  taken_each : (taken : List (List (List ℕ))) (at h : ℕ) (names : List (List ℕ)) → AreTaken bring rows at taken → holder_of rows at ≡ Some h → h < length rows
-      → ((n : List ℕ) → has_name names n ≡ (has_name (names_from rows (bring at)) n || has_name (get_or taken h []) n)) → (g : ℕ) (name : List ℕ) → g < length rows → (g ≡ h) ⊎ (g ≢ h)
-      → has_name (get_or (set taken h names) g []) name ≡ is_taken bring rows g (at + 1) name
-  taken_each taken at h names t is lt more g name within (inl same) =
+  taken_each : (taken : List Parts) (at h : ℕ) (all : Parts) → AreTaken k at taken → holder_of k.rows at ≡ Some h → h < length k.rows
+      → ((n : List ℕ) → has_part k all n ≡ (brought_by k at n || has_part k (get_or taken h no_parts) n)) → (g : ℕ) (name : List ℕ) → g < length k.rows → (g ≡ h) ⊎ (g ≢ h)
+      → has_part k (get_or (set taken h all) g no_parts) name ≡ is_taken (known_at k.brought) k.rows g (at + 1) name
+  taken_each taken at h all t is lt more g name within (inl same) =
       let size = t.size in
-      rw same (ap (λ (l : List (List ℕ)). has_name l name) (get_or-set_same taken h names [] (omega arith)) ∙ more name ∙ ap (λ b. has_name (names_from rows (bring at)) name || b) (t.each h name lt)
+      rw same (ap (λ (p : Parts). has_part k p name) (get_or-set_same taken h all no_parts (omega arith)) ∙ more name ∙ ap (λ b. brought_by k at name || b) (t.each h name lt)
       ∙ sym (taken_step at h name (Some h) is ∙ rw (same_holder h) refl))
-  taken_each taken at h names t is lt more g name within (inr other) =
-      ap (λ (l : List (List ℕ)). has_name l name) (get_or-set_other taken h g names [] other) ∙ t.each g name within ∙ sym (taken_step at g name (Some h) is ∙ rw (other_holder h g other) refl)
+  taken_each taken at h all t is lt more g name within (inr other) =
+      ap (λ (p : Parts). has_part k p name) (get_or-set_other taken h g all no_parts other) ∙ t.each g name within ∙ sym (taken_step at g name (Some h) is ∙ rw (other_holder h g other) refl)
 
-  pub taken_more : (taken : List (List (List ℕ))) (at h : ℕ) (names : List (List ℕ)) → AreTaken bring rows at taken → holder_of rows at ≡ Some h → h < length rows
-      → ((n : List ℕ) → has_name names n ≡ (has_name (names_from rows (bring at)) n || has_name (get_or taken h []) n)) → AreTaken bring rows (at + 1) (set taken h names)
-  taken_more taken at h names t is lt more = record { size = length-set taken h names ∙ t.size; each = λ g name within. taken_each taken at h names t is lt more g name within (cases_eq g h) }
+  pub taken_more : (taken : List Parts) (at h : ℕ) (all : Parts) → AreTaken k at taken → holder_of k.rows at ≡ Some h → h < length k.rows
+      → ((n : List ℕ) → has_part k all n ≡ (brought_by k at n || has_part k (get_or taken h no_parts) n)) → AreTaken k (at + 1) (set taken h all)
+  taken_more taken at h all t is lt more = record { size = length-set taken h all ∙ t.size; each = λ g name within. taken_each taken at h all t is lt more g name within (cases_eq g h) }
 
+  pub clash_some : (taken : List Parts) (at h : ℕ) → AreTaken k at taken → holder_of k.rows at ≡ Some h → h < length k.rows → find (has_part k (get_or taken h no_parts)) (names_at k at) ≡ clash_by (known_at k.brought) k.rows at
+  unfolding clash_by names_at
+  clash_some taken at h t is lt =
+      let same : has_part k (get_or taken h no_parts) ≡ is_taken (known_at k.brought) k.rows h at = fun_ext (λ name. t.each h name lt) in
+      rw is (ap (λ (p : List ℕ → Bool). find p (names_from k.rows (known_at k.brought at))) same)
+
+  names-source : (source at : ℕ) → known_at k.brought source ≡ known_at k.brought at → names_at k source ≡ names_at k at
+  unfolding names_at
+  names-source source at e = ap (λ (nodes : Option (List ℕ)). names_from k.rows nodes) e
+
+  pub brought-source : (source at : ℕ) (name : List ℕ) → known_at k.brought source ≡ known_at k.brought at → brought_by k source name ≡ brought_by k at name
+  unfolding brought_by
+  brought-source source at name e = ap (λ (names : List (List ℕ)). has_name names name) (names-source source at e)
+
+  pub clash-source : (taken : List Parts) (source at h : ℕ) (earlier : Parts) → AreTaken k at taken → holder_of k.rows at ≡ Some h → h < length k.rows → earlier ≡ get_or taken h no_parts → known_at k.brought source ≡ known_at k.brought at
+      → find (has_part k earlier) (names_at k source) ≡ clash_by (known_at k.brought) k.rows at
+  clash-source taken source at h earlier t is lt here e =
+      ap (λ (p : Parts). find (has_part k p) (names_at k source)) here ∙ ap (λ (names : List (List ℕ)). find (has_part k (get_or taken h no_parts)) names) (names-source source at e) ∙ clash_some taken at h t is lt
+
+module _ (bring : ℕ → Option (List ℕ)) (rows : List Row) where
   pub clash_none : (at : ℕ) → holder_of rows at ≡ None → None ≡ clash_by bring rows at
   unfolding clash_by
   clash_none at is = rw is refl
-
-  pub clash_some : (taken : List (List (List ℕ))) (at h : ℕ) → AreTaken bring rows at taken → holder_of rows at ≡ Some h → h < length rows → find (has_name (get_or taken h [])) (names_from rows (bring at)) ≡ clash_by bring rows at
-  unfolding clash_by
-  clash_some taken at h t is lt =
-      let same : has_name (get_or taken h []) ≡ is_taken bring rows h at = fun_ext (λ name. t.each h name lt) in
-      rw is (ap (λ (p : List ℕ → Bool). find p (names_from rows (bring at))) same)
 
   -- the clashes of the first rows
   pub record HaveClashes (n : ℕ) (clashes : List (Option (List ℕ))) : Type 0 where

@@ -47,6 +47,19 @@ led_to rows groupings i (Some r) =
 unfoldable pub holding : List Row → List (Option ℕ) → ℕ → List ℕ
 holding rows groupings i = led_to rows groupings i (slice_get rows i)
 
+abbrev pub is_data_row : Option Row → Bool
+is_data_row None = false
+is_data_row (Some r) = is_data r.word
+
+-- row i is a node of data
+abbrev pub is_data_at : List Row → ℕ → Bool
+is_data_at rows i = is_data_row (slice_get rows i)
+
+-- what the nodes that row i brings rest on: a uses on its grouping, a module and a grouping on the nodes and uses that stand in them, and a node of
+-- data, which brings itself, on nothing (this project's own)
+unfoldable pub bringing : List Row → List (Option ℕ) → ℕ → List ℕ
+bringing rows groupings i = if is_data_at rows i then [] else holding rows groupings i
+
 -- each grouping is a row
 abbrev pub AreNamed : List Row → List (Option ℕ) → Type 0
 AreNamed rows groupings = All (λ grouping. IfSome grouping (λ g. g < length rows)) groupings
@@ -58,3 +71,6 @@ pub record Draws (next : ℕ → List ℕ) (count : ℕ) (graph : Graph) : Type 
 
 abbrev pub IsHolding : List Row → List (Option ℕ) → Graph → Type 0
 IsHolding rows groupings graph = Draws (holding rows groupings) (length rows) graph
+
+abbrev pub IsBringing : List Row → List (Option ℕ) → Graph → Type 0
+IsBringing rows groupings graph = Draws (bringing rows groupings) (length rows) graph

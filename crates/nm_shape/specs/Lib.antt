@@ -2,6 +2,7 @@ pub mod Holding
 pub mod Worth
 pub mod Members
 pub mod Outline
+pub mod Sharing
 pub mod Clash
 pub mod Config
 pub mod Sizes

@@ -4,7 +4,7 @@ use Rattle.std.specs.List.{concat}
 use Rattle.nm_grammar.specs.declared.row.Row.{Row}
 use Rattle.nm_grammar.specs.Flaw.{is_data}
 use Rattle.nm_graph.specs.Value.{all_there}
-use Rattle.nm_shape.specs.Holding.{is_uses, grouping_at, holding}
+use Rattle.nm_shape.specs.Holding.{is_uses, grouping_at, holding, bringing}
 use Rattle.nm_shape.specs.Worth.{worth_of}
 
 -- a list of at most so many
@@ -31,10 +31,12 @@ bring rows groupings i (Some r) known =
 unfoldable pub bring_step : List Row → List (Option ℕ) → ℕ → List (List ℕ) → Option (List ℕ)
 bring_step rows groupings i known = bring rows groupings i (slice_get rows i) known
 
--- the nodes that row i brings to the statement that it stands in, in order; none where a uses that it rests on has no grouping or leads to itself
+-- the nodes that row i brings to the statement that it stands in, in order: a node of data always itself, whatever stands in it, and a uses, a grouping
+-- and a module what stands in them; none where a uses that this rests on has no grouping or leads to itself
 unfoldable pub brought : List Row → List (Option ℕ) → ℕ → Option (List ℕ)
-brought rows groupings i = worth_of (bring_step rows groupings) (holding rows groupings) (length rows) i
+brought rows groupings i = worth_of (bring_step rows groupings) (bringing rows groupings) (length rows) i
 
--- the nodes of data that stand directly in row i once each uses stands for what its grouping holds, in order (RFC 7950 section 7.13)
+-- the nodes of data that stand directly in row i once each uses stands for what its grouping holds, in order (RFC 7950 section 7.13); none where a uses
+-- directly in it, or in the groupings that these use, has no grouping or leads to itself, and none of this for a uses that stands in a node below it
 unfoldable pub members : List Row → List (Option ℕ) → ℕ → Option (List ℕ)
 members rows groupings i = gathered (length rows) (all_there (map (brought rows groupings) (holding rows groupings i)))

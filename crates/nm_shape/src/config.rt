@@ -13,9 +13,9 @@ use nm_grammar::{Rows, Word};
 use nm_graph::reached;
 use std::alloc::Global;
 
-// The argument of a row, and an empty text where it has none.
+/// The argument of a row, and an empty text where it has none.
 #[tactic(auto, unfolding(crate::specs::Clash::argument_at))]
-fn argument_at(rows: &Rows, at: usize) -> &str
+pub fn argument_at(rows: &Rows, at: usize) -> &str
     ensures { result.now ≡ argument_at rows.now at }
 {
     if let Some(row) = rows.row(at)
@@ -48,8 +48,9 @@ pub(crate) fn is_state(rows: &Rows, at: usize) -> bool
     is_data(word) && says_false(rows, rows.first_below(at, Word::Config))
 }
 
+/// Whether a row isn't a node that has `config false` directly.
 #[tactic(auto, unfolding(crate::specs::Config::is_kept))]
-fn is_kept(rows: &Rows, at: usize) -> bool
+pub fn is_kept(rows: &Rows, at: usize) -> bool
     ensures { result ≡ spec.is_kept rows.now at }
 {
     !is_state(rows, at)

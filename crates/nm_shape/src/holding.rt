@@ -5,7 +5,7 @@ ghost use Rattle.nm_grammar.specs.Rows.{children};
 ghost use Rattle.nm_graph.specs.Graph.{IsGraph};
 ghost use Rattle.nm_shape.specs.Holding as spec;
 
-use crate::kinds::{is_holder, is_part_at, is_uses};
+use crate::kinds::{is_data_at, is_holder, is_part_at, is_uses};
 use nm_base::NoMemory;
 use nm_grammar::Rows;
 use std::alloc::Global;
@@ -64,6 +64,22 @@ fn led_to(
     Ok(Vec::new(alloc))
 }
 
+// What the nodes that a row brings rest on.
+#[tactic(auto, unfolding(crate::specs::Holding::bringing))]
+fn rested_on(
+    alloc: Global,
+    rows: &Rows,
+    groupings: &[Option<usize>],
+    at: usize,
+) -> Result<Vec<usize>, NoMemory>
+    ensures { IfOk result (λ nodes. nodes.items ≡ spec.bringing rows.now groupings.now at) }
+{
+    if is_data_at(rows, at) {
+        return Ok(Vec::new(alloc));
+    }
+    led_to(alloc, rows, groupings, at)
+}
+
 /// Whether each grouping that is given is a row.
 pub fn are_named(rows: &Rows, groupings: &[Option<usize>]) -> bool
     ensures { IsTrue result ↔ spec.AreNamed rows.now groupings.now }
@@ -102,6 +118,26 @@ pub(crate) fn graph_of(
     let mut graph = Vec::new(alloc);
     for at in 0..rows.len() {
         let nodes = led_to(alloc, rows, groupings, at)?;
+        graph.push(nodes)?;
+    }
+    Ok(graph)
+}
+
+// What the nodes that each row brings rest on: a uses on its grouping, a module and a grouping on the nodes and uses that stand in
+// them, and a node of data, which brings itself, on nothing.
+pub(crate) fn bringing_of(
+    alloc: Global,
+    rows: &Rows,
+    groupings: &[Option<usize>],
+) -> Result<Vec<Vec<usize>>, NoMemory>
+    requires { spec.AreNamed rows.now groupings.now }
+    ensures bringing { IfOk result (λ graph. spec.IsBringing rows.now groupings.now graph.items) }
+    ensures graph { IfOk result (λ graph. IsGraph graph.items) }
+{
+    rows.laws();
+    let mut graph = Vec::new(alloc);
+    for at in 0..rows.len() {
+        let nodes = rested_on(alloc, rows, groupings, at)?;
         graph.push(nodes)?;
     }
     Ok(graph)

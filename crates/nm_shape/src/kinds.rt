@@ -42,6 +42,16 @@ pub(crate) fn is_part(word: Word) -> bool
     }
 }
 
+// Whether the row of a number is there, and is a node of data.
+pub(crate) fn is_data_at(rows: &Rows, at: usize) -> bool
+    ensures { result ≡ spec.is_data_at rows.now at }
+{
+    match rows.row(at) {
+        None => false,
+        Some(row) => is_data(row.word),
+    }
+}
+
 // Whether the row of a number is there, and is a node of data or a uses.
 #[tactic(auto, unfolding(crate::specs::Holding::is_part_at))]
 pub(crate) fn is_part_at(rows: &Rows, at: usize) -> bool

@@ -1,63 +1,67 @@
 //! Lists of rows.
 
-ghost use Rattle.std.specs.Prelude.{◌≡◌, ◌++◌, ◌∷◌, [], length, IfOk, OnOk};
+ghost use Rattle.std.specs.Prelude.{◌≡◌, length, IfOk};
 
 use nm_base::NoMemory;
 use std::alloc::Global;
 use std::marker::Model;
+use std::sync::Arc;
 
-/// Numbers of rows. They are seen as their list.
+/// Numbers of rows. They are seen as their list. Copies share it, and no list takes no memory.
 #[derive(Drop)]
 pub struct Nodes {
-    all: Vec<usize>,
+    shared: Option<Arc<Vec<usize>>>,
 }
 
 impl Model for Nodes {
     ghost use Rattle.std.specs.Prelude.{List, ℕ};
+    ghost use Rattle.nm_shape.specs.Sharing.{listed};
 
     ghost Value = { List ℕ };
 
-    ghost view = { λ n. n.all.items };
+    ghost view = { λ n. listed n.shared };
 }
 
 impl Nodes {
-    /// No rows.
-    pub(crate) fn new(alloc: Global) -> Nodes
-        ensures { result ≡ [] }
+    /// The rows of a list.
+    pub(crate) fn new(alloc: Global, all: Vec<usize>) -> Result<Nodes, NoMemory>
+        ensures { IfOk result (λ nodes. nodes ≡ all.items) }
     {
-        Nodes {
-            all: Vec::new(alloc),
+        if all.is_empty() {
+            return Ok(Nodes { shared: None });
         }
+        let shared = Arc::new(alloc, all)?;
+        Ok(Nodes {
+            shared: Some(shared),
+        })
     }
 
-    /// One row.
-    pub(crate) fn one(alloc: Global, node: usize) -> Result<Nodes, NoMemory>
-        ensures { IfOk result (λ nodes. nodes ≡ node ∷ []) }
+    /// The same rows once more, in constant time.
+    pub(crate) fn copy(&self) -> Result<Nodes, NoMemory>
+        ensures { IfOk result (λ nodes. nodes ≡ self.now) }
     {
-        let mut all = Vec::new(alloc);
-        all.push(node)?;
-        Ok(Nodes { all })
-    }
-
-    /// Adds more rows at the end.
-    pub(crate) fn extend(&mut self, more: &Nodes) -> Result<(), NoMemory>
-        ensures { OnOk result (self.new ≡ self.old ++ more.now) }
-    {
-        self.all.extend_from_slice(more.as_slice())?;
-        Ok(())
+        match &self.shared {
+            None => Ok(Nodes { shared: None }),
+            Some(shared) => Ok(Nodes {
+                shared: Some(Arc::try_clone(shared)?),
+            }),
+        }
     }
 
     /// How many rows these are.
     pub fn len(&self) -> usize
         ensures { result ≡ length self.now }
     {
-        self.all.len()
+        self.as_slice().len()
     }
 
     /// The rows.
     pub fn as_slice(&self) -> &[usize]
         ensures { result.now ≡ self.now }
     {
-        self.all.as_slice()
+        match &self.shared {
+            None => &[],
+            Some(shared) => shared.as_slice(),
+        }
     }
 }

@@ -13,10 +13,11 @@ ghost use Rattle.nm_shape.specs.Outline.{outline};
 
 use crate::clash::clashes;
 use crate::config::{claim_at, is_keyless};
-use crate::holding::graph_of;
+use crate::holding::{bringing_of, graph_of};
 use crate::members::{brought, gathered};
 use crate::nodes::Nodes;
 use crate::settings::{Settings, settings_of};
+use crate::sources::sources;
 use nm_base::{Label, NoMemory};
 use nm_grammar::{Flaw, Rows, Word};
 use nm_graph::order;
@@ -45,6 +46,15 @@ impl<'a> Model for Shape<'a> {
     ghost invariant = { λ s. IsShape s.rows.now s.groupings.now s.graph.items s.brought.items s.clashes.items s.settings };
 }
 
+impl<'a> Shape<'a> {
+    /// The rows of the modules.
+    pub fn rows(&self) -> &'a Rows
+        ensures { result.now ≡ self.now.rows }
+    {
+        self.rows
+    }
+}
+
 impl Shape<'_> {
     /// What a row leads to in one step: a module, container, list or grouping to the nodes of data and the uses that stand
     /// directly in it, in order, a uses to the grouping that it names, and any other row to nothing.
@@ -57,8 +67,8 @@ impl Shape<'_> {
         &[]
     }
 
-    /// What a row brings to the statement that it stands in: a node of data itself, and a uses what stands in its grouping.
-    /// None where a uses that this rests on has no grouping or leads to itself.
+    /// What a row brings to the statement that it stands in: a node of data itself, whatever stands in it, and a uses what stands
+    /// in its grouping. None where a uses that this rests on has no grouping or leads to itself.
     pub fn brought(&self, at: usize) -> Option<&Nodes>
         ensures { MatchOption result (spec.brought self.now.rows self.now.groupings at ≡ None) (λ nodes. spec.brought self.now.rows self.now.groupings at ≡ Some nodes.now) }
     {
@@ -69,7 +79,7 @@ impl Shape<'_> {
     }
 
     /// The nodes of data that stand directly in a row once each uses stands for what its grouping holds, in order (RFC 7950
-    /// section 7.13). None where a uses that this rests on has no grouping or leads to itself.
+    /// section 7.13). None where a uses directly in it, or in the groupings that these use, has no grouping or leads to itself.
     pub fn members(&self, alloc: Global, at: usize) -> Result<Option<Nodes>, NoMemory>
         ensures { IfOk result (λ nodes. nodes ≡ spec.members self.now.rows self.now.groupings at) }
     {
@@ -86,6 +96,20 @@ impl Shape<'_> {
             return Ok(None);
         }
         duplicate(&self.clashes[at])
+    }
+
+    /// For each row whether it is used as configuration.
+    pub fn configured(&self) -> &[bool]
+        ensures { config.Marks (config.IsConfiguration self.now.rows self.now.groupings) result.now }
+    {
+        self.settings.configured.as_slice()
+    }
+
+    /// For each row whether it stands in state.
+    pub fn in_state(&self) -> &[bool]
+        ensures { config.Marks (config.IsInState self.now.rows self.now.groupings) result.now }
+    {
+        self.settings.in_state.as_slice()
     }
 
     /// Whether a row is used as configuration: the row of a module leads to it through no node that has `config false`.
@@ -191,9 +215,11 @@ pub fn shape_of<'a>(
     ensures { IfOk result (λ shape. shape ≡ outline rows.now groupings.now) }
 {
     let graph = graph_of(alloc, rows, groupings)?;
-    let ordered = order(alloc, &graph)?;
-    let brought = brought(alloc, rows, groupings, &graph, &ordered.nodes)?;
-    let clashes = clashes(alloc, rows, &brought)?;
+    let bringing = bringing_of(alloc, rows, groupings)?;
+    let ordered = order(alloc, &bringing)?;
+    let brought = brought(alloc, rows, groupings, &bringing, &ordered.nodes)?;
+    let sources = sources(alloc, rows, &bringing, &brought, &ordered.nodes)?;
+    let clashes = clashes(alloc, rows, &brought, &sources)?;
     let settings = settings_of(alloc, rows, &graph)?;
     Ok(Shape {
         rows,

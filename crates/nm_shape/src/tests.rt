@@ -62,7 +62,7 @@ fn first_flaw(alloc: Global, shape: &Shape<'_>, count: usize) -> Result<String, 
 }
 
 // A module's text; the nodes in it, and the first flaw, by the number of its row (RFC 7950 sections 7.8.2, 7.13 and 7.21.1).
-const FLAWS: [(&str, &str); 14] = [
+const FLAWS: [(&str, &str); 20] = [
     ("module m { leaf a; leaf b; }", "none"),
     ("module m { leaf a; leaf b; container a; }", "duplicate a 3"),
     (
@@ -82,8 +82,32 @@ const FLAWS: [(&str, &str); 14] = [
         "duplicate a 6",
     ),
     (
+        "module m { grouping g { leaf a; leaf b; leaf c; leaf d; leaf e; leaf f; leaf g; leaf h; leaf i; } leaf i; uses g; }",
+        "duplicate i 12",
+    ),
+    (
+        "module m { grouping g { leaf a; leaf b; leaf c; leaf d; leaf e; leaf f; leaf g; leaf h; leaf i; } uses g; leaf i; }",
+        "duplicate i 12",
+    ),
+    (
+        "module m { grouping g { leaf a; leaf b; leaf c; leaf d; leaf e; leaf f; leaf g; leaf h; leaf i; } grouping o { leaf j; leaf k; leaf l; leaf m; leaf n; leaf h; leaf i; leaf o; leaf p; leaf q; } uses g; uses o; }",
+        "duplicate h 23",
+    ),
+    (
+        "module m { grouping g { leaf a; leaf b; leaf c; leaf d; leaf e; leaf f; leaf g; leaf h; leaf i; } leaf j; uses g; leaf k; container z { uses g; leaf j; } }",
+        "none",
+    ),
+    (
         "module m { leaf a; uses nowhere; leaf a; }",
         "duplicate a 3",
+    ),
+    (
+        "module m { leaf c; container c { uses nowhere; } }",
+        "duplicate c 2",
+    ),
+    (
+        "module m { grouping g { leaf a; container c { uses g; } } uses g; leaf a; }",
+        "duplicate a 6",
     ),
     (
         "module m { container c { config false; leaf a { config true; } } }",
@@ -136,7 +160,7 @@ fn listed(alloc: Global, nodes: Option<&Nodes>) -> Result<String, AllocError> {
 }
 
 // A module's text; the nodes that stand in it, how many nodes are below it, and how many stand one in another.
-const SIZES: [(&str, &str, Option<usize>, Option<usize>); 6] = [
+const SIZES: [(&str, &str, Option<usize>, Option<usize>); 8] = [
     ("module m { }", "[]", Some(0), Some(0)),
     (
         "module m { leaf a; container b { leaf c; } }",
@@ -167,6 +191,18 @@ const SIZES: [(&str, &str, Option<usize>, Option<usize>); 6] = [
         "none",
         Some(1),
         Some(1),
+    ),
+    (
+        "module m { leaf a; container c { container d { uses nowhere; } } }",
+        "[1, 2]",
+        Some(3),
+        Some(2),
+    ),
+    (
+        "module m { leaf a; grouping g { container c { uses g; } } uses g; }",
+        "[1, 3]",
+        None,
+        None,
     ),
 ];
 
@@ -218,6 +254,42 @@ fn leads(rt: HostRuntime) -> Result<(), Fail> {
             assert_eq!(rt; shape.is_configuration(*at), *is_configuration, "{at}");
             assert_eq!(rt; shape.is_in_state(*at), *is_in_state, "{at}");
         }
+    } else {
+        assert!(rt; false);
+    }
+    Ok(())
+}
+
+// A module with a grouping of many leafs and many containers that use it, each with a leaf of its own before or after it.
+fn wide_module(alloc: Global, count: usize) -> Result<String, AllocError> {
+    let mut text = String::from_str(alloc, "module m { grouping g {")?;
+    for number in 0..count {
+        let leaf = format!(in alloc; " leaf l{number};")?;
+        text.push_str(leaf.as_str())?;
+    }
+    text.push_str(" }")?;
+    for number in 0..count {
+        let container = format!(in alloc;
+            " container c{number} {{ leaf a{number}; uses g; leaf b{number}; }}"
+        )?;
+        text.push_str(container.as_str())?;
+    }
+    text.push_str(" }")?;
+    Ok(text)
+}
+
+#[test]
+fn shapes_wide_groupings(rt: HostRuntime) -> Result<(), Fail> {
+    let alloc = rt.alloc();
+    let text = wide_module(alloc, 400)?;
+    let modules = [read_module(alloc, text.as_bytes())?];
+    let rows = rows_of(alloc, &modules)?;
+    let groupings = groupings_of(alloc, &rows)?;
+    if are_named(&rows, &groupings) && rows.len() > 0 {
+        let shape = shape_of(alloc, &rows, &groupings)?;
+        assert_eq!(rt; first_flaw(alloc, &shape, rows.len())?.as_str(), "none");
+        assert_eq!(rt; shape.count(0), Some(20001));
+        assert_eq!(rt; shape.height(0), Some(2));
     } else {
         assert!(rt; false);
     }

@@ -1,10 +1,19 @@
-use Rattle.std.proofs.Common.{◌∙◌, [], ap, replicate}
-use Rattle.nm_shape.specs.Clash.{known_at}
-use Rattle.nm_shape.proofs.Naming.{taken_start, clashes_none}
+use Rattle.std.proofs.Common.{◌∙◌, ◌+◌, ap, subst, replicate}
+use Rattle.nm_shape.specs.Clash.{known_at, knowledge, Knowledge, no_parts, AreTaken, clash_by}
+use Rattle.nm_shape.proofs.Naming.{taken_start, clashes_none, clashes_more}
 use Rattle.nm_shape.proofs.clash.clashes.Goals as goal
 
 pub loop-at-init : goal.loop-at-init
 loop-at-init c = record {
-  taken = taken_start (known_at c.args.brought.now) c.args.rows.now c.in_ok-taken.taken.items (c.in_ok-taken.ensures ∙ ap (λ n. replicate n []) c.len.ensures);
+  same = c.in_ok-known.ensures;
+  taken = taken_start (knowledge c.args.rows.now c.args.brought.now) c.in_ok-taken.taken.items (c.in_ok-taken.ensures ∙ ap (λ n. replicate n no_parts) c.len.ensures);
   found = rw c.new-clashes.ensures.items (clashes_none (known_at c.args.brought.now) c.args.rows.now);
+}
+
+pub loop-at-preserved : goal.loop-at-preserved
+loop-at-preserved c = record {
+  same = c.in-Ok.ensures.known ∙ c.loop-at.invariant.same;
+  taken = subst (λ (k : Knowledge). AreTaken k (c.loop-at.at + 1) c.next_clash.new.taken.items) c.loop-at.invariant.same c.in-Ok.ensures.taken;
+  found = rw c.in_ok-push-in-Ok.ensures.items (clashes_more (known_at c.args.brought.now) c.args.rows.now c.loop-at.at c.loop-at.clashes.items c.in-Ok.clash c.loop-at.invariant.found
+      (c.in-Ok.ensures.clash ∙ ap (λ (k : Knowledge). clash_by (known_at k.brought) c.args.rows.now c.loop-at.at) c.loop-at.invariant.same));
 }

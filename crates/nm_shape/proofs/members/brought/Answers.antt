@@ -8,4 +8,4 @@ use Rattle.nm_shape.proofs.members.brought.Goals as goal
 
 pub returns : goal.returns
 returns c = IfOk-weaker c.values.result (λ values. Holds (strict (bring_step c.args.rows.now c.args.groupings.now)) c.args.graph.now values.items) (λ values. AreWorth (brought c.args.rows.now c.args.groupings.now) (length c.args.rows.now) values.items)
-    (λ values holds. brought-worth c.args.rows.now c.args.groupings.now c.args.graph.now values.items c.requires.holding holds) c.values.ensures
+    (λ values holds. brought-worth c.args.rows.now c.args.groupings.now c.args.graph.now values.items c.requires.bringing holds) c.values.ensures
