@@ -40,18 +40,23 @@ fn is_read(read: Result<Value, ValueFault>) -> Result<bool, NoMemory>
     }
 }
 
-// Whether a text is a value of a type, which isn't empty.
-fn fits_type(alloc: Global, text: &str, found: &Option<LeafType>) -> Result<bool, NoMemory>
+/// Whether a text may be a default of a type: a value of it, and the type isn't empty (RFC 7950 sections 7.6.4 and 9.11.1).
+pub fn fits_type(alloc: Global, text: &str, leaf_type: &LeafType) -> Result<bool, NoMemory>
+    ensures { IfOk result (λ fits. fits ≡ spec.fits_type text.now (Some leaf_type.now)) }
+{
+    if is_empty(&leaf_type.kind) {
+        return Ok(false);
+    }
+    is_read(read_value(alloc, leaf_type, text))
+}
+
+// The same of a type that may be missing, which each text fits.
+fn fits_if(alloc: Global, text: &str, found: &Option<LeafType>) -> Result<bool, NoMemory>
     ensures { IfOk result (λ fits. fits ≡ spec.fits_type text.now found.now) }
 {
     match found {
         None => Ok(true),
-        Some(leaf_type) => {
-            if is_empty(&leaf_type.kind) {
-                return Ok(false);
-            }
-            is_read(read_value(alloc, leaf_type, text))
-        }
+        Some(leaf_type) => fits_type(alloc, text, leaf_type),
     }
 }
 
@@ -63,7 +68,7 @@ fn fits_meaning(alloc: Global, text: &str, meaning: &Meaning) -> Result<bool, No
         None => Ok(true),
         Some(derived) => {
             let leaf_type = derived.leaf_type(alloc)?;
-            fits_type(alloc, text, &leaf_type)
+            fits_if(alloc, text, &leaf_type)
         }
     }
 }

@@ -14,7 +14,7 @@ mod meaning;
 mod restricting;
 mod types;
 
-pub use defaults::{Defaults, default_flaw, defaults_of, is_default};
+pub use defaults::{Defaults, default_flaw, defaults_of, fits_type, is_default};
 pub use edges::type_graph;
 pub use judging::{cycle_flaw, type_flaw};
 pub use leafref::{LeafrefPath, NodeName, Start, has_predicate, read_path};
