@@ -1,0 +1,10 @@
+pub mod Unfolding
+pub mod Counting
+pub mod Bounds
+pub mod Heights
+pub mod Places
+pub mod Growth
+pub mod Scanning
+pub mod Depths
+pub mod Indexing
+pub mod Tables

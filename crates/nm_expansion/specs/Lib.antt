@@ -1,0 +1,4 @@
+pub mod Expansion
+pub mod Named
+pub mod Growing
+pub mod Index
