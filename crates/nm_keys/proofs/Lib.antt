@@ -1,0 +1,6 @@
+pub mod Having
+pub mod Looking
+pub mod Parting
+pub mod Fitting
+pub mod Ways
+pub mod Marking

@@ -1,0 +1,11 @@
+use Rattle.std.proofs.Common.{◌≡◌, map, drop}
+use Rattle.nm_graph.specs.Value.{all_there}
+use Rattle.nm_keys.specs.Standing.{Standing, IsStanding}
+use Rattle.nm_keys.specs.Uniques.{unique_at}
+use Rattle.nm_keys.proofs.Ways.{in_front}
+use Rattle.nm_keys.proofs.unique.uniques_of.Given as goal
+
+-- what the statements so far say, before what those that are left say
+abbrev pub invariant-loop-at : goal.invariant-loop-at
+invariant-loop-at l = (standing : Standing) → IsStanding l.shape.rows l.shape.groupings standing
+    → in_front l.all.items (all_there (map (unique_at l.shape.rows l.shape.groupings standing) (drop l.at-index l.at-items))) ≡ all_there (map (unique_at l.shape.rows l.shape.groupings standing) l.at-items)

@@ -1,0 +1,9 @@
+pub mod Standing
+pub mod Words
+pub mod Found
+pub mod Membership
+pub mod Said
+pub mod Keys
+pub mod Leafs
+pub mod Uniques
+pub mod Field
