@@ -1,0 +1,9 @@
+pub mod Texts
+pub mod Loops
+pub mod Binds
+pub mod Takes
+pub mod Again
+pub mod Paths
+pub mod Answering
+pub mod Writing
+pub mod Nodes
