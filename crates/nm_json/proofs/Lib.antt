@@ -1,0 +1,11 @@
+pub mod Colons
+pub mod Gathering
+pub mod Json
+pub mod Putting
+pub mod Floats
+pub mod Least
+pub mod Shuffled
+pub mod Reordering
+pub mod FaultTexts
+pub mod AnyOrder
+pub mod WrittenValues

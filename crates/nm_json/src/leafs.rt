@@ -1,0 +1,148 @@
+//! The values of leafs.
+
+ghost use Rattle.std.specs.Prelude.{◌≡◌, ◌&&◌, map, Some, None, Ok, Err, Option, ℤ, if◌then◌else◌};
+ghost use Rattle.std.specs.List.{list_any};
+ghost use Rattle.serde_json.specs.View.{view, items_view};
+ghost use Rattle.nm_types.specs.Limits.{is_within, meets_ranges};
+ghost use Rattle.serde_json.specs.Data.{array};
+ghost use Rattle.nm_types.specs.LeafType.{integer};
+ghost use Rattle.nm_json.specs.Values as spec;
+
+use crate::fault::{JsonKind, Refusal};
+use nm_types::{LeafType, TypeKind, Value, ValueFault, read_value};
+use serde_json::Value as Json;
+use std::alloc::Global;
+
+/// From this number on the highest one of a type makes its values JSON strings (RFC 7951 section 6.1).
+const WIDE: i128 = 4_294_967_296;
+
+// Whether a number is within a part of a range.
+fn is_within(part: &(i128, i128), number: i128) -> bool
+    ensures { result ≡ is_within number part.now }
+{
+    part.0 <= number && number <= part.1
+}
+
+// Whether a number is within one of the parts of a range.
+fn meets_range(range: &[(i128, i128)], number: i128) -> bool
+    ensures { result ≡ list_any (is_within number) range.now }
+{
+    range.iter().any(|part| is_within(part, number))
+}
+
+// Whether a number meets every range along a derivation.
+fn meets_ranges(ranges: &[Vec<(i128, i128)>], number: i128) -> bool
+    ensures { result ≡ meets_ranges (map (λ range. range.items) ranges.now) number }
+{
+    ranges.iter().all(|range| meets_range(range, number))
+}
+
+// The value of a JSON string.
+fn text_value(alloc: Global, leaf_type: &LeafType, part: &Json) -> Result<Value, Refusal>
+    ensures { spec.IsValue result (spec.text_value leaf_type.now (view part.now)) }
+{
+    let Json::String(text) = part else {
+        return Err(Refusal::Bad(JsonKind::BadForm));
+    };
+    match read_value(alloc, leaf_type, text.as_str()) {
+        Ok(value) => Ok(value),
+        Err(ValueFault::NoMemory) => Err(Refusal::NoMemory),
+        Err(_) => Err(Refusal::Bad(JsonKind::BadValue)),
+    }
+}
+
+// The value of a number of at most 32 bits.
+fn number_value(leaf_type: &LeafType, low: i128, high: i128, part: &Json) -> Result<Value, Refusal>
+    requires { leaf_type.now.kind ≡ integer low high }
+    ensures { spec.IsValue result (spec.number_value leaf_type.now (view part.now)) }
+{
+    let Json::Number(number) = part else {
+        return Err(Refusal::Bad(JsonKind::BadForm));
+    };
+    let Some(number) = number.as_i128() else {
+        return Err(Refusal::Bad(JsonKind::BadValue));
+    };
+    if low <= number && number <= high && meets_ranges(&leaf_type.limits, number) {
+        return Ok(Value::Int(number));
+    }
+    Err(Refusal::Bad(JsonKind::BadValue))
+}
+
+/// Whether the numbers of a type have at most 32 bits, by the highest one.
+#[tactic(auto, unfolding(crate::specs::Values::is_narrow))]
+pub fn is_narrow(high: i128) -> bool
+    ensures { result ≡ spec.is_narrow high }
+{
+    high < WIDE
+}
+
+// The value of an integer type: of more than 32 bits it is a JSON string.
+#[tactic(auto, unfolding(crate::specs::Values::value_of_kind))]
+fn integer_value(
+    alloc: Global,
+    leaf_type: &LeafType,
+    low: i128,
+    high: i128,
+    part: &Json,
+) -> Result<Value, Refusal>
+    requires { leaf_type.now.kind ≡ integer low high }
+    ensures { spec.IsValue result (spec.value_of_kind leaf_type.now (integer low high) (view part.now)) }
+{
+    if is_narrow(high) {
+        return number_value(leaf_type, low, high, part);
+    }
+    text_value(alloc, leaf_type, part)
+}
+
+// A JSON boolean.
+fn flag_value(part: &Json) -> Result<Value, Refusal>
+    ensures { spec.IsValue result (spec.flag_value (view part.now)) }
+{
+    match part {
+        Json::Bool(flag) => Ok(Value::Bool(*flag)),
+        _ => Err(Refusal::Bad(JsonKind::BadForm)),
+    }
+}
+
+// The array of one null.
+fn empty_value(part: &Json) -> Result<Value, Refusal>
+    ensures { spec.IsValue result (spec.empty_value (view part.now)) }
+{
+    match part {
+        Json::Array(items) => only_null(items.as_slice()),
+        _ => Err(Refusal::Bad(JsonKind::BadForm)),
+    }
+}
+
+fn only_null(items: &[Json]) -> Result<Value, Refusal>
+    ensures { spec.IsValue result (spec.empty_value (array (items_view items.now))) }
+{
+    if items.len() != 1 {
+        return Err(Refusal::Bad(JsonKind::BadValue));
+    }
+    null_value(&items[0])
+}
+
+fn null_value(part: &Json) -> Result<Value, Refusal>
+    ensures { spec.IsValue result (spec.null_value (view part.now)) }
+{
+    match part {
+        Json::Null => Ok(Value::Empty),
+        _ => Err(Refusal::Bad(JsonKind::BadValue)),
+    }
+}
+
+/// The value that a JSON value is for a leaf of a type, or why it is none (RFC 7951 section 6).
+#[tactic(auto, unfolding(crate::specs::Values::value_of_kind))]
+pub fn leaf_value(alloc: Global, leaf_type: &LeafType, part: &Json) -> Result<Value, Refusal>
+    ensures { spec.IsValue result (spec.leaf_value leaf_type.now (view part.now)) }
+{
+    match &leaf_type.kind {
+        TypeKind::Integer { low, high } => integer_value(alloc, leaf_type, *low, *high, part),
+        TypeKind::Boolean => flag_value(part),
+        TypeKind::Empty => empty_value(part),
+        TypeKind::Decimal { .. } | TypeKind::Text | TypeKind::Names(_) | TypeKind::Bits(_) => {
+            text_value(alloc, leaf_type, part)
+        }
+    }
+}

@@ -1,0 +1,25 @@
+//! Configurations as JSON: the rows that a JSON value holds by a schema, or its least fault (RFC 7951).
+//!
+//! Stands on `nm_tree`, `nm_types`, `nm_config`, `nm_path` and `serde_json`. The layers above rely on
+//! `config_of` answering the reading that `specs/Whole.antt` defines, and on `write_config` writing the value that
+//! `specs/Writing.antt` defines.
+#![tactic(auto)]
+
+pub mod config;
+pub mod fault;
+mod gathered;
+mod keys;
+pub mod laws;
+mod leafs;
+mod names;
+mod put;
+mod spelled;
+mod walk;
+pub mod write;
+
+pub use config::{ROW_LIMIT, config_of, read_config};
+pub use fault::{JsonFault, JsonKind};
+pub use write::{config_value, write_config};
+
+#[cfg(test)]
+mod tests;
