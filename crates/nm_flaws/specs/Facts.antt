@@ -1,0 +1,61 @@
+-- What is so in the rows of modules, and is found by search.
+use Rattle.std.specs.Prelude.{ℕ, ◌<◌, List, length, map, Bool, false, Option, None, IfSome, IfNone, slice_index_or}
+use Rattle.std.specs.List.{range_with_len}
+use Rattle.nm_grammar.specs.declared.row.Row.{Row}
+use Rattle.nm_graph.specs.Graph.{Graph}
+use Rattle.nm_graph.specs.Order.{IsLeastCycle, IsAcyclic}
+use Rattle.nm_names.specs.Leads.{leads_to}
+use Rattle.nm_names.specs.Graph.{IsGraphOf}
+use Rattle.nm_shape.specs.Config.{Marks, IsConfiguration, IsInState}
+use Rattle.nm_keys.specs.Standing.{Standing}
+use Rattle.nm_keys.specs.Keys.{IsKey}
+use Rattle.nm_expansion.specs.declared.instance.Instance.{Instance}
+use Rattle.nm_expansion.specs.Expansion.{Expanded, expanded, IsExpansion}
+use Rattle.nm_leafref.specs.declared.fault.PathFault.{PathFault}
+use Rattle.nm_leafref.specs.Fault.{HasFault}
+
+-- for each row the typedef that it names as a type, or the grouping that it names as a uses (RFC 7950 sections 7.4 and 7.13)
+unfoldable pub definitions : List Row → List (Option ℕ)
+definitions rows = map (leads_to rows) (range_with_len 0 (length rows))
+
+-- the first row that leads to itself through typedefs or groupings; for each row whether it is used as configuration, stands in state, and is a key
+-- leaf; the nodes of the tree; and for each row what is wrong with its path
+pub record Facts : Type 0 where
+  pub cycle : Option ℕ
+  pub configured : List Bool
+  pub in_state : List Bool
+  pub keys : List Bool
+  pub nodes : List Instance
+  pub paths : List (Option PathFault)
+
+abbrev pub facts_of : Option ℕ → List Bool → List Bool → List Bool → List Instance → List (Option PathFault) → Facts
+facts_of cycle configured in_state keys nodes paths =
+    record { cycle = cycle; configured = configured; in_state = in_state; keys = keys; nodes = nodes; paths = paths }
+
+-- row i is marked
+unfoldable pub is_marked : List Bool → ℕ → Bool
+is_marked marks i = slice_index_or marks i false
+
+-- how rows are used
+abbrev pub standing : Facts → Standing
+standing facts = record { configured = is_marked facts.configured; in_state = is_marked facts.in_state }
+
+-- the tree of the modules
+abbrev pub tree : List Row → Facts → Expanded
+tree rows facts = expanded rows (definitions rows) facts.nodes
+
+-- the least row that leads to itself, if there is one (RFC 7950 sections 7.3, 7.12 and 7.13)
+pub record IsCycle (rows : List Row) (cycle : Option ℕ) : Type 0 where
+  pub graph : Graph
+  pub graph_is : IsGraphOf rows graph
+  pub least : IfSome cycle (IsLeastCycle graph)
+  pub none : IfNone cycle (IsAcyclic graph)
+
+-- these are so
+pub record AreFacts (rows : List Row) (facts : Facts) : Type 0 where
+  pub cycle : IsCycle rows facts.cycle
+  pub configured : Marks (IsConfiguration rows (definitions rows)) facts.configured
+  pub in_state : Marks (IsInState rows (definitions rows)) facts.in_state
+  pub keys : Marks (IsKey rows (definitions rows) (standing facts)) facts.keys
+  pub nodes : IsExpansion rows (definitions rows) facts.nodes
+  pub paths : (p : ℕ) → p < length rows → HasFault (definitions rows) (tree rows facts) p (slice_index_or facts.paths p None)

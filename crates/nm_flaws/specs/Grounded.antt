@@ -1,0 +1,41 @@
+-- What is known of modules when their faults are looked for.
+use Rattle.std.specs.Prelude.{◌≡◌, ℕ, List, Option, None, slice_index_or}
+use Rattle.nm_grammar.specs.declared.row.Row.{Row}
+use Rattle.nm_shape.specs.Outline.{Outline, outline}
+use Rattle.nm_typing.specs.Cycle.{Typings}
+use Rattle.nm_typing.specs.Flaws.{AreMeanings}
+use Rattle.nm_typing.specs.Listing.{AreJudgements}
+use Rattle.nm_typing.specs.declared.listing.Judgement.{Judgement}
+use Rattle.nm_typing.specs.Defaults.{joined, default_of}
+use Rattle.nm_keys.specs.Keys.{keys_of}
+use Rattle.nm_expansion.specs.Expansion.{Expanded}
+use Rattle.nm_leafref.specs.Known.{Known, AreLeafrefs}
+use Rattle.nm_flaws.specs.Facts.{Facts, AreFacts, definitions, standing, tree}
+
+-- the rows of modules, and what is so in them
+pub record Grounded : Type 0 where
+  pub rows : List Row
+  pub facts : Facts
+
+abbrev pub grounded : List Row → Facts → Grounded
+grounded rows facts = record { rows = rows; facts = facts }
+
+-- the default of each row
+abbrev pub AreDefaults : List Row → List (Option (Option (List ℕ))) → Type 0
+AreDefaults rows texts = (i : ℕ) → joined (slice_index_or texts i None) ≡ default_of rows (definitions rows) i
+
+-- the key leafs of each list
+abbrev pub AreKeys : List Row → Facts → List (Option (List ℕ)) → Type 0
+AreKeys rows facts keys = (i : ℕ) → slice_index_or keys i None ≡ keys_of rows (definitions rows) (standing facts) i
+
+-- what is known is so
+pub record AreGrounds (rows : List Row) (facts : Facts) (named : List (Option ℕ)) (shape : Outline) (expansion : Expanded) (types : Typings) (judgements : List Judgement) (texts : List (Option (Option (List ℕ)))) (known : Known) (keys : List (Option (List ℕ))) : Type 0 where
+  pub named_are : named ≡ definitions rows
+  pub shape_is : shape ≡ outline rows (definitions rows)
+  pub tree_is : expansion ≡ tree rows facts
+  pub meanings : AreMeanings rows (definitions rows) types.meanings
+  pub judgements_are : AreJudgements rows (definitions rows) judgements
+  pub defaults : AreDefaults rows texts
+  pub leafrefs : AreLeafrefs (definitions rows) (tree rows facts) known
+  pub keys_are : AreKeys rows facts keys
+  pub facts_are : AreFacts rows facts

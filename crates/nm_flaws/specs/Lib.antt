@@ -1,0 +1,5 @@
+pub mod Facts
+pub mod Flaw
+pub mod Misfit
+pub mod Fault
+pub mod Grounded

@@ -1,0 +1,23 @@
+//! The first fault of YANG modules.
+//!
+//! Stands on the crates that each tell one kind of flaw: `nm_grammar`, `nm_names`, `nm_typing`, `nm_shape`, `nm_keys` and
+//! `nm_leafref`. The layers above rely on the first fault in the order of modules and places, and on what it was found by: the
+//! tree, where leafrefs lead, the keys of lists and the defaults of leafs.
+#![tactic(auto)]
+
+mod cycle;
+mod defaults;
+mod fault;
+mod first;
+mod flaws;
+mod grounds;
+mod keys;
+mod misfits;
+mod names;
+
+pub use fault::Fault;
+pub use grounds::Grounds;
+pub use names::definitions;
+
+#[cfg(test)]
+mod tests;
