@@ -1,0 +1,4 @@
+pub mod Kind
+pub mod Node
+pub mod Marker
+pub mod Built

@@ -1,0 +1,20 @@
+//! The schema tree of YANG modules.
+//!
+//! Stands on `nm_flaws`, which tells what is wrong with modules and what is known of them, and on `nm_tree`. The layers above
+//! rely on `build`: the first fault of the modules, or a tree of all their nodes in which everything is known, with the nodes
+//! of the marker module after them.
+#![tactic(auto)]
+
+mod fault;
+mod kind;
+mod list;
+mod marker;
+mod modules;
+mod node;
+mod tree;
+
+pub use fault::SchemaFault;
+pub use modules::build;
+
+#[cfg(test)]
+mod tests;

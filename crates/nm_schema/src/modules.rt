@@ -1,0 +1,78 @@
+//! From the statements of modules to their schema tree.
+
+ghost use Rattle.std.specs.Prelude.{◌≡◌, IfOk};
+ghost use Rattle.nm_shape.specs.Holding.{AreNamed};
+ghost use Rattle.nm_shape.specs.Outline.{outline};
+ghost use Rattle.nm_leafref.specs.Known.{ArePaths};
+ghost use Rattle.nm_flaws.specs.Facts as facts;
+ghost use Rattle.nm_schema.specs.Built as spec;
+
+use crate::fault::SchemaFault;
+use crate::tree::schema_of;
+use nm_base::NoMemory;
+use nm_expansion::expand;
+use nm_flaws::{Grounds, definitions};
+use nm_grammar::{Rows, rows_of};
+use nm_leafref::{Paths, paths_of};
+use nm_names::Names;
+use nm_shape::{Shape, shape_of};
+use nm_tree::Schema;
+use nm_yang::Statement;
+use std::alloc::Global;
+
+// What modules give, by what is known of them.
+#[tactic(auto, using(crate::proofs::Answering::answered))]
+fn answer(alloc: Global, grounds: &Grounds<'_, '_>) -> Result<Schema, SchemaFault>
+    ensures { spec.Answered grounds.now.rows result }
+{
+    grounds.laws();
+    schema_of(alloc, grounds)
+}
+
+// What modules give, by what was made of their rows.
+fn answer_made<'a>(
+    alloc: Global,
+    rows: &'a Rows,
+    definitions: &'a [Option<usize>],
+    paths: &'a Paths,
+    shape: &'a Shape<'a>,
+) -> Result<Schema, SchemaFault>
+    requires definitions { definitions.now ≡ facts.definitions rows.now }
+    requires paths { ArePaths rows.now paths.now }
+    requires shape { shape.now ≡ outline rows.now definitions.now }
+    ensures { spec.Answered rows.now result }
+{
+    let names = Names::new(alloc, rows)?;
+    let expansion = expand(alloc, shape)?;
+    let grounds = Grounds::new(alloc, &names, definitions, shape, &expansion, paths)?;
+    answer(alloc, &grounds)
+}
+
+// Where the names of all rows lead.
+fn definitions_of(alloc: Global, rows: &Rows) -> Result<Vec<Option<usize>>, NoMemory>
+    ensures value { IfOk result (λ found. found.items ≡ facts.definitions rows.now) }
+    ensures named { IfOk result (λ found. AreNamed rows.now found.items) }
+{
+    let names = Names::new(alloc, rows)?;
+    definitions(alloc, &names)
+}
+
+// What modules give, by their rows.
+fn answer_rows(alloc: Global, rows: &Rows) -> Result<Schema, SchemaFault>
+    ensures { spec.Answered rows.now result }
+{
+    let definitions = definitions_of(alloc, rows)?;
+    let paths = paths_of(alloc, rows)?;
+    let shape = shape_of(alloc, rows, &definitions)?;
+    answer_made(alloc, rows, &definitions, &paths, &shape)
+}
+
+/// The schema tree of modules, given as their statements (RFC 7950 section 3): each node of configuration, with `uses` expanded
+/// and state left out, and after them the nodes of the module `netm-marker`. Or the first fault of the modules, in the order of
+/// modules and places.
+pub fn build(alloc: Global, modules: &[Statement]) -> Result<Schema, SchemaFault>
+    ensures { spec.Answers modules.now result }
+{
+    let rows = rows_of(alloc, modules)?;
+    answer_rows(alloc, &rows)
+}
