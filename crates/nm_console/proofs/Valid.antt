@@ -1,5 +1,5 @@
 -- The devices of a scenario that was read begin with valid configurations.
-use Rattle.std.proofs.Common.{◌≡◌, ℕ, ◌+◌, List, [], ◌∷◌, ◌++◌, nat_lt, length, Bool, true, false, if◌then◌else◌, Option, Some, None, Result, Ok, Err, refl, ap, subst, codes}
+use Rattle.std.proofs.Common.{◌≡◌, ℕ, ◌+◌, List, [], ◌∷◌, ◌++◌, length, Bool, true, false, if◌then◌else◌, Option, Some, None, Result, Ok, Err, refl, ap, subst, codes}
 use Rattle.std.specs.List.{All}
 use Rattle.std.specs.FinMap.{empty}
 use Rattle.std.proofs.lemmas.List.Elements.{All-append, All-cons, All-nil}
@@ -8,14 +8,14 @@ use Rattle.serde_json.specs.Find.{get}
 use Rattle.nm_proto.specs.Content.{Refusal}
 use Rattle.nm_proto.specs.Flat.{FlatState, flat_violation}
 use Rattle.nm_proto.specs.FlatContent.{flat_meaning}
-use Rattle.nm_scenario.specs.declared.fault.Fault.{Fault}
-use Rattle.nm_scenario.specs.declared.fault.Step.{Step}
-use Rattle.nm_scenario.specs.declared.fault.Step.TheVariants.{Item}
+use Rattle.nm_reading.specs.declared.fault.Fault.{Fault}
+use Rattle.nm_reading.specs.declared.fault.Step.{Step}
+use Rattle.nm_reading.specs.declared.fault.Step.TheVariants.{Item}
 use Rattle.nm_scenario.specs.declared.scenario.Scenario.{Scenario}
-use Rattle.nm_scenario.specs.declared.fault.ScenarioKind.TheVariants.{BadValue, NotBuilt}
-use Rattle.nm_scenario.specs.Reading.{◌>>=◌, here, under, required_from, required, optional, object_at, only_known, items_after, within, list_at, number_within}
+use Rattle.nm_reading.specs.declared.fault.ScenarioKind.TheVariants.{BadValue, NotBuilt}
+use Rattle.nm_reading.specs.Reading.{◌>>=◌, here, under, required_from, required, optional, object_at, only_known, items_after, within, list_at, number_within, some_of, empty_list_at, off_at, switch_at}
 use Rattle.nm_scenario.specs.Flat.{cells_at}
-use Rattle.nm_scenario.specs.Scenario.{knows_scenario, knows_device, contents_at, empty_list_at, changes_read_at, operators_at, events_at, off_at, switch_at, put_together, valid_only, running_at, device_at, device_limit, some_of, devices_at, scenario_at, scenario_from, scenario_of, json_of, byte_limit}
+use Rattle.nm_scenario.specs.Scenario.{knows_scenario, knows_device, contents_at, changes_read_at, operators_at, events_at, put_together, valid_only, running_at, device_at, device_limit, devices_at, scenario_at, scenario_from, scenario_of, json_of}
 use Rattle.nm_world.specs.World.{IsFirst}
 
 abbrev AreFirst : List FlatState → Type 0

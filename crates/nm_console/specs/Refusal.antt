@@ -1,7 +1,7 @@
 -- What the program says where its words or its input are refused (this project's own): one line, with a newline.
 use Rattle.std.specs.Prelude.{ℕ, List, ◌++◌, codes}
-use Rattle.nm_scenario.specs.declared.fault.ScenarioKind.{ScenarioKind}
-use Rattle.nm_scenario.specs.declared.fault.ScenarioKind.TheVariants.{TooLong, NotJson, NotBuilt, Missing, Unknown, BadValue, TooMany, Content, Invalid}
+use Rattle.nm_reading.specs.declared.fault.ScenarioKind.{ScenarioKind}
+use Rattle.nm_reading.specs.declared.fault.ScenarioKind.TheVariants.{TooLong, NotJson, NotBuilt, Missing, Unknown, BadValue, TooMany, Yang, Schema, Content, Invalid}
 
 -- what the words of the program are
 abbrev pub usage_text : List ℕ
@@ -16,6 +16,8 @@ kind_text Missing = codes "not-built"
 kind_text Unknown = codes "not-built"
 kind_text BadValue = codes "not-built"
 kind_text TooMany = codes "not-built"
+kind_text Yang = codes "not-built"
+kind_text Schema = codes "not-built"
 kind_text Content = codes "not-built"
 kind_text Invalid = codes "not-built"
 

@@ -6,10 +6,12 @@ ghost use Rattle.nm_scenario.specs.Scenario.{scenario_of};
 ghost use Rattle.nm_world.specs.World.{IsFirst, run, start};
 ghost use Rattle.nm_console.specs.Words.{command_of, texts_of};
 ghost use Rattle.nm_console.specs.Status.{is_whole};
-ghost use Rattle.nm_console.specs.Console.{Answers, CutOff, Says, Tells, answer, course_of, devices_told, faulted, no_plan, replayed, told, world_told};
+ghost use Rattle.nm_console.specs.Console.{Answers, CutOff, IsTold, Says, Tells, course_of, devices_told, faulted, no_plan, replayed, told, usage_told, world_told};
 
+use crate::check::check_bytes;
 use crate::command::{Command, command_of};
-use crate::refusal::{USAGE, write_fault};
+use crate::refusal::USAGE;
+use crate::said::{Said, say_fault};
 use crate::status::{Status, status_for};
 use nm_base::token::token_of;
 use nm_base::{ChangeNo, Label, NoMemory};
@@ -22,13 +24,6 @@ use nm_scenario::{BYTE_LIMIT, ReadError, Scenario, ScenarioKind, read_scenario};
 use nm_world::course::{is_decided, is_submitted};
 use nm_world::{Course, World};
 use std::alloc::Global;
-
-/// A status and a text.
-#[derive(Drop)]
-struct Said {
-    status: Status,
-    text: Vec<u8>,
-}
 
 /// Why there is nothing to say.
 #[derive(Clone, Copy, Debug, PartialEq, Eq)]
@@ -87,12 +82,12 @@ fn say<S: Source>(alloc: Global, command: Option<Command>, input: &mut S) -> Res
             Ok(said) => Ok(said),
             Err(_) => Err(Stop::NoMemory),
         },
-        Some(Command::Replay) => replay(alloc, input),
+        Some(command) => say_input(alloc, command, input),
     }
 }
 
 fn say_usage(alloc: Global) -> Result<Said, NoMemory>
-    ensures { IfOk result (λ said. Tells (answer None []) said.status said.text.items) }
+    ensures { IfOk result (λ said. Tells usage_told said.status said.text.items) }
 {
     let mut text = Vec::new(alloc);
     put(&mut text, USAGE)?;
@@ -102,15 +97,15 @@ fn say_usage(alloc: Global) -> Result<Said, NoMemory>
     })
 }
 
-// Replay: reads the scenario to its end, and answers it.
+// Reads the scenario to its end, and answers it.
 #[tactic(auto, using(crate::proofs::Saying::saying))]
-fn replay<S: Source>(alloc: Global, input: &mut S) -> Result<Said, Stop>
-    ensures says { IfOk result (λ said. Says (S.left input.old) (Some Command.Replay) said.status said.text.items) }
+fn say_input<S: Source>(alloc: Global, command: Command, input: &mut S) -> Result<Said, Stop>
+    ensures says { IfOk result (λ said. Says (S.left input.old) (Some command) said.status said.text.items) }
     ensures whole { IfOk result (λ said. IsTrue (is_whole said.status)) }
     ensures read_fault { IsErrOf result Stop.ReadFault → Rose (S.faults input.old) (S.faults input.new) }
 {
     match read_all(alloc, input, BYTE_LIMIT) {
-        Ok(bytes) => match say_bytes(alloc, bytes.as_slice()) {
+        Ok(bytes) => match say_bytes(alloc, command, bytes.as_slice()) {
             Ok(said) => Ok(said),
             Err(_) => Err(Stop::NoMemory),
         },
@@ -123,8 +118,19 @@ fn replay<S: Source>(alloc: Global, input: &mut S) -> Result<Said, Stop>
     }
 }
 
-// The answer to the bytes of a scenario.
-fn say_bytes(alloc: Global, bytes: &[u8]) -> Result<Said, NoMemory>
+// The answer of a command to the bytes of a scenario.
+fn say_bytes(alloc: Global, command: Command, bytes: &[u8]) -> Result<Said, NoMemory>
+    ensures told { IfOk result (λ said. IsTold (Some command) bytes.now said.status said.text.items) }
+    ensures whole { IfOk result (λ said. IsTrue (is_whole said.status)) }
+{
+    match command {
+        Command::Check => check_bytes(alloc, bytes),
+        Command::Replay => replay_bytes(alloc, bytes),
+    }
+}
+
+// The answer of `replay` to the bytes of a scenario.
+fn replay_bytes(alloc: Global, bytes: &[u8]) -> Result<Said, NoMemory>
     ensures { IfOk result (λ said. Tells (replayed (scenario_of bytes.now)) said.status said.text.items) }
 {
     match read_scenario(alloc, bytes) {
@@ -132,17 +138,6 @@ fn say_bytes(alloc: Global, bytes: &[u8]) -> Result<Said, NoMemory>
         Err(ReadError::Bad(fault)) => say_fault(alloc, fault.kind),
         Err(ReadError::NoMemory) => Err(NoMemory),
     }
-}
-
-fn say_fault(alloc: Global, kind: ScenarioKind) -> Result<Said, NoMemory>
-    ensures { IfOk result (λ said. Tells (faulted kind) said.status said.text.items) }
-{
-    let mut text = Vec::new(alloc);
-    write_fault(&mut text, kind)?;
-    Ok(Said {
-        status: Status::Scenario,
-        text,
-    })
 }
 
 // The answer to a scenario: its world, told as a change set's where it has one.

@@ -4,11 +4,15 @@
 //! its contract says which bytes it writes for which bytes it reads.
 #![tactic(auto)]
 
+pub mod check;
+#[cfg(test)]
+mod check_tests;
 pub mod command;
 pub mod console;
 pub mod refusal;
 #[cfg(test)]
 mod replay_tests;
+pub mod said;
 pub mod status;
 #[cfg(test)]
 mod tests;

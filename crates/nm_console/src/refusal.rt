@@ -2,8 +2,8 @@ ghost use Rattle.std.specs.Prelude.{◌≡◌, ◌++◌, OnOk};
 ghost use Rattle.nm_console.specs.Refusal.{fault_text};
 
 use nm_base::NoMemory;
+use nm_reading::ScenarioKind;
 use nm_report::text::put;
-use nm_scenario::ScenarioKind;
 
 /// The usage line.
 pub const USAGE: &str = "usage: netm check, replay, run, make, stress, journal\n";

@@ -40,7 +40,7 @@ const USAGE: &str = "usage: netm check, replay, run, make, stress, journal\n";
 // Words and inputs with the texts and statuses that docs/FORMATS.md gives.
 #[test]
 fn answers_words_and_inputs(rt: HostRuntime) -> Result<(), Fail> {
-    let cases: [(&[&str], &str, Status, &str); 7] = [
+    let cases: [(&[&str], &str, Status, &str); 10] = [
         (&["replay"], EMPTY, Status::Ok, CLEAN),
         (&["replay"], "{", Status::Scenario, "scenario not-json /\n"),
         (
@@ -51,6 +51,9 @@ fn answers_words_and_inputs(rt: HostRuntime) -> Result<(), Fail> {
         ),
         (&[], EMPTY, Status::Usage, USAGE),
         (&["replay", "replay"], EMPTY, Status::Usage, USAGE),
+        (&["check", "replay"], EMPTY, Status::Usage, USAGE),
+        (&["Check"], EMPTY, Status::Usage, USAGE),
+        (&["make"], EMPTY, Status::Usage, USAGE),
         (&["Replay"], EMPTY, Status::Usage, USAGE),
         (&[""], EMPTY, Status::Usage, USAGE),
     ];

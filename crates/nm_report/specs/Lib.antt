@@ -1,3 +1,4 @@
 pub mod Report
 pub mod Trace
 pub mod Text
+pub mod Check

@@ -1,13 +1,12 @@
 -- What is reported of a change set: its outcome at each device, read from the histories, the devices where it was
 -- undone though it was to be committed, and those that aren't settled (this project's own).
-use Rattle.std.specs.Prelude.{ℕ, ◌+◌, List, [], ◌∷◌, ◌++◌, Option, Some, None, option_to_list, slice_get, Bool, true, false, ◌&&◌, not, filter, if◌then◌else◌}
+use Rattle.std.specs.Prelude.{ℕ, ◌+◌, List, [], ◌∷◌, ◌++◌, Option, Some, None, option_to_list, slice_get, Bool, ◌&&◌, not, filter, if◌then◌else◌}
 use Rattle.nm_world.specs.declared.outcome.Outcome.{Outcome}
-use Rattle.nm_world.specs.declared.outcome.Outcome.TheVariants.{Never, Pending, Confirmed, Undone}
 use Rattle.nm_world.specs.declared.link.Link.{Link}
 use Rattle.nm_world.specs.declared.course.Course.{Course}
 use Rattle.nm_report.specs.declared.report.DeviceReport.{DeviceReport}
 use Rattle.nm_device.specs.History.{RecordedState}
-use Rattle.nm_world.specs.Course.{is_member, is_submitted, is_decided}
+use Rattle.nm_world.specs.Course.{is_member}
 use Rattle.nm_world.specs.Outcome.{outcome_of, is_settled_at, is_undone}
 use Rattle.nm_world.specs.World.{WorldState}
 

@@ -1,3 +1,4 @@
+use crate::check::write_check;
 use crate::trace::{write_reply, write_verdict};
 use nm_base::{DeviceNo, Label, NoMemory, SessionId, Tag};
 use nm_proto::{AbortCause, Reply, Verdict};
@@ -63,6 +64,46 @@ fn verdicts_are_written(rt: HostRuntime) -> Result<(), Fail> {
         let mut out = Vec::new(rt.alloc());
         write_verdict(&mut out, &verdict)?;
         assert!(rt; out.as_slice() == want.as_bytes());
+    }
+    Ok(())
+}
+
+// Modules, rows of devices and counts, and the text that docs/FORMATS.md gives.
+#[test]
+fn checks_are_written(rt: HostRuntime) -> Result<(), Fail> {
+    let one = Label::new(rt.alloc(), "example-system")?;
+    let two = Label::new(rt.alloc(), "b")?;
+    let modules = vec![in rt.alloc(); one, two]?;
+    let none: &[Label] = &[];
+    let cases: [(&[Label], &[u32], usize, usize, usize, &str); 3] = [
+        (
+            none,
+            &[1],
+            0,
+            0,
+            0,
+            "netm check 1\ndevice 1 rows 1\nchanges 0 operators 0 events 0\n",
+        ),
+        (
+            modules.as_slice(),
+            &[0, 20000],
+            1,
+            2,
+            100000,
+            "netm check 1\nmodule example-system\nmodule b\ndevice 1 rows 0\ndevice 2 rows 20000\nchanges 1 operators 2 events 100000\n",
+        ),
+        (
+            none,
+            &[],
+            64,
+            16,
+            0,
+            "netm check 1\nchanges 64 operators 16 events 0\n",
+        ),
+    ];
+    for (names, rows, changes, operators, events, want) in cases {
+        let text = write_check(rt.alloc(), names, rows, changes, operators, events)?;
+        assert_eq!(rt; text.as_slice(), want.as_bytes());
     }
     Ok(())
 }

@@ -1,16 +1,10 @@
 -- Counts of what is seen as JSON.
-use Rattle.std.proofs.Common.{◌≡◌, ℕ, ◌+◌, List, [], ◌∷◌, length, refl, ap, arith, String}
-use Rattle.serde_json.specs.Data.{Data}
-use Rattle.serde_json.specs.View.{view, items_of, items_view}
+use Rattle.std.proofs.Common.{◌≡◌, List, [], ◌∷◌, length, refl, arith, String}
 use Rattle.serde_json.specs.declared.value.Value.{Value}
 use Rattle.std.specs.declared.alloc.Global.{Global}
 use Rattle.serde_json.specs.View.{members_view}
-use Rattle.nm_scenario.specs.Reading.{count_of}
+use Rattle.nm_reading.proofs.Counts.{count_of-items_view}
 use Rattle.nm_scenario.specs.Flat.{member_count}
-
-pub count_of-items_view : (vs : List Value) → count_of (items_view vs) ≡ length vs
-count_of-items_view [] = refl
-count_of-items_view (v ∷ vs) = omega (arith, count_of-items_view vs)
 
 pub member_count-members_view : (ms : List (String Global × Value)) → member_count (members_view ms) ≡ length ms
 member_count-members_view [] = refl

@@ -5,9 +5,9 @@ use Rattle.std.specs.FinMap.{FinMap, insert, empty}
 use Rattle.serde_json.specs.Data.{Data, null, boolean, number, string, array, object, Members, no_members, member}
 use Rattle.serde_json.specs.Find.{as_u64}
 use Rattle.nm_base.specs.Decimal.{number_of}
-use Rattle.nm_scenario.specs.declared.fault.ScenarioKind.TheVariants.{Content, TooMany}
-use Rattle.nm_scenario.specs.declared.fault.Fault.{Fault}
-use Rattle.nm_scenario.specs.Reading.{◌>>=◌, here, natural_of}
+use Rattle.nm_reading.specs.declared.fault.ScenarioKind.TheVariants.{Content, TooMany}
+use Rattle.nm_reading.specs.declared.fault.Fault.{Fault}
+use Rattle.nm_reading.specs.Reading.{◌>>=◌, here, natural_of}
 
 -- the greatest number of rows of one device, and of nodes of one edit
 abbrev pub row_limit : ℕ

@@ -1,5 +1,4 @@
-pub mod Reading
-pub mod Words
 pub mod Flat
 pub mod Requests
 pub mod Scenario
+pub mod Checkable

@@ -1,6 +1,6 @@
 -- What an operator asks of a device, as a list that begins with the request's word (this project's own; the requests are
 -- those of RFC 6241 sections 7 and 8). Edits have no numbers here.
-use Rattle.std.specs.Prelude.{ℕ, List, Bool, true, false, ◌&&◌, ◌||◌, ◌==◌, Option, Some, None, Result, Ok, Err, codes, if◌then◌else◌}
+use Rattle.std.specs.Prelude.{ℕ, List, Bool, true, false, ◌&&◌, ◌||◌, ◌==◌, Option, Some, None, Result, Ok, codes, if◌then◌else◌}
 use Rattle.std.specs.Str.{bytes_eq}
 use Rattle.serde_json.specs.Data.{Data, null, boolean, number, string, array, object}
 use Rattle.serde_json.specs.Find.{at, as_str}
@@ -10,13 +10,13 @@ use Rattle.nm_proto.specs.declared.message.Store.{Store}
 use Rattle.nm_proto.specs.declared.message.Store.TheVariants.{Running, Candidate}
 use Rattle.nm_proto.specs.declared.message.Request.{Request}
 use Rattle.nm_proto.specs.declared.message.Request.TheVariants.{OpenSession, Lock, Unlock, Validate, Commit, Discard, HasMark, GetConfig, CloseSession}
-use Rattle.nm_scenario.specs.declared.fault.ScenarioKind.TheVariants.{NotBuilt, BadValue}
-use Rattle.nm_scenario.specs.declared.fault.Step.TheVariants.{Item}
-use Rattle.nm_scenario.specs.declared.fault.Fault.{Fault}
+use Rattle.nm_reading.specs.declared.fault.ScenarioKind.TheVariants.{NotBuilt, BadValue}
+use Rattle.nm_reading.specs.declared.fault.Step.TheVariants.{Item}
+use Rattle.nm_reading.specs.declared.fault.Fault.{Fault}
 use Rattle.nm_scenario.specs.declared.scenario.ReadRequest.{ReadRequest}
 use Rattle.nm_scenario.specs.declared.scenario.ReadRequest.TheVariants.{Known, WithEdit}
-use Rattle.nm_scenario.specs.Reading.{◌>>=◌, here, there, required, optional, object_at, only_known}
-use Rattle.nm_scenario.specs.Words.{array_at, is_word, item_count, counted, argument, part_in}
+use Rattle.nm_reading.specs.Reading.{◌>>=◌, here, there, required, optional, object_at, only_known}
+use Rattle.nm_reading.specs.Words.{array_at, is_word, item_count, counted, argument, part_in}
 use Rattle.nm_scenario.specs.Flat.{changes_at}
 
 -- the default operation merge is built (RFC 6241 section 7.2)

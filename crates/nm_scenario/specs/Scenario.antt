@@ -1,12 +1,12 @@
 -- The scenario of a JSON value, or its first fault: the members of each object in this order, unknown members last
 -- (this project's own). The code reads forward once; these are functions of the whole value.
-use Rattle.std.specs.Prelude.{ℕ, ◌+◌, ◌-◌, ◌*◌, ◌^◌, List, [], ◌∷◌, ◌++◌, Bool, true, false, ◌&&◌, ◌||◌, ◌==◌, nat_lt, nat_le, min, length, map, slice_get, Option, Some, None, is_none, Result, Ok, Err, codes, if◌then◌else◌}
+use Rattle.std.specs.Prelude.{ℕ, ◌+◌, ◌-◌, ◌*◌, ◌^◌, List, [], ◌∷◌, ◌++◌, Bool, false, ◌&&◌, ◌||◌, ◌==◌, nat_lt, nat_le, min, length, map, slice_get, Option, Some, None, is_none, Result, Ok, Err, codes, if◌then◌else◌}
 use Rattle.std.specs.Str.{bytes_eq, is_utf8}
 use Rattle.std.specs.List.{flat_map}
 use Rattle.std.specs.FinMap.{empty}
 use Rattle.serde_json.specs.Data.{Data, null, boolean, number, string, array, object, Items, no_items, item}
 use Rattle.serde_json.specs.Read.{read}
-use Rattle.serde_json.specs.Find.{at, as_str, as_bool}
+use Rattle.serde_json.specs.Find.{at, as_str}
 use Rattle.nm_proto.specs.declared.message.Request.{Request}
 use Rattle.nm_proto.specs.declared.message.Request.TheVariants.{Edit}
 use Rattle.nm_proto.specs.declared.message.DefaultOperation.TheVariants.{Merge}
@@ -14,9 +14,9 @@ use Rattle.nm_proto.specs.declared.message.Marks.{Marks}
 use Rattle.nm_proto.specs.declared.flat.FlatEdit.{FlatEdit}
 use Rattle.nm_proto.specs.Flat.{FlatState, flat_edited, flat_violation}
 use Rattle.nm_proto.specs.Content.{Refusal}
-use Rattle.nm_scenario.specs.declared.fault.ScenarioKind.TheVariants.{TooLong, NotJson, NotBuilt, BadValue, TooMany, Invalid}
-use Rattle.nm_scenario.specs.declared.fault.Step.TheVariants.{Item}
-use Rattle.nm_scenario.specs.declared.fault.Fault.{Fault}
+use Rattle.nm_reading.specs.declared.fault.ScenarioKind.TheVariants.{TooLong, NotJson, NotBuilt, BadValue, TooMany, Invalid}
+use Rattle.nm_reading.specs.declared.fault.Step.TheVariants.{Item}
+use Rattle.nm_reading.specs.declared.fault.Fault.{Fault}
 use Rattle.nm_scenario.specs.declared.scenario.Scenario.{Scenario}
 use Rattle.nm_proto.specs.declared.plan.ChangePlan.{ChangePlan}
 use Rattle.nm_proto.specs.declared.plan.PlannedEdit.{PlannedEdit}
@@ -28,8 +28,8 @@ use Rattle.nm_scenario.specs.declared.scenario.ReadEvent.{ReadEvent}
 use Rattle.nm_scenario.specs.declared.scenario.ReadEvent.TheVariants.{Other, Asked}
 use Rattle.nm_proto.specs.declared.plan.Event.{Event}
 use Rattle.nm_proto.specs.declared.plan.Event.TheVariants.{Submit, Turn, Deliver, Answer, Foreign, Leave, Round}
-use Rattle.nm_scenario.specs.Reading.{◌>>=◌, here, there, required, optional, object_at, only_known, list_at, count_of, items_after, natural_of, in_range, number_within}
-use Rattle.nm_scenario.specs.Words.{array_at, is_word, item_count, counted, natural_in, argument, part_in}
+use Rattle.nm_reading.specs.Reading.{◌>>=◌, here, there, required, optional, object_at, only_known, list_at, items_after, natural_of, in_range, number_within, some_of, empty_list_at, off_at, switch_at}
+use Rattle.nm_reading.specs.Words.{array_at, is_word, item_count, counted, natural_in, argument, part_in}
 use Rattle.nm_scenario.specs.Flat.{cells_at, changes_at}
 use Rattle.nm_scenario.specs.Requests.{default_at, change_limit, request_at, is_unbuilt_request}
 
@@ -50,35 +50,6 @@ contents_of (Some word) = if bytes_eq word (codes "flat") then Ok tt else (if by
 
 unfoldable pub contents_at : Data → Result (Unit {0}) Fault
 contents_at part = contents_of (as_str part)
-
--- a list that has to be empty, and the fault where it isn't
-abbrev pub nothing_in : Result (Unit {0}) Fault → Items → Result (Unit {0}) Fault
-nothing_in otherwise items = if count_of items == 0 then Ok tt else otherwise
-
-unfoldable pub empty_list_at : Result (Unit {0}) Fault → Data → Result (Unit {0}) Fault
-empty_list_at otherwise (array items) = nothing_in otherwise items
-empty_list_at otherwise null = here BadValue
-empty_list_at otherwise (boolean b) = here BadValue
-empty_list_at otherwise (number n) = here BadValue
-empty_list_at otherwise (string text) = here BadValue
-empty_list_at otherwise (object m) = here BadValue
-
--- a switch that is built in its position off alone
-abbrev pub off_of : Option Bool → Result (Unit {0}) Fault
-off_of None = here BadValue
-off_of (Some true) = here NotBuilt
-off_of (Some false) = Ok tt
-
-unfoldable pub off_at : Data → Result (Unit {0}) Fault
-off_at part = off_of (as_bool part)
-
--- a switch
-abbrev pub switch_of : Option Bool → Result Bool Fault
-switch_of None = here BadValue
-switch_of (Some on) = Ok on
-
-unfoldable pub switch_at : Data → Result Bool Fault
-switch_at part = switch_of (as_bool part)
 
 -- ---- devices
 
@@ -102,11 +73,6 @@ device_at before part = do
   running ← required (codes "running") running_at part
   known ← only_known knows_device part
   Ok running
-
--- one device or more
-abbrev pub some_of : {A : Type 0} → List A → Result (List A) Fault
-some_of [] = here BadValue
-some_of (x ∷ xs) = Ok (x ∷ xs)
 
 unfoldable pub devices_at : Data → Result (List FlatState) Fault
 devices_at part = do

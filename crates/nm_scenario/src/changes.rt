@@ -1,16 +1,11 @@
 ghost use Rattle.std.specs.Prelude.{◌≡◌, ◌+◌, ◌-◌, ◌^◌, ◌≤◌, min, length, slice_get, option_copied, IfOk, Some, is_none};
 ghost use Rattle.nm_proto.specs.Flat.{flat_violation};
 ghost use Rattle.serde_json.specs.View.{view};
-ghost use Rattle.nm_scenario.specs.Reading.{Gives, number_within};
+ghost use Rattle.nm_reading.specs.Reading.{Gives, number_within};
 ghost use Rattle.nm_scenario.specs.Scenario.{knows_change, knows_edit, device_limit, last_device, device_within, goes_through, own_mark, edit_at, entry_at, entries_at, change_at, changes_read_at};
 
-use crate::devices::{DEVICE_LIMIT, at_least_one};
-use crate::fault::{ReadError, ScenarioKind};
+use crate::devices::DEVICE_LIMIT;
 use crate::flat::read_changes;
-use crate::reader::{
-    ItemReader, Names, Reader, fault_here, optional_member, read_list, read_object,
-    read_only_known, required_member,
-};
 use crate::scenario::{ReadChange, ReadEdit};
 use crate::values::Operation;
 use nm_base::{ChangeMask, ChangeNo, DeviceNo, NoMemory};
@@ -18,6 +13,12 @@ use nm_proto::{
     ApplyFault, CheckFault, Content, DefaultOperation, FlatConfig, FlatContent, FlatEdit, Listed,
     Marks,
 };
+use nm_reading::reader::{
+    ItemReader, Names, Reader, fault_here, optional_member, read_list, read_object,
+    read_only_known, required_member,
+};
+use nm_reading::values::at_least_one;
+use nm_reading::{ReadError, ScenarioKind};
 use serde_json::Value;
 use std::alloc::Global;
 
@@ -244,7 +245,7 @@ impl Reader for Timeout {
 
     ghost reads = { λ _. number_within 1 (2 ^ 32 - 1) };
 
-    #[tactic(auto, unfolding(crate::specs::Reading::number_within))]
+    #[tactic(auto, unfolding(nm_reading::specs::Reading::number_within))]
     fn read(&self, alloc: Global, part: &Value) -> Result<u32, ReadError> {
         match part.as_u64() {
             Some(number) if 1 <= number && number <= u64::from(u32::MAX) => Ok(number as u32),

@@ -1,15 +1,16 @@
 ghost use Rattle.std.specs.Prelude.{◌≡◌};
 ghost use Rattle.serde_json.specs.View.{view};
 ghost use Rattle.nm_proto.specs.Flat.{flat_violation};
-ghost use Rattle.nm_scenario.specs.Reading.{Gives};
-ghost use Rattle.nm_scenario.specs.Scenario.{knows_device, running_at, device_at, devices_at, valid_only, some_of};
+ghost use Rattle.nm_reading.specs.Reading.{Gives};
+ghost use Rattle.nm_scenario.specs.Scenario.{knows_device, running_at, device_at, devices_at, valid_only};
 
-use crate::fault::{ReadError, ScenarioKind};
 use crate::flat::read_cells;
-use crate::reader::{
+use nm_proto::{CheckFault, Content, FlatConfig, FlatContent, Listed};
+use nm_reading::reader::{
     ItemReader, Names, Reader, fault_here, read_list, read_object, read_only_known, required_member,
 };
-use nm_proto::{CheckFault, Content, FlatConfig, FlatContent, Listed};
+use nm_reading::values::at_least_one;
+use nm_reading::{ReadError, ScenarioKind};
 use serde_json::Value;
 use std::alloc::Global;
 
@@ -42,8 +43,9 @@ fn only_valid(alloc: Global, config: FlatConfig) -> Result<FlatConfig, ReadError
     }
 }
 
+/// The members of a device.
 #[derive(Drop)]
-struct DeviceNames;
+pub struct DeviceNames;
 
 impl Names for DeviceNames {
     ghost knows = { λ _. knows_device };
@@ -90,14 +92,4 @@ impl Reader for Devices {
         let devices = read_list(alloc, part, DEVICE_LIMIT, &Device)?;
         at_least_one(alloc, devices)
     }
-}
-
-/// A list with one value or more.
-pub fn at_least_one<T: Drop>(alloc: Global, list: Listed<T>) -> Result<Listed<T>, ReadError>
-    ensures { Gives result (some_of list) }
-{
-    if list.len() == 0 {
-        return fault_here(alloc, ScenarioKind::BadValue);
-    }
-    Ok(list)
 }

@@ -1,21 +1,23 @@
 ghost use Rattle.std.specs.Prelude.{◌≡◌, ◌-◌, ◌≤◌, ◌<◌, ◌^◌, ℕ, IfOk, Option, nat_lt, [], length, min, slice_get};
 ghost use Rattle.serde_json.specs.View.{view, items_view};
-ghost use Rattle.nm_scenario.specs.Reading.{Gives};
+ghost use Rattle.nm_reading.specs.Reading.{Gives};
 ghost use Rattle.serde_json.specs.Find.{at};
-ghost use Rattle.nm_scenario.specs.Words.{argument, item_count, is_word, natural_in};
+ghost use Rattle.nm_reading.specs.Words.{argument, item_count, is_word, natural_in};
 ghost use Rattle.nm_scenario.specs.Requests.{change_limit};
 ghost use Rattle.nm_scenario.specs.Scenario.{is_within, is_unbuilt, other_event_at, submit_at, turn_at, deliver_at, answer_at, round_at, operator_limit, user_named, asked_at, asks_unbuilt, foreign_at, leave_at, by_word, event_at, round_turns, elementary, elementary_total, event_limit, events_within, events_at, device_limit};
 
 use crate::changes::CHANGE_LIMIT;
 use crate::devices::DEVICE_LIMIT;
-use crate::fault::{ReadError, ScenarioKind, Step};
 use crate::operators::OPERATOR_LIMIT;
-use crate::reader::{ItemReader, Reader, fault_at, fault_here, read_items};
 use crate::requests::{RequestOf, is_unbuilt_request};
 use crate::scenario::ReadEvent;
-use crate::words::{argument, counted, is_word, item_count, natural_in, read_array, read_part};
 use nm_base::{ChangeNo, DeviceNo, Label};
 use nm_proto::{Event, Listed};
+use nm_reading::reader::{ItemReader, Reader, fault_at, fault_here, read_items};
+use nm_reading::words::{
+    argument, counted, is_word, item_count, natural_in, read_array, read_part,
+};
+use nm_reading::{ReadError, ScenarioKind, Step};
 use serde_json::Value;
 use std::alloc::Global;
 

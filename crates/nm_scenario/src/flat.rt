@@ -1,13 +1,13 @@
 ghost use Rattle.std.specs.Prelude.{◌≡◌, ℕ, if◌then◌else◌, nat_lt, string_bytes};
 ghost use Rattle.std.specs.FinMap.{empty};
 ghost use Rattle.serde_json.specs.View.{view, members_view};
-ghost use Rattle.nm_scenario.specs.Reading.{Gives, here, natural_of};
+ghost use Rattle.nm_reading.specs.Reading.{Gives, here, natural_of};
 ghost use Rattle.nm_scenario.specs.Flat.{row_limit, node_limit, key_of, change_of, or_unread, member_count, cells_after, cells_at, changes_after, changes_at};
 
-use crate::fault::{ReadError, ScenarioKind};
-use crate::reader::fault_here;
 use nm_base::read_decimal;
 use nm_proto::NumberMap;
+use nm_reading::reader::fault_here;
+use nm_reading::{ReadError, ScenarioKind};
 use serde_json::{Map, Value};
 use std::alloc::Global;
 

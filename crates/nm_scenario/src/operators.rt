@@ -1,16 +1,16 @@
 ghost use Rattle.std.specs.Prelude.{◌≡◌, Some};
 ghost use Rattle.serde_json.specs.View.{view};
-ghost use Rattle.nm_scenario.specs.Reading.{Gives};
+ghost use Rattle.nm_reading.specs.Reading.{Gives};
 ghost use Rattle.nm_scenario.specs.Scenario.{knows_operator, user_of, user_at, operator_at, built_beside, operators_at};
 
-use crate::fault::{ReadError, ScenarioKind};
-use crate::reader::{
+use nm_base::Label;
+use nm_proto::Listed;
+use nm_reading::reader::{
     ItemReader, Names, Reader, fault_here, optional_member, read_list, read_object,
     read_only_known, required_member,
 };
-use crate::values::EmptyList;
-use nm_base::Label;
-use nm_proto::Listed;
+use nm_reading::values::EmptyList;
+use nm_reading::{ReadError, ScenarioKind};
 use serde_json::Value;
 use std::alloc::Global;
 

@@ -1,29 +1,31 @@
 ghost use Rattle.std.specs.Prelude.{◌≡◌, ◌≤◌, ◌<◌, length, nat_lt, IfOk};
 ghost use Rattle.serde_json.specs.View.{view};
-ghost use Rattle.nm_scenario.specs.Reading.{Gives};
+ghost use Rattle.nm_reading.specs.Reading.{Gives};
 ghost use Rattle.nm_scenario.specs.Scenario.{knows_scenario, put_together, scenario_at, scenario_from, scenario_of, byte_limit, json_of};
 
 use crate::changes::Changes;
 use crate::devices::Devices;
 use crate::events::Events;
-use crate::fault::{ReadError, ScenarioKind};
 use crate::numbering::{Numbered, with_event_numbers, with_numbers};
 use crate::operators::Operators;
-use crate::reader::{
-    Names, fault_here, optional_member, read_object, read_only_known, required_member,
-};
 use crate::scenario::{ReadChange, ReadEvent, Scenario};
-use crate::values::{Contents, EmptyList, NumberWithin, Off, Switch};
+use crate::values::Contents;
 use nm_base::{Label, NoMemory};
 use nm_proto::{FlatConfig, Listed};
+use nm_reading::reader::{
+    Names, fault_here, optional_member, read_object, read_only_known, required_member,
+};
+use nm_reading::values::{EmptyList, NumberWithin, Off, Switch};
+use nm_reading::{ReadError, ScenarioKind};
 use serde_json::Value;
 use std::alloc::Global;
 
 /// The greatest length of a scenario, in bytes: what is read of it stays below a gigabyte of memory.
 pub const BYTE_LIMIT: usize = 16_777_216;
 
+/// The members of a scenario.
 #[derive(Drop)]
-struct ScenarioNames;
+pub struct ScenarioNames;
 
 impl Names for ScenarioNames {
     ghost knows = { λ _. knows_scenario };
@@ -72,8 +74,9 @@ fn read_json(alloc: Global, bytes: &[u8]) -> Result<Scenario, ReadError>
     }
 }
 
+/// The scenario of a JSON value.
 #[tactic(auto, unfolding(crate::specs::Scenario::scenario_at))]
-fn read_whole(alloc: Global, whole: &Value) -> Result<Scenario, ReadError>
+pub fn read_whole(alloc: Global, whole: &Value) -> Result<Scenario, ReadError>
     ensures { Gives result (scenario_at (view whole.now)) }
 {
     read_object(alloc, whole)?;

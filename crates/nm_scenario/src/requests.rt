@@ -1,21 +1,21 @@
 ghost use Rattle.std.specs.Prelude.{◌≡◌};
 ghost use Rattle.serde_json.specs.View.{view};
 ghost use Rattle.serde_json.specs.Find.{at};
-ghost use Rattle.nm_scenario.specs.Reading.{Gives};
+ghost use Rattle.nm_reading.specs.Reading.{Gives};
 ghost use Rattle.nm_scenario.specs.Requests.{store_at, alone, lock_at, unlock_at, knows_asked_edit, asked_edit_at, edit_request_at, change_limit, has_mark_at, plain_commit, commit_at, request_by_word, request_at, is_object, is_unbuilt_request};
 
 use crate::changes::CHANGE_LIMIT;
-use crate::fault::{ReadError, ScenarioKind, Step};
 use crate::flat::read_changes;
-use crate::reader::{
+use crate::scenario::ReadRequest;
+use crate::values::Operation;
+use nm_base::{ChangeNo, Label};
+use nm_proto::{DefaultOperation, FlatEdit, NumberMap, Request, Store};
+use nm_reading::reader::{
     Names, Reader, fault_at, fault_here, optional_member, read_object, read_only_known,
     required_member,
 };
-use crate::scenario::ReadRequest;
-use crate::values::Operation;
-use crate::words::{argument, counted, is_word, item_count, read_array, read_part};
-use nm_base::{ChangeNo, Label};
-use nm_proto::{DefaultOperation, FlatEdit, NumberMap, Request, Store};
+use nm_reading::words::{argument, counted, is_word, item_count, read_array, read_part};
+use nm_reading::{ReadError, ScenarioKind, Step};
 use serde_json::Value;
 use std::alloc::Global;
 

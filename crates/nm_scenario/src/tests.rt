@@ -19,6 +19,8 @@ fn word_of(kind: ScenarioKind) -> &'static str {
         ScenarioKind::Unknown => "unknown ",
         ScenarioKind::BadValue => "bad-value ",
         ScenarioKind::TooMany => "too-many ",
+        ScenarioKind::Yang => "yang ",
+        ScenarioKind::Schema => "schema ",
         ScenarioKind::Content => "content ",
         ScenarioKind::Invalid => "invalid ",
     }
@@ -32,7 +34,7 @@ fn step_text(alloc: Global, step: &Step) -> Result<String, AllocError> {
 }
 
 // A fault as `bad-value /changes/0`; the place of the whole is `/`.
-fn fault_text(alloc: Global, fault: &Fault) -> Result<String, AllocError> {
+pub fn fault_text(alloc: Global, fault: &Fault) -> Result<String, AllocError> {
     let mut text = String::from_str(alloc, word_of(fault.kind))?;
     if fault.place.len() == 0 {
         text.push_str("/")?;

@@ -1,7 +1,7 @@
-use Rattle.std.proofs.Common.{◌≡◌, sym, subst}
+use Rattle.std.proofs.Common.{sym, subst}
 use Rattle.serde_json.specs.View.{view}
-use Rattle.nm_scenario.specs.Reading.{Gives}
-use Rattle.nm_scenario.specs.Scenario.{scenario_from, json_of}
+use Rattle.nm_reading.specs.Reading.{Gives}
+use Rattle.nm_scenario.specs.Scenario.{scenario_from}
 use Rattle.nm_scenario.proofs.Json.{json_some, json_none}
 use Rattle.nm_scenario.proofs.read.read_json.Goals as goal
 

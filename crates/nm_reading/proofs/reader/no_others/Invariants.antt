@@ -1,7 +1,7 @@
 use Rattle.std.proofs.Common.{◌≡◌}
 use Rattle.serde_json.specs.View.{members_view}
-use Rattle.nm_scenario.specs.Reading.{first_unknown}
-use Rattle.nm_scenario.proofs.reader.no_others.Given as goal
+use Rattle.nm_reading.specs.Reading.{first_unknown}
+use Rattle.nm_reading.proofs.reader.no_others.Given as goal
 
 -- no member so far has another name
 abbrev pub invariant-loop-name : goal.invariant-loop-name

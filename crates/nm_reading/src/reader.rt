@@ -1,9 +1,9 @@
 ghost use Rattle.std.specs.Prelude.{◌≡◌, ℕ, List, [], Bool, Result};
 ghost use Rattle.serde_json.specs.Data.{Data};
 ghost use Rattle.serde_json.specs.View.{view};
-ghost use Rattle.nm_scenario.specs.declared.fault.Fault.{Fault};
+ghost use Rattle.nm_reading.specs.declared.fault.Fault.{Fault};
 ghost use Rattle.serde_json.specs.View.{items_view, members_view};
-ghost use Rattle.nm_scenario.specs.Reading.{Gives, here, there, under, required, optional, list_at, items_after, within, only_known, object_at, first_unknown, none_unknown, count_of};
+ghost use Rattle.nm_reading.specs.Reading.{Gives, here, there, under, required, optional, list_at, items_after, within, only_known, object_at, first_unknown, none_unknown, count_of};
 
 use crate::fault::{Fault, ReadError, ScenarioKind, Step};
 use nm_base::Label;

@@ -1,15 +1,15 @@
 -- Reading the parts of a JSON value: what is there, or the first fault with its place (this project's own).
 -- The code builds its values piece by piece; these are functions from JSON values to values.
-use Rattle.std.specs.Prelude.{◌≡◌, ℕ, ◌+◌, List, [], ◌∷◌, ◌++◌, Bool, ◌&&◌, nat_lt, nat_le, Option, Some, None, option_and_then, Result, Ok, Err, if◌then◌else◌}
+use Rattle.std.specs.Prelude.{◌≡◌, ℕ, ◌+◌, List, [], ◌∷◌, ◌++◌, Bool, true, false, ◌&&◌, ◌==◌, nat_lt, nat_le, Option, Some, None, option_and_then, Result, Ok, Err, if◌then◌else◌}
 use Rattle.serde_json.specs.Data.{Data, null, boolean, number, string, array, object, Items, no_items, item, Members, no_members, member}
-use Rattle.serde_json.specs.Find.{get, as_number, as_u64}
-use Rattle.nm_scenario.specs.declared.fault.ScenarioKind.{ScenarioKind}
-use Rattle.nm_scenario.specs.declared.fault.ScenarioKind.TheVariants.{Missing, Unknown, BadValue, TooMany}
-use Rattle.nm_scenario.specs.declared.fault.Step.{Step}
-use Rattle.nm_scenario.specs.declared.fault.Step.TheVariants.{Name, Item}
-use Rattle.nm_scenario.specs.declared.fault.Fault.{Fault}
-use Rattle.nm_scenario.specs.declared.fault.ReadError.{ReadError}
-use Rattle.nm_scenario.specs.declared.fault.ReadError.TheVariants as error
+use Rattle.serde_json.specs.Find.{get, as_bool, as_number, as_u64}
+use Rattle.nm_reading.specs.declared.fault.ScenarioKind.{ScenarioKind}
+use Rattle.nm_reading.specs.declared.fault.ScenarioKind.TheVariants.{NotBuilt, Missing, Unknown, BadValue, TooMany}
+use Rattle.nm_reading.specs.declared.fault.Step.{Step}
+use Rattle.nm_reading.specs.declared.fault.Step.TheVariants.{Name, Item}
+use Rattle.nm_reading.specs.declared.fault.Fault.{Fault}
+use Rattle.nm_reading.specs.declared.fault.ReadError.{ReadError}
+use Rattle.nm_reading.specs.declared.fault.ReadError.TheVariants as error
 
 infixl 10 ◌>>=◌
 abbrev pub ◌>>=◌ : {A B : Type 0} → Result A Fault → (A → Result B Fault) → Result B Fault
@@ -114,3 +114,37 @@ in_range low high (Some n) = if nat_le low n && nat_le n high then Ok n else her
 
 unfoldable pub number_within : ℕ → ℕ → Data → Result ℕ Fault
 number_within low high part = in_range low high (natural_of part)
+
+-- one value or more
+abbrev pub some_of : {A : Type 0} → List A → Result (List A) Fault
+some_of [] = here BadValue
+some_of (x ∷ xs) = Ok (x ∷ xs)
+
+-- a list that has to be empty, and the fault where it isn't
+abbrev pub nothing_in : Result (Unit {0}) Fault → Items → Result (Unit {0}) Fault
+nothing_in otherwise items = if count_of items == 0 then Ok tt else otherwise
+
+unfoldable pub empty_list_at : Result (Unit {0}) Fault → Data → Result (Unit {0}) Fault
+empty_list_at otherwise (array items) = nothing_in otherwise items
+empty_list_at otherwise null = here BadValue
+empty_list_at otherwise (boolean b) = here BadValue
+empty_list_at otherwise (number n) = here BadValue
+empty_list_at otherwise (string text) = here BadValue
+empty_list_at otherwise (object m) = here BadValue
+
+-- a switch that is built in its position off alone
+abbrev pub off_of : Option Bool → Result (Unit {0}) Fault
+off_of None = here BadValue
+off_of (Some true) = here NotBuilt
+off_of (Some false) = Ok tt
+
+unfoldable pub off_at : Data → Result (Unit {0}) Fault
+off_at part = off_of (as_bool part)
+
+-- a switch
+abbrev pub switch_of : Option Bool → Result Bool Fault
+switch_of None = here BadValue
+switch_of (Some on) = Ok on
+
+unfoldable pub switch_at : Data → Result Bool Fault
+switch_at part = switch_of (as_bool part)

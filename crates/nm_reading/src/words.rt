@@ -1,7 +1,7 @@
 ghost use Rattle.std.specs.Prelude.{◌≡◌, ◌≤◌, IfOk};
 ghost use Rattle.serde_json.specs.View.{view, items_view};
-ghost use Rattle.nm_scenario.specs.Reading.{Gives, count_of, under};
-ghost use Rattle.nm_scenario.specs.Words.{array_at, is_word, item_count, counted, natural_in, argument, part_in};
+ghost use Rattle.nm_reading.specs.Reading.{Gives, count_of, under};
+ghost use Rattle.nm_reading.specs.Words.{array_at, is_word, item_count, counted, natural_in, argument, part_in};
 
 use crate::fault::{ReadError, ScenarioKind, Step};
 use crate::reader::{Reader, fault_at, fault_here, seen_from_outside};

@@ -1,7 +1,7 @@
 use Rattle.std.proofs.Common.{◌≡◌, [], drop}
 use Rattle.serde_json.specs.View.{items_view}
-use Rattle.nm_scenario.specs.Reading.{items_after}
-use Rattle.nm_scenario.proofs.reader.read_items.Given as goal
+use Rattle.nm_reading.specs.Reading.{items_after}
+use Rattle.nm_reading.proofs.reader.read_items.Given as goal
 
 -- what is left goes on from what was found
 abbrev pub invariant-loop-place : goal.invariant-loop-place

@@ -1,13 +1,13 @@
 -- Lists that begin with a word, as events and requests do: the word, how many items there are, and the arguments after
 -- the word by their places (this project's own).
-use Rattle.std.specs.Prelude.{ℕ, List, [], Bool, true, false, ◌&&◌, ◌==◌, nat_le, Option, Some, None, option_and_then, unwrap_or, Result, Ok, Err, if◌then◌else◌}
+use Rattle.std.specs.Prelude.{ℕ, List, [], Bool, ◌&&◌, ◌==◌, nat_le, Option, Some, None, option_and_then, unwrap_or, Result, Ok, if◌then◌else◌}
 use Rattle.std.specs.Str.{bytes_eq}
 use Rattle.serde_json.specs.Data.{Data, null, boolean, number, string, array, object}
 use Rattle.serde_json.specs.Find.{at, as_str}
-use Rattle.nm_scenario.specs.declared.fault.ScenarioKind.TheVariants.{BadValue}
-use Rattle.nm_scenario.specs.declared.fault.Step.TheVariants.{Item}
-use Rattle.nm_scenario.specs.declared.fault.Fault.{Fault}
-use Rattle.nm_scenario.specs.Reading.{here, there, under, natural_of, count_of}
+use Rattle.nm_reading.specs.declared.fault.ScenarioKind.TheVariants.{BadValue}
+use Rattle.nm_reading.specs.declared.fault.Step.TheVariants.{Item}
+use Rattle.nm_reading.specs.declared.fault.Fault.{Fault}
+use Rattle.nm_reading.specs.Reading.{here, there, under, natural_of, count_of}
 
 -- a list at all
 abbrev pub array_at : Data → Result (Unit {0}) Fault

@@ -1,5 +1,5 @@
 ghost use Rattle.std.specs.Prelude.{◌≡◌};
-ghost use Rattle.nm_scenario.specs.declared.fault.ReadError.TheVariants.{NoMemory};
+ghost use Rattle.nm_reading.specs.declared.fault.ReadError.TheVariants.{NoMemory};
 
 use nm_base::Label;
 use nm_proto::Listed;
@@ -22,6 +22,10 @@ pub enum ScenarioKind {
     BadValue,
     /// A list or a count is above its limit.
     TooMany,
+    /// A module's text can't be read.
+    Yang,
+    /// The modules aren't modules of the subset.
+    Schema,
     /// A configuration or an edit can't be read.
     Content,
     /// A running configuration isn't valid.
