@@ -96,6 +96,7 @@ module _ (rows : List Row) (groupings : List (Option ℕ)) where
       below = λ i node at. places-rows (is_below i) nodes ∙ ap (λ (l : List ℕ). map (λ row. Some row) l) (g.done i node (omega (arith, le, slice_get_within nodes i node at)) at);
       parents = g.parents;
       owners = g.owners;
+      numbered = g.numbered;
       few = omega (arith, le, g.begun, g.bound);
       shallow = λ i n above. let s = shallow above in omega (arith, s.some, s.most);
     }

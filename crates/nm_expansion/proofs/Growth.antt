@@ -9,7 +9,7 @@ use Rattle.nm_grammar.specs.declared.row.Row.{Row}
 use Rattle.nm_grammar.specs.Rows.{roots}
 use Rattle.nm_shape.specs.Sizes.{total_of}
 use Rattle.nm_expansion.specs.declared.instance.Instance.{Instance}
-use Rattle.nm_expansion.specs.Expansion.{count_at, counts_before, kept_below, kept_in, has_count, grown_members, module_row, is_grown, comes_before, first_large, is_below, is_top, owner_in, owner_of}
+use Rattle.nm_expansion.specs.Expansion.{count_at, counts_before, kept_below, kept_in, has_count, grown_members, module_row, is_grown, comes_before, first_large, is_below, is_top, owner_in, owner_of, IsNoLater, AreNumbered}
 use Rattle.nm_expansion.specs.Growing.{instance, its_row, rows_below, rows_top, weight, IsCounted, HasCount, IsGrowing}
 use Rattle.nm_expansion.proofs.Counting.{node-covered, row-covered, total-append}
 use Rattle.nm_expansion.proofs.Bounds.{and-both, grown-bound}
@@ -118,6 +118,46 @@ owned-cases nodes parent owner n rows old new i node is (inr le) =
     let made = made-is parent owner rows (r.0) node (sym (r.1) ∙ is) in
     rw (made.1) new
 
+-- nodes that are added at the end stand no earlier than those before them
+numbered-cases : (nodes : List Instance) (parent : Option ℕ) (owner : ℕ) (rows : List ℕ) → AreNumbered nodes → ((i : ℕ) (x : Instance) → slice_get nodes i ≡ Some x → IsNoLater x.parent x.owner parent owner) → IsNoLater parent owner parent owner
+    → (i j : ℕ) (x y : Instance) → i < j → slice_get (nodes ++ map (instance parent owner) rows) i ≡ Some x → slice_get (nodes ++ map (instance parent owner) rows) j ≡ Some y → (i < length nodes) ⊎ (length nodes ≤ i) → (j < length nodes) ⊎ (length nodes ≤ j)
+    → IsNoLater x.parent x.owner y.parent y.owner
+numbered-cases nodes parent owner rows old before itself i j x y lt ix jy (inl li) (inl lj) =
+    old i j x y lt (sym (slice_get-left nodes (map (instance parent owner) rows) i li) ∙ ix) (sym (slice_get-left nodes (map (instance parent owner) rows) j lj) ∙ jy)
+numbered-cases nodes parent owner rows old before itself i j x y lt ix jy (inl li) (inr lj) =
+    let r = slice_get-right nodes (map (instance parent owner) rows) j lj in
+    let made = made-is parent owner rows (r.0) y (sym (r.1) ∙ jy) in
+    rw (made.0, made.1) (before i x (sym (slice_get-left nodes (map (instance parent owner) rows) i li) ∙ ix))
+numbered-cases nodes parent owner rows old before itself i j x y lt ix jy (inr li) (inl lj) = absurd (omega (arith, lt, li, lj))
+numbered-cases nodes parent owner rows old before itself i j x y lt ix jy (inr li) (inr lj) =
+    let r = slice_get-right nodes (map (instance parent owner) rows) i li in
+    let one = made-is parent owner rows (r.0) x (sym (r.1) ∙ ix) in
+    let s = slice_get-right nodes (map (instance parent owner) rows) j lj in
+    let other = made-is parent owner rows (s.0) y (sym (s.1) ∙ jy) in
+    rw (one.0, one.1, other.0, other.1) itself
+
+held-cases : (nodes : List Instance) (parent : Option ℕ) (owner next : ℕ) (rows : List ℕ) → ((i : ℕ) (node : Instance) → slice_get nodes i ≡ Some node → IfSome node.parent (λ p. p < next)) → IfSome parent (λ p. p < next)
+    → (i : ℕ) (node : Instance) → slice_get (nodes ++ map (instance parent owner) rows) i ≡ Some node → (i < length nodes) ⊎ (length nodes ≤ i) → IfSome node.parent (λ p. p < next)
+held-cases nodes parent owner next rows old new i node is (inl lt) = old i node (sym (slice_get-left nodes (map (instance parent owner) rows) i lt) ∙ is)
+held-cases nodes parent owner next rows old new i node is (inr le) =
+    let r = slice_get-right nodes (map (instance parent owner) rows) i le in
+    let made = made-is parent owner rows (r.0) node (sym (r.1) ∙ is) in
+    rw (made.0) new
+
+held-more : (next : ℕ) (parent : Option ℕ) → IfSome parent (λ p. p < next) → IfSome parent (λ p. p < next + 1)
+held-more next None h = tt
+held-more next (Some p) h = omega (arith, h)
+
+-- what stands in earlier nodes, or at the top, comes before what stands in a node
+earlier-below : (next m n : ℕ) (parent : Option ℕ) → IfSome parent (λ p. p < next) → IsNoLater parent m (Some next) n
+earlier-below next m n None h = tt
+earlier-below next m n (Some p) h = omega (arith, h)
+
+-- what stands in no node comes before the top of a later module
+earlier-top : (m n : ℕ) (parent : Option ℕ) → IfSome parent (λ p. p < 0) → m < n → IsNoLater parent m None n
+earlier-top m n None h lt = omega (arith, lt)
+earlier-top m n (Some p) h lt = absurd (omega (arith, h))
+
 -- ---- weights
 
 weight-append : (rows : List Row) (groupings : List (Option ℕ)) (xs ys : List Instance) → weight rows groupings (xs ++ ys) ≡ weight rows groupings xs + weight rows groupings ys
@@ -197,6 +237,8 @@ module _ (rows : List Row) (groupings : List (Option ℕ)) where
         others = λ m le. let differ : m ≢ n = omega arith in passing-other (is_top m) None n nodes (λ row. top-other m n row differ) those ∙ g.others m (omega (arith, le));
         parents = λ i node at. placed-cases nodes None n those g.parents tt i node at (cases_lt i (length nodes));
         owners = λ i node at. owned-cases nodes None n (n + 1) those (λ i node at. omega (arith, g.owners i node at)) (omega arith) i node at (cases_lt i (length nodes));
+        numbered = λ i j x y lt ix jy. numbered-cases nodes None n those g.numbered (λ i x at. earlier-top x.owner n x.parent (g.held i x at) (g.owners i x at)) (omega arith) i j x y lt ix jy (cases_lt i (length nodes)) (cases_lt j (length nodes));
+        held = λ i node at. held-cases nodes None n 0 those g.held tt i node at (cases_lt i (length nodes));
         counted = All-append (HasCount rows groupings) nodes (map (instance None n) those) g.counted (counted-made rows groupings None n those h.each);
         begun = omega arith;
         few = omega (arith, few);
@@ -212,6 +254,8 @@ module _ (rows : List Row) (groupings : List (Option ℕ)) where
     others = λ m le. refl;
     parents = λ i node at. absurd (cc);
     owners = λ i node at. absurd (cc);
+    numbered = λ i j x y lt ix jy. absurd (cc);
+    held = λ i node at. absurd (cc);
     counted = All-nil (HasCount rows groupings);
     begun = omega arith;
     few = omega arith;
@@ -285,6 +329,8 @@ module _ (rows : List Row) (groupings : List (Option ℕ)) where
         others = λ m le. passing-other (is_top m) (Some next) node.owner nodes (top-below m next node.owner) (kept_below rows groupings node.row) ∙ g.others m le;
         parents = λ i here is. placed-cases nodes (Some next) node.owner (kept_below rows groupings node.row) g.parents (within, owner-at nodes next node at) i here is (cases_lt i (length nodes));
         owners = λ i here is. owned-cases nodes (Some next) node.owner n (kept_below rows groupings node.row) g.owners (g.owners next node at) i here is (cases_lt i (length nodes));
+        numbered = λ i j x y lt ix jy. numbered-cases nodes (Some next) node.owner (kept_below rows groupings node.row) g.numbered (λ i x is. earlier-below next x.owner node.owner x.parent (g.held i x is)) (omega arith) i j x y lt ix jy (cases_lt i (length nodes)) (cases_lt j (length nodes));
+        held = λ i here is. held-cases nodes (Some next) node.owner (next + 1) (kept_below rows groupings node.row) (λ i here is. held-more next here.parent (g.held i here is)) (omega arith) i here is (cases_lt i (length nodes));
         counted = All-append (HasCount rows groupings) nodes (map (instance (Some next) node.owner) (kept_below rows groupings node.row)) g.counted (counted-made rows groupings (Some next) node.owner (kept_below rows groupings node.row) (c.1).each);
         begun = omega (arith, within, length-append nodes (map (instance (Some next) node.owner) (kept_below rows groupings node.row)));
         few = omega (arith, less, g.few);

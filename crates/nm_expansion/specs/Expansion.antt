@@ -120,12 +120,24 @@ pub data HasAbove (nodes : List Instance) : ℕ → ℕ → Type 0 where
   outermost : {i : ℕ} (node : Instance) → slice_get nodes i ≡ Some node → node.parent ≡ None → HasAbove nodes i 0
   within : {i n : ℕ} (node : Instance) (parent : ℕ) → slice_get nodes i ≡ Some node → node.parent ≡ Some parent → HasAbove nodes parent n → HasAbove nodes i (suc n)
 
+-- one place to stand comes no later than another: the tops of the modules first, in order, and then the nodes by number (this project's own)
+abbrev pub IsNoLater : Option ℕ → ℕ → Option ℕ → ℕ → Type 0
+IsNoLater None m None n = m ≤ n
+IsNoLater None m (Some q) n = Unit {0}
+IsNoLater (Some p) m None n = ⊥
+IsNoLater (Some p) m (Some q) n = p ≤ q
+
+-- no node stands at an earlier place than one of a smaller number: nodes are numbered level by level
+abbrev pub AreNumbered : List Instance → Type 0
+AreNumbered nodes = (i j : ℕ) (x y : Instance) → i < j → slice_get nodes i ≡ Some x → slice_get nodes j ≡ Some y → IsNoLater x.parent x.owner y.parent y.owner
+
 -- these are the nodes of the modules that are expanded: in each module and each node those of its kept members that are known, in order; each node in
--- an earlier one of its module (RFC 7950 section 7.13: nodes of a used grouping belong to the using module)
+-- an earlier one of its module (RFC 7950 section 7.13: nodes of a used grouping belong to the using module); and they are numbered by where they stand
 pub record IsExpansion (rows : List Row) (groupings : List (Option ℕ)) (nodes : List Instance) : Type 0 where
   pub outermost : (m : ℕ) → m < length (roots rows) → map (row_of nodes) (tops nodes m) ≡ map (λ row. Some row) (grown_members rows groupings m)
   pub below : (i : ℕ) (node : Instance) → slice_get nodes i ≡ Some node → map (row_of nodes) (children nodes i) ≡ map (λ row. Some row) (kept_below rows groupings node.row)
   pub parents : (i : ℕ) (node : Instance) → slice_get nodes i ≡ Some node → IfSome node.parent (λ p. (p < i) × (owner_of nodes p ≡ Some node.owner))
   pub owners : (i : ℕ) (node : Instance) → slice_get nodes i ≡ Some node → node.owner < length (roots rows)
+  pub numbered : AreNumbered nodes
   pub few : length nodes ≤ 20000
   pub shallow : (i n : ℕ) → HasAbove nodes i n → n ≤ 64

@@ -3,7 +3,7 @@ use Rattle.std.specs.Prelude.{◌≡◌, ℕ, ◌+◌, ◌<◌, ◌≤◌, List,
 use Rattle.nm_grammar.specs.declared.row.Row.{Row}
 use Rattle.nm_shape.specs.Sizes.{total_of, unit_at}
 use Rattle.nm_expansion.specs.declared.instance.Instance.{Instance}
-use Rattle.nm_expansion.specs.Expansion.{count_at, counts_before, kept_below, grown_members, is_below, is_top, owner_of}
+use Rattle.nm_expansion.specs.Expansion.{count_at, counts_before, kept_below, grown_members, is_below, is_top, owner_of, AreNumbered}
 
 -- a node that stands in another, or at the top of a module
 unfoldable pub instance : Option ℕ → ℕ → ℕ → Instance
@@ -41,6 +41,8 @@ pub record IsGrowing (rows : List Row) (groupings : List (Option ℕ)) (n next :
   pub others : (m : ℕ) → n ≤ m → rows_top nodes m ≡ []
   pub parents : (i : ℕ) (node : Instance) → slice_get nodes i ≡ Some node → IfSome node.parent (λ p. (p < i) × (owner_of nodes p ≡ Some node.owner))
   pub owners : (i : ℕ) (node : Instance) → slice_get nodes i ≡ Some node → node.owner < n
+  pub numbered : AreNumbered nodes
+  pub held : (i : ℕ) (node : Instance) → slice_get nodes i ≡ Some node → IfSome node.parent (λ p. p < next)
   pub counted : All (HasCount rows groupings) nodes
   pub begun : next ≤ length nodes
   pub few : next + weight rows groupings (drop next nodes) ≤ counts_before rows groupings n

@@ -36,8 +36,8 @@ impl<'a> Model for Expansion<'a> {
 }
 
 impl<'a> Expansion<'a> {
-    /// The nodes of the tree, by number from 0: first those at the top of the modules, and then what stands in each node, in
-    /// the order of the nodes.
+    /// The nodes of the tree, by number from 0: first those at the top of the modules, module by module, and then what stands
+    /// directly in each node, in the order of the nodes.
     pub fn nodes(&self) -> &[Instance]
         ensures { result.now ≡ self.now.nodes }
     {
