@@ -1,4 +1,5 @@
 pub mod Spelling
 pub mod Form
 pub mod Written
+pub mod Sound
 pub mod Reading

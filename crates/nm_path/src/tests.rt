@@ -1,16 +1,26 @@
+mod texts;
+
 use super::*;
 use nm_base::{Label, NoMemory};
 use nm_tree::{Elements, Groups, Node, NodeKind, Numbers, Schema, SharedType};
 use nm_types::{Chosen, LeafType, Path, Step, TypeKind, Value};
 use std::alloc::Global;
 use std::test::Fail;
+use texts::{KEYED, LOST, MISFORMED, MISKEYED, NAMES, QUOTED, Spelled, VALUES};
 
 #[derive(Clone, Copy)]
 enum Shape {
     Container,
     Text,
     Number,
+    Decimal,
+    Flag,
+    Names,
+    Bits,
+    Empty,
     Texts,
+    Numbers,
+    Wide,
     List,
 }
 
@@ -33,6 +43,42 @@ fn leaf(leaf_type: SharedType) -> NodeKind {
     }
 }
 
+fn names(alloc: Global) -> Result<TypeKind, NoMemory> {
+    let mut names = Vec::new(alloc);
+    for name in ["up", "down", "is up"] {
+        names.push(Label::new(alloc, name)?)?;
+    }
+    Ok(TypeKind::Names(names))
+}
+
+// Bits whose positions aren't in the order of their names.
+fn bits(alloc: Global) -> Result<TypeKind, NoMemory> {
+    let mut bits = Vec::new(alloc);
+    for (name, position) in [("write", 0), ("read", 1), ("exec", 7)] {
+        bits.push((Label::new(alloc, name)?, position))?;
+    }
+    Ok(TypeKind::Bits(bits))
+}
+
+fn type_of(alloc: Global, shape: Shape) -> Result<TypeKind, NoMemory> {
+    match shape {
+        Shape::Number | Shape::Numbers => Ok(TypeKind::Integer {
+            low: 0,
+            high: 65_535,
+        }),
+        Shape::Wide => Ok(TypeKind::Integer {
+            low: -9_223_372_036_854_775_808,
+            high: 9_223_372_036_854_775_807,
+        }),
+        Shape::Decimal => Ok(TypeKind::Decimal { digits: 2 }),
+        Shape::Flag => Ok(TypeKind::Boolean),
+        Shape::Names => names(alloc),
+        Shape::Bits => bits(alloc),
+        Shape::Empty => Ok(TypeKind::Empty),
+        _ => Ok(TypeKind::Text),
+    }
+}
+
 fn kind_of(alloc: Global, shape: Shape) -> Result<NodeKind, NoMemory> {
     let elements = Elements {
         min: None,
@@ -40,24 +86,17 @@ fn kind_of(alloc: Global, shape: Shape) -> Result<NodeKind, NoMemory> {
     };
     match shape {
         Shape::Container => Ok(NodeKind::Container { presence: false }),
-        Shape::Text => Ok(leaf(shared(alloc, TypeKind::Text)?)),
-        Shape::Number => Ok(leaf(shared(
-            alloc,
-            TypeKind::Integer {
-                low: 0,
-                high: 65535,
-            },
-        )?)),
-        Shape::Texts => Ok(NodeKind::LeafList {
-            leaf_type: shared(alloc, TypeKind::Text)?,
-            reference: None,
-            elements,
-        }),
         Shape::List => Ok(NodeKind::List {
             keys: Numbers::new(alloc),
             uniques: Groups::new(alloc),
             elements,
         }),
+        Shape::Texts | Shape::Numbers | Shape::Wide => Ok(NodeKind::LeafList {
+            leaf_type: shared(alloc, type_of(alloc, shape)?)?,
+            reference: None,
+            elements,
+        }),
+        _ => Ok(leaf(shared(alloc, type_of(alloc, shape)?)?)),
     }
 }
 
@@ -93,7 +132,7 @@ fn put_keys(alloc: Global, schema: &mut Schema, at: usize, keys: &[usize]) -> Re
     Ok(())
 }
 
-// Interfaces by a name, routes by two keys, and a leaf-list of another module.
+// Interfaces by a name, routes by two keys, and leaf-lists and a list by keys of five types in another module.
 fn sample(alloc: Global) -> Result<Schema, NoMemory> {
     let mut schema = Schema::new(alloc, Vec::new(alloc));
     for (parent, module, name, shape) in [
@@ -105,6 +144,18 @@ fn sample(alloc: Global) -> Result<Schema, NoMemory> {
         (Some(4), "ex", "dest", Shape::Text),
         (Some(4), "ex", "id", Shape::Number),
         (None, "m", "ll", Shape::Texts),
+        (None, "m", "k", Shape::List),
+        (Some(8), "m", "dec", Shape::Decimal),
+        (Some(8), "m", "on", Shape::Flag),
+        (Some(8), "m", "mode", Shape::Names),
+        (Some(8), "m", "caps", Shape::Bits),
+        (Some(8), "m", "nil", Shape::Empty),
+        (Some(8), "m", "in", Shape::List),
+        (Some(14), "m", "k", Shape::Text),
+        (Some(14), "m", "nums", Shape::Numbers),
+        (None, "m", "_x-1.b", Shape::Container),
+        (None, "ex", "ll", Shape::Text),
+        (None, "m", "big", Shape::Wide),
     ]
     .as_slice()
     {
@@ -112,107 +163,79 @@ fn sample(alloc: Global) -> Result<Schema, NoMemory> {
     }
     put_keys(alloc, &mut schema, 1, &[2])?;
     put_keys(alloc, &mut schema, 4, &[5, 6])?;
+    put_keys(alloc, &mut schema, 8, &[9, 10, 11, 12, 13])?;
+    put_keys(alloc, &mut schema, 14, &[15])?;
     Ok(schema)
 }
 
-// RFC 7950 section 9.13.2 has such predicates; that a single quote is doubled is this project's own.
-#[test]
-fn paths_are_read_and_written(rt: HostRuntime) -> Result<(), Fail> {
-    let schema = sample(rt.alloc())?;
-    for (text, written, node) in [
-        ("/ex:sys", "/ex:sys", 0),
-        (
-            "/ex:sys/iface[name='eth0']/mtu",
-            "/ex:sys/iface[name='eth0']/mtu",
-            3,
-        ),
-        (
-            "/ex:sys/ex:iface[name=\"eth0\"]",
-            "/ex:sys/iface[name='eth0']",
-            1,
-        ),
-        (
-            "/ex:sys/iface[name='it''s']",
-            "/ex:sys/iface[name='it''s']",
-            1,
-        ),
-        (
-            "/ex:sys/iface[name=\"it's]\"]",
-            "/ex:sys/iface[name='it''s]']",
-            1,
-        ),
-        ("/ex:sys/iface[name='é']", "/ex:sys/iface[name='é']", 1),
-        ("/ex:sys/iface[name='']", "/ex:sys/iface[name='']", 1),
-        (
-            "/ex:sys/route[dest='a/b'][id='007']",
-            "/ex:sys/route[dest='a/b'][id='7']",
-            4,
-        ),
-        (
-            "/ex:sys/route[id='7'][dest='a/b']",
-            "/ex:sys/route[dest='a/b'][id='7']",
-            4,
-        ),
-        ("/m:ll[.='x']", "/m:ll[.='x']", 7),
-        (
-            "/ex:sys/iface[name='a']/name",
-            "/ex:sys/iface[name='a']/name",
-            2,
-        ),
-    ]
-    .as_slice()
-    {
-        let path = read_path(rt.alloc(), &schema, text)?;
-        let label = write_path(rt.alloc(), &schema, &path)?;
-        assert_eq!(rt; label.as_str(), *written, "{text}");
-        assert_eq!(rt; node_of(&schema, &path), Some(*node), "{text}");
+// Notes what is read of a text and written again where that isn't what is expected.
+fn note_spelled(
+    alloc: Global,
+    schema: &Schema,
+    case: &Spelled,
+    out: &mut String,
+) -> Result<(), PathFault> {
+    let path = match read_path(alloc, schema, case.0) {
+        Ok(path) => path,
+        Err(fault) => {
+            out.push_str(format!(in alloc; "{}: {fault}\n", case.0)?.as_str())?;
+            return Ok(());
+        }
+    };
+    let written = write_path(alloc, schema, &path)?;
+    if written.as_str() != case.1 || node_of(schema, &path) != Some(case.2) {
+        out.push_str(format!(in alloc; "{}: {written}\n", case.0)?.as_str())?;
+    }
+    let again = read_path(alloc, schema, written.as_str())?;
+    if write_path(alloc, schema, &again)?.as_str() != case.1 {
+        out.push_str(format!(in alloc; "{written}, again\n")?.as_str())?;
     }
     Ok(())
 }
 
-// The two faults are this project's own: a text without the form of a path, or whose predicates aren't those of its
-// nodes, is bad; a name that isn't in the schema is unknown, whatever the predicates.
+// Each of these texts spells the path whose text stands beside it, and so does that text.
+#[test]
+fn paths_are_read_and_written(rt: HostRuntime) -> Result<(), Fail> {
+    let schema = sample(rt.alloc())?;
+    let mut out = String::new(rt.alloc());
+    for table in [NAMES, QUOTED, KEYED, VALUES] {
+        for case in table {
+            note_spelled(rt.alloc(), &schema, case, &mut out)?;
+        }
+    }
+    assert_eq!(rt; out.as_str(), "");
+    Ok(())
+}
+
+// Notes what is read of a text where that isn't the fault that is expected.
+fn note_refused(
+    alloc: Global,
+    schema: &Schema,
+    text: &str,
+    fault: PathFault,
+    out: &mut String,
+) -> Result<(), NoMemory> {
+    match read_path(alloc, schema, text) {
+        Ok(_) => out.push_str(format!(in alloc; "{text}: a path\n")?.as_str())?,
+        Err(found) if found != fault => {
+            out.push_str(format!(in alloc; "{text}: {found}\n")?.as_str())?
+        }
+        Err(_) => {}
+    }
+    Ok(())
+}
+
+// Each of these texts is refused for the cause that stands beside it.
 #[test]
 fn other_texts_are_refused(rt: HostRuntime) -> Result<(), Fail> {
     let schema = sample(rt.alloc())?;
-    for (text, want) in [
-        ("", PathFault::BadText),
-        ("/", PathFault::BadText),
-        ("ex:sys", PathFault::BadText),
-        ("/sys", PathFault::BadText),
-        ("/ex:", PathFault::BadText),
-        ("/ex:sys/", PathFault::BadText),
-        ("/ex:sys ", PathFault::BadText),
-        ("/ex:1sys", PathFault::BadText),
-        ("/ex:sys/iface", PathFault::BadText),
-        ("/m:ll", PathFault::BadText),
-        ("/ex:sys[name='a']", PathFault::BadText),
-        ("/m:ll[ll='x']", PathFault::BadText),
-        ("/m:ll[.='x'][.='x']", PathFault::BadText),
-        ("/ex:sys/iface[ex:name='a']", PathFault::BadText),
-        ("/ex:sys/iface[name ='a']", PathFault::BadText),
-        ("/ex:sys/iface[name='a' ]", PathFault::BadText),
-        ("/ex:sys/iface[name='a'", PathFault::BadText),
-        ("/ex:sys/iface[name='a]", PathFault::BadText),
-        ("/ex:sys/iface[name=\"a\"\"\"]", PathFault::BadText),
-        ("/ex:sys/iface[name='a'][name='a']", PathFault::BadText),
-        ("/ex:sys/iface[mtu='1']", PathFault::BadText),
-        ("/ex:sys/route[dest='a']", PathFault::BadText),
-        ("/ex:sys/route[dest='a'][id='x']", PathFault::BadText),
-        ("/ex:sys/route[dest='a'][id='65536']", PathFault::BadText),
-        ("/ex:nope", PathFault::Unknown),
-        ("/ey:sys", PathFault::Unknown),
-        ("/ex:sys/m:iface[name='a']", PathFault::Unknown),
-        ("/ex:sys/iface/nope", PathFault::Unknown),
-        ("/ex:sys/iface[name='a']/mtu/nope", PathFault::Unknown),
-    ]
-    .as_slice()
-    {
-        match read_path(rt.alloc(), &schema, text) {
-            Ok(_) => assert!(rt; false, "{text}"),
-            Err(fault) => assert_eq!(rt; fault, *want, "{text}"),
+    let mut out = String::new(rt.alloc());
+    for table in [MISFORMED, MISKEYED, LOST] {
+        for (text, fault) in table {
+            note_refused(rt.alloc(), &schema, text, *fault, &mut out)?;
         }
     }
+    assert_eq!(rt; out.as_str(), "");
     Ok(())
 }
 
@@ -224,32 +247,93 @@ fn step(alloc: Global, module: &str, name: &str, chosen: Chosen) -> Result<Step,
     })
 }
 
-// A bare list is its name alone, and a path that the schema hasn't is written without keys (this project's own).
+#[derive(Clone, Copy)]
+enum Pick {
+    Whole,
+    Keys(&'static [i128]),
+    Entry(i128),
+}
+
+fn chosen(alloc: Global, pick: Pick) -> Result<Chosen, NoMemory> {
+    match pick {
+        Pick::Whole => Ok(Chosen::Whole),
+        Pick::Keys(numbers) => {
+            let mut keys = Vec::new(alloc);
+            for number in numbers {
+                keys.push(Value::Int(*number))?;
+            }
+            Ok(Chosen::Keys(keys))
+        }
+        Pick::Entry(number) => Ok(Chosen::Entry(Value::Int(number))),
+    }
+}
+
+fn inside(alloc: Global, module: &str, name: &str, pick: Pick) -> Result<Path, NoMemory> {
+    let mut steps = Vec::new(alloc);
+    steps.push(step(alloc, "ex", "sys", Chosen::Whole)?)?;
+    steps.push(step(alloc, module, name, chosen(alloc, pick)?)?)?;
+    Ok(Path { steps })
+}
+
+// A bare list is its name alone; of what no node names nothing is written, and keys past the values are left out (this
+// project's own).
 #[test]
 fn other_paths_are_written(rt: HostRuntime) -> Result<(), Fail> {
     let alloc = rt.alloc();
     let schema = sample(alloc)?;
-    for (module, name, with_key, want, node) in [
-        ("ex", "iface", false, "/ex:sys/iface", Some(1)),
-        ("ex", "iface", true, "/ex:sys/iface[name='1']", Some(1)),
-        ("ex", "nope", true, "/ex:sys/nope", None),
-        ("m", "iface", true, "/ex:sys/iface", None),
+    for (module, name, pick, want, node) in [
+        ("ex", "iface", Pick::Whole, "/ex:sys/iface", Some(1)),
+        (
+            "ex",
+            "iface",
+            Pick::Keys(&[1]),
+            "/ex:sys/iface[name='1']",
+            Some(1),
+        ),
+        (
+            "ex",
+            "iface",
+            Pick::Keys(&[1, 2]),
+            "/ex:sys/iface[name='1']",
+            Some(1),
+        ),
+        ("ex", "iface", Pick::Keys(&[]), "/ex:sys/iface", Some(1)),
+        (
+            "ex",
+            "iface",
+            Pick::Entry(-1),
+            "/ex:sys/iface[.='-1']",
+            Some(1),
+        ),
+        (
+            "ex",
+            "route",
+            Pick::Keys(&[1, 2]),
+            "/ex:sys/route[dest='1'][id='2']",
+            Some(4),
+        ),
+        (
+            "ex",
+            "route",
+            Pick::Keys(&[1]),
+            "/ex:sys/route[dest='1']",
+            Some(4),
+        ),
+        ("ex", "nope", Pick::Keys(&[1]), "/ex:sys/nope", None),
+        ("m", "iface", Pick::Keys(&[1]), "/ex:sys/iface", None),
+        ("m", "iface", Pick::Entry(1), "/ex:sys/iface[.='1']", None),
     ]
     .as_slice()
     {
-        let mut chosen = Chosen::Whole;
-        if *with_key {
-            let mut keys = Vec::new(alloc);
-            keys.push(Value::Int(1))?;
-            chosen = Chosen::Keys(keys);
-        }
-        let mut steps = Vec::new(alloc);
-        steps.push(step(alloc, "ex", "sys", Chosen::Whole)?)?;
-        steps.push(step(alloc, module, name, chosen)?)?;
-        let path = Path { steps };
+        let path = inside(alloc, module, name, *pick)?;
         assert_eq!(rt; write_path(alloc, &schema, &path)?.as_str(), *want);
         assert_eq!(rt; node_of(&schema, &path), *node, "{name}");
     }
+    let top = Path {
+        steps: Vec::new(alloc),
+    };
+    assert_eq!(rt; write_path(alloc, &schema, &top)?.as_str(), "");
+    assert_eq!(rt; node_of(&schema, &top), None);
     laws::one_path();
     laws::full_paths();
     Ok(())
