@@ -1,3 +1,14 @@
 pub mod Answering
 pub mod Marking
 pub mod Putting
+pub mod Elements
+pub mod Onces
+pub mod Faultless
+pub mod Naming
+pub mod Siblings
+pub mod Types
+pub mod Givens
+pub mod Shapes
+pub mod Keys
+pub mod Nodes
+pub mod Sound

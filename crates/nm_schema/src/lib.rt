@@ -2,11 +2,12 @@
 //!
 //! Stands on `nm_flaws`, which tells what is wrong with modules and what is known of them, and on `nm_tree`. The layers above
 //! rely on `build`: the first fault of the modules, or a tree of all their nodes in which everything is known, with the nodes
-//! of the marker module after them.
+//! of the marker module after them. Such a tree is sound as `nm_path` says it, which reads and writes paths by it.
 #![tactic(auto)]
 
 mod fault;
 mod kind;
+pub mod laws;
 mod list;
 mod marker;
 mod modules;

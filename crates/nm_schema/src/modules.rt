@@ -5,6 +5,8 @@ ghost use Rattle.nm_shape.specs.Holding.{AreNamed};
 ghost use Rattle.nm_shape.specs.Outline.{outline};
 ghost use Rattle.nm_leafref.specs.Known.{ArePaths};
 ghost use Rattle.nm_flaws.specs.Facts as facts;
+ghost use Rattle.nm_path.specs.Written.{IsWellNamed};
+ghost use Rattle.nm_path.specs.Sound.{IsSound};
 ghost use Rattle.nm_schema.specs.Built as spec;
 
 use crate::fault::SchemaFault;
@@ -70,8 +72,14 @@ fn answer_rows(alloc: Global, rows: &Rows) -> Result<Schema, SchemaFault>
 /// The schema tree of modules, given as their statements (RFC 7950 section 3): each node of configuration, with `uses` expanded
 /// and state left out, and after them the nodes of the module `netm-marker`. Or the first fault of the modules, in the order of
 /// modules and places.
+///
+/// The names in a tree are identifiers, and tell the nodes of one place, the keys of a list and the bits of a type apart. Each
+/// node stands at the top, or in an earlier container or list of its module. A list has keys, which are leafs in it.
+#[tactic(auto, using(crate::proofs::Sound::answer_named, crate::proofs::Sound::answer_sound))]
 pub fn build(alloc: Global, modules: &[Statement]) -> Result<Schema, SchemaFault>
-    ensures { spec.Answers modules.now result }
+    ensures answers { spec.Answers modules.now result }
+    ensures named { IfOk result (λ schema. IsWellNamed schema.nodes) }
+    ensures sound { IfOk result (λ schema. IsSound schema.nodes) }
 {
     let rows = rows_of(alloc, modules)?;
     answer_rows(alloc, &rows)

@@ -362,5 +362,6 @@ fn large(rt: HostRuntime) -> Result<(), Fail> {
         };
         assert_eq!(rt; count, *expected, "{containers}");
     }
+    laws::sound_nodes();
     Ok(())
 }

@@ -1,0 +1,13 @@
+//! Laws of the trees that modules give. Each function does nothing: its contract is the law.
+
+ghost use Rattle.std.specs.Prelude.{List, Ok};
+ghost use Rattle.nm_yang.specs.Tree.{Tree};
+ghost use Rattle.nm_tree.specs.Nodes.{SchemaTree};
+ghost use Rattle.nm_path.specs.Sound.{IsSound};
+ghost use Rattle.nm_schema.specs.Built as spec;
+
+/// The nodes of a tree that modules give: their names are identifiers and tell them apart, each stands in an earlier container or
+/// list of its module or at the top, each list has keys, which are leafs in it, and the types are those of YANG.
+pub fn sound_nodes()
+    ensures { (modules : List Tree) (t : SchemaTree) → spec.Builds modules (Ok t) → IsSound t.nodes }
+{}
