@@ -20,7 +20,7 @@ use Rattle.nm_json.specs.Laws.{Reordered, IsAmong, IsUpto, IsLeast}
 use Rattle.nm_json.proofs.Least.{least_is, no_least}
 use Rattle.nm_json.proofs.Reordering.{whole_shuffled}
 use Rattle.nm_json.proofs.FaultTexts.{tied, same_kind, same_text}
-use Rattle.nm_json.proofs.Shuffled.{Shuffled, as_before, neighbours, behind, further, equals, none_left, all_shuffled}
+use Rattle.nm_json.proofs.Shuffled.{Shuffled, as_before, neighbours, behind, further, equals, none_left, all_shuffled, back}
 
 -- ---- maps of rows
 
@@ -164,7 +164,7 @@ faults_more m (row p v) fs gs s = behind_repeated (is_some (get m p)) p (s (inse
 faults_more m (bad f) fs gs s = behind (s m)
 
 -- the faults of findings in another order are these in another order
-faults_shuffled : {fs gs : List Finding} → Shuffled fs gs → (m : Rows) → Shuffled (faults_found m fs) (faults_found m gs)
+pub faults_shuffled : {fs gs : List Finding} → Shuffled fs gs → (m : Rows) → Shuffled (faults_found m fs) (faults_found m gs)
 faults_shuffled as_before m = as_before
 faults_shuffled (neighbours {x} {y} {xs}) m = faults_two m x y xs
 faults_shuffled (behind {x} {xs} {ys} s) m = faults_more m x xs ys (λ n. faults_shuffled s n)
@@ -201,7 +201,7 @@ rows_more m (row p v) fs gs s e =
 rows_more m (bad f) fs gs s e = absurd cc
 
 -- without faults, findings in another order have the same rows
-rows_shuffled : {fs gs : List Finding} → Shuffled fs gs → (m : Rows) → faults_found m fs ≡ [] → rows_of m fs ≡ rows_of m gs
+pub rows_shuffled : {fs gs : List Finding} → Shuffled fs gs → (m : Rows) → faults_found m fs ≡ [] → rows_of m fs ≡ rows_of m gs
 rows_shuffled as_before m e = refl
 rows_shuffled (neighbours {x} {y} {xs}) m e = rows_two m x y xs e
 rows_shuffled (behind {x} {xs} {ys} s) m e = rows_more m x xs ys (λ n h. rows_shuffled s n h) e
@@ -254,12 +254,6 @@ same_answer t (Some f) (Some g) m n h e =
     λ i. Err (Bad (kind i) (text i))
 same_answer t None (Some g) m n h e = absurd h
 same_answer t (Some f) None m n h e = absurd h
-
-back : {A : Type 0} {xs ys : List A} → Shuffled xs ys → Shuffled ys xs
-back as_before = as_before
-back neighbours = neighbours
-back (behind s) = behind (back s)
-back (further ys s t) = further ys (back t) (back s)
 
 pub order_law : (t : SchemaTree) (d e : Data) → Reordered d e → config_read t d ≡ config_read t e
 order_law t d e r =

@@ -9,3 +9,11 @@ pub mod Reordering
 pub mod FaultTexts
 pub mod AnyOrder
 pub mod WrittenValues
+pub mod Tidy
+pub mod Nodes
+pub mod Keyed
+pub mod Placing
+pub mod Rounds
+pub mod Typed
+pub mod Only
+pub mod Depths

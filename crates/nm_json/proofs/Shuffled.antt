@@ -12,6 +12,13 @@ pub data Shuffled {A : Type 0} : List A → List A → Type 0 where
 pub equals : {A : Type 0} {xs ys : List A} → xs ≡ ys → Shuffled xs ys
 equals {xs = xs} e = subst (Shuffled xs) e as_before
 
+-- the other way round
+pub back : {A : Type 0} {xs ys : List A} → Shuffled xs ys → Shuffled ys xs
+back as_before = as_before
+back neighbours = neighbours
+back (behind s) = behind (back s)
+back (further ys s t) = further ys (back t) (back s)
+
 pub none_left : {A : Type 0} {xs ys : List A} → Shuffled xs ys → xs ≡ [] → ys ≡ []
 none_left as_before e = e
 none_left neighbours e = absurd cc

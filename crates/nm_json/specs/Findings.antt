@@ -94,10 +94,15 @@ name_found t above within all name = named_found t above (is_twice within name a
 
 -- ---- the keys of an entry (RFC 7950 section 7.8.2)
 
--- the value of a key, or its fault at the name of the key
+-- the fault of a key: where it lacks it is at the list, and else at the name of the key in the list (this project's own)
+abbrev pub key_fault : List PathStep → List ℕ → JsonKind → Fault
+key_fault path name MissingKey = fault_at path MissingKey
+key_fault path name kind = fault_below path name kind
+
+-- the value of a key, or its fault
 abbrev pub or_fault : List PathStep → List ℕ → Result Value JsonKind → Result Value Fault
 or_fault path name (Ok v) = Ok v
-or_fault path name (Err kind) = Err (fault_below path name kind)
+or_fault path name (Err kind) = Err (key_fault path name kind)
 
 -- a value of the type of a node, which a node that is no leaf hasn't
 abbrev pub typed_value : Option TypeOfLeaf → Data → Result Value JsonKind

@@ -6,3 +6,4 @@ pub mod Noted
 pub mod Laws
 pub mod Spots
 pub mod Writing
+pub mod Configs

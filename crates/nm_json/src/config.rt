@@ -6,6 +6,8 @@ ghost use Rattle.nm_json.specs.Findings.{whole_found};
 ghost use Rattle.nm_json.specs.Places.{place_text};
 ghost use Rattle.nm_json.specs.Noted as noted;
 ghost use Rattle.nm_json.specs.Whole as spec;
+ghost use Rattle.nm_path.specs.Sound.{HaveHeldBounds};
+ghost use Rattle.nm_json.specs.Configs.{IsConfigOf};
 
 use crate::fault::{JsonFault, JsonKind, Place};
 use crate::gathered::Gathered;
@@ -90,7 +92,8 @@ fn answer(alloc: Global, schema: &Schema, gathered: Gathered) -> Result<Config, 
 /// Members at the top are named `module:name`; below, a name with or without the module's. Faults are ordered by their
 /// places as paths are, and at one place by their kinds. At most 20,000 rows are read.
 pub fn config_of(alloc: Global, schema: &Schema, value: &Json) -> Result<Config, JsonFault>
-    ensures { spec.Gives result (spec.config_read schema.now (view value.now)) }
+    ensures given { spec.Gives result (spec.config_read schema.now (view value.now)) }
+    ensures configuration { IfOk result (λ rows. HaveHeldBounds schema.now.nodes → IsConfigOf schema.now rows) }
 {
     let mut gathered = Gathered::new(alloc);
     read_whole(alloc, schema, &mut gathered, value)?;
@@ -100,7 +103,8 @@ pub fn config_of(alloc: Global, schema: &Schema, value: &Json) -> Result<Config,
 /// The configuration of a JSON text (RFC 8259), nested at most 127 deep. Of a member that comes twice in one object the
 /// last stands.
 pub fn read_config(alloc: Global, schema: &Schema, text: &[u8]) -> Result<Config, JsonFault>
-    ensures { spec.Gives result (spec.text_read schema.now text.now) }
+    ensures given { spec.Gives result (spec.text_read schema.now text.now) }
+    ensures configuration { IfOk result (λ rows. HaveHeldBounds schema.now.nodes → IsConfigOf schema.now rows) }
 {
     match Json::from_slice(alloc, text) {
         Ok(value) => config_of(alloc, schema, &value),

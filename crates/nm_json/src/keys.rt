@@ -50,15 +50,19 @@ fn key_value(
     }
 }
 
-// A fault at a name below a path.
-fn fault_below(alloc: Global, path: &Path, name: &Label, kind: JsonKind) -> Result<Fault, NoMemory>
-    ensures { IfOk result (λ fault. fault ≡ spec.fault_below path.now name.now kind) }
+// The fault of a key: where it lacks it is at the list, and else at the name of the key.
+fn key_fault(alloc: Global, path: &Path, name: &Label, kind: JsonKind) -> Result<Fault, NoMemory>
+    ensures { IfOk result (λ fault. fault ≡ spec.key_fault path.now name.now kind) }
 {
-    let place = Place {
-        path: path.copy(alloc)?,
-        below: Some(name.copy()?),
+    let path = path.copy(alloc)?;
+    let below = match kind {
+        JsonKind::MissingKey => None,
+        _ => Some(name.copy()?),
     };
-    Ok(Fault { kind, place })
+    Ok(Fault {
+        kind,
+        place: Place { path, below },
+    })
 }
 
 // The member with a key's name, with or without the module's name.
@@ -86,7 +90,7 @@ fn node_key(
 {
     match named_value(alloc, node, members) {
         Ok(value) => Ok(value),
-        Err(Refusal::Bad(kind)) => Err(Stop::Bad(fault_below(alloc, path, &node.name, kind)?)),
+        Err(Refusal::Bad(kind)) => Err(Stop::Bad(key_fault(alloc, path, &node.name, kind)?)),
         Err(Refusal::NoMemory) => Err(Stop::NoMemory),
     }
 }

@@ -1,171 +1,23 @@
-use crate::{JsonFault, config_of, read_config, write_config};
-use nm_base::{Label, NoMemory};
+mod boxes;
+mod ex;
+mod ey;
+mod keys;
+mod tree;
+mod types;
+
+use crate::{JsonFault, ROW_LIMIT, config_of, config_value, read_config, write_config};
+use nm_base::NoMemory;
 use nm_config::Config;
 use nm_path::write_path;
-use nm_tree::{Elements, Groups, Node, NodeKind, Numbers, Schema, SharedType};
+use nm_tree::Schema;
 use nm_types::{LeafType, TypeKind, write_value};
 use serde_json::Value as Json;
 use std::alloc::Global;
 use std::test::Fail;
+use tree::sample;
 
-const ANY: Elements = Elements {
-    min: None,
-    max: None,
-};
-
-// What a node is: a container, a list, a leaf of a type, or a leaf-list of one.
-#[derive(Clone, Copy)]
-enum Shape {
-    Container,
-    Presence,
-    List,
-    Leaf(&'static str),
-    Leaves(&'static str),
-}
-
-type Row = (Option<usize>, &'static str, &'static str, Shape);
-
-// Each node after the one that it stands in.
-const NODES: &[Row] = &[
-    (None, "ex", "sys", Shape::Container),
-    (Some(0), "ex", "uplink", Shape::Leaf("string")),
-    (Some(0), "ex", "iface", Shape::List),
-    (Some(2), "ex", "name", Shape::Leaf("name")),
-    (Some(2), "ex", "mtu", Shape::Leaf("mtu")),
-    (Some(2), "ex", "address", Shape::Leaf("string")),
-    (None, "ey", "big", Shape::Leaf("int64")),
-    (None, "ey", "srv", Shape::List),
-    (Some(7), "ey", "id", Shape::Leaf("uint8")),
-    (Some(7), "ey", "port", Shape::Leaf("uint16")),
-    (None, "ez", "all", Shape::Presence),
-    (Some(10), "ez", "dec", Shape::Leaf("decimal")),
-    (Some(10), "ez", "on", Shape::Leaf("boolean")),
-    (Some(10), "ez", "mode", Shape::Leaf("names")),
-    (Some(10), "ez", "caps", Shape::Leaf("bits")),
-    (Some(10), "ez", "nil", Shape::Leaf("empty")),
-    (Some(10), "ez", "tags", Shape::Leaves("string")),
-    (Some(10), "ez", "nums", Shape::Leaves("uint16")),
-    (None, "ez", "two", Shape::List),
-    (Some(18), "ez", "a", Shape::Leaf("string")),
-    (Some(18), "ez", "b", Shape::Leaf("uint8")),
-    (Some(18), "ez", "deep", Shape::List),
-    (Some(21), "ez", "k", Shape::Leaf("string")),
-    (Some(21), "ez", "v", Shape::Leaf("boolean")),
-    (Some(18), "ez", "note", Shape::Container),
-    (Some(24), "ez", "text", Shape::Leaf("string")),
-];
-
-// The keys of the lists.
-const KEYS: &[(usize, &[usize])] = &[(2, &[3]), (7, &[8]), (18, &[20, 19]), (21, &[22])];
-
-fn integer(low: i128, high: i128) -> TypeKind {
-    TypeKind::Integer { low, high }
-}
-
-fn kind_of(alloc: Global, word: &str) -> Result<TypeKind, NoMemory> {
-    match word {
-        "mtu" | "uint16" => Ok(integer(0, 65_535)),
-        "uint8" => Ok(integer(0, 255)),
-        "int64" => Ok(integer(-9_223_372_036_854_775_808, 9_223_372_036_854_775_807)),
-        "decimal" => Ok(TypeKind::Decimal { digits: 2 }),
-        "boolean" => Ok(TypeKind::Boolean),
-        "empty" => Ok(TypeKind::Empty),
-        "names" => {
-            let mut names = Vec::new(alloc);
-            names.push(Label::new(alloc, "up")?)?;
-            names.push(Label::new(alloc, "down")?)?;
-            Ok(TypeKind::Names(names))
-        }
-        "bits" => {
-            let mut bits = Vec::new(alloc);
-            bits.push((Label::new(alloc, "read")?, 0))?;
-            bits.push((Label::new(alloc, "write")?, 1))?;
-            Ok(TypeKind::Bits(bits))
-        }
-        _ => Ok(TypeKind::Text),
-    }
-}
-
-fn leaf_type(alloc: Global, word: &str) -> Result<SharedType, NoMemory> {
-    let mut limits = Vec::new(alloc);
-    let part = match word {
-        "name" => Some((1, 32)),
-        "mtu" => Some((68, 9192)),
-        _ => None,
-    };
-    if let Some(part) = part {
-        let mut range = Vec::new(alloc);
-        range.push(part)?;
-        limits.push(range)?;
-    }
-    let kind = kind_of(alloc, word)?;
-    SharedType::new(alloc, LeafType { kind, limits })
-}
-
-fn node_kind(alloc: Global, shape: Shape) -> Result<NodeKind, NoMemory> {
-    match shape {
-        Shape::Container => Ok(NodeKind::Container { presence: false }),
-        Shape::Presence => Ok(NodeKind::Container { presence: true }),
-        Shape::List => Ok(NodeKind::List {
-            keys: Numbers::new(alloc),
-            uniques: Groups::new(alloc),
-            elements: ANY,
-        }),
-        Shape::Leaf(word) => Ok(NodeKind::Leaf {
-            leaf_type: leaf_type(alloc, word)?,
-            default: None,
-            mandatory: false,
-            reference: None,
-        }),
-        Shape::Leaves(word) => Ok(NodeKind::LeafList {
-            leaf_type: leaf_type(alloc, word)?,
-            reference: None,
-            elements: ANY,
-        }),
-    }
-}
-
-fn numbers(alloc: Global, all: &[usize]) -> Result<Numbers, NoMemory> {
-    let mut numbers = Numbers::new(alloc);
-    for number in all {
-        numbers.push(*number)?;
-    }
-    Ok(numbers)
-}
-
-fn sample(alloc: Global) -> Result<Schema, NoMemory> {
-    let mut schema = Schema::new(alloc, Vec::new(alloc));
-    for (parent, module, name, shape) in NODES {
-        let node = Node {
-            parent: *parent,
-            module: Label::new(alloc, module)?,
-            name: Label::new(alloc, name)?,
-            kind: node_kind(alloc, *shape)?,
-        };
-        if schema.takes(&node) {
-            schema.push(node)?;
-        }
-    }
-    for (list, keys) in KEYS {
-        if *list < schema.len() {
-            schema.set_keys(*list, numbers(alloc, keys)?, Groups::new(alloc));
-        }
-    }
-    Ok(schema)
-}
-
-// The rows, each its path and its value.
-fn rows_text(alloc: Global, schema: &Schema, config: &Config) -> Result<String, NoMemory> {
-    let any = leaf_type(alloc, "string")?;
-    let mut text = String::new(alloc);
-    for (path, value) in config.iter() {
-        text.push_str(write_path(alloc, schema, path)?.as_str())?;
-        text.push('=')?;
-        text.push_str(write_value(alloc, any.get(), value)?.as_str())?;
-        text.push(' ')?;
-    }
-    Ok(text)
-}
+// A name, a JSON text, and the configuration as it is printed, or the kind of its least fault and the place.
+type Case = (&'static str, &'static str, &'static str);
 
 fn fault_text(alloc: Global, fault: &JsonFault) -> Result<String, NoMemory> {
     match fault {
@@ -174,6 +26,121 @@ fn fault_text(alloc: Global, fault: &JsonFault) -> Result<String, NoMemory> {
         JsonFault::NoMemory => Err(NoMemory),
         JsonFault::Bad { kind, path } => Ok(format!(in alloc; "{kind:?} {path}")?),
     }
+}
+
+// What is read and written, or the fault.
+fn written(alloc: Global, schema: &Schema, text: &[u8]) -> Result<String, NoMemory> {
+    let answer = read_config(alloc, schema, text);
+    match &answer {
+        Ok(config) => write_config(alloc, schema, config),
+        Err(fault) => fault_text(alloc, fault),
+    }
+}
+
+// Notes what a case gives where that isn't what is expected. What is written is read and written as it is.
+fn note(alloc: Global, schema: &Schema, case: &Case, out: &mut String) -> Result<(), NoMemory> {
+    let once = written(alloc, schema, case.1.as_bytes())?;
+    if once.as_str() != case.2 {
+        let line = format!(in alloc; "{}: {once}, expected {}\n", case.0, case.2)?;
+        out.push_str(line.as_str())?;
+    }
+    if once.starts_with('{') {
+        let again = written(alloc, schema, once.as_bytes())?;
+        if again.as_str() != once.as_str() {
+            let line = format!(in alloc; "{}, again: {again}\n", case.0)?;
+            out.push_str(line.as_str())?;
+        }
+    }
+    Ok(())
+}
+
+fn note_table(
+    alloc: Global,
+    schema: &Schema,
+    table: &[Case],
+    out: &mut String,
+) -> Result<(), NoMemory> {
+    for case in table {
+        note(alloc, schema, case, out)?;
+    }
+    Ok(())
+}
+
+// What is otherwise than expected.
+fn differences(alloc: Global, tables: &[&[Case]]) -> Result<String, NoMemory> {
+    let schema = sample(alloc)?;
+    let mut out = String::new(alloc);
+    for table in tables {
+        note_table(alloc, &schema, table, &mut out)?;
+    }
+    Ok(out)
+}
+
+#[test]
+fn interfaces_are_answered(rt: HostRuntime) -> Result<(), Fail> {
+    let tables = [
+        ex::NAMES,
+        ex::ENTRIES,
+        ex::TEXTS,
+        ex::NUMBERS,
+        ex::FORMS,
+        ex::UNKNOWN,
+        ex::REPEATED,
+        ex::LEAST,
+        ex::NO_JSON,
+    ];
+    assert_eq!(rt; differences(rt.alloc(), &tables)?.as_str(), "");
+    Ok(())
+}
+
+#[test]
+fn services_are_answered(rt: HostRuntime) -> Result<(), Fail> {
+    let tables = [ey::BIG, ey::SRV, ey::PORT, ey::ORDER];
+    assert_eq!(rt; differences(rt.alloc(), &tables)?.as_str(), "");
+    Ok(())
+}
+
+#[test]
+fn each_type_is_answered(rt: HostRuntime) -> Result<(), Fail> {
+    let tables = [
+        types::INTEGERS,
+        types::RANGES,
+        types::DECIMALS,
+        types::FLAGS,
+        types::REFS,
+    ];
+    assert_eq!(rt; differences(rt.alloc(), &tables)?.as_str(), "");
+    Ok(())
+}
+
+#[test]
+fn each_kind_of_key_is_answered(rt: HostRuntime) -> Result<(), Fail> {
+    let tables = [keys::NUMBERS, keys::WORDS, keys::TWO, keys::DEEP];
+    assert_eq!(rt; differences(rt.alloc(), &tables)?.as_str(), "");
+    Ok(())
+}
+
+#[test]
+fn containers_and_leaf_lists_are_answered(rt: HostRuntime) -> Result<(), Fail> {
+    let tables = [boxes::LEAF_LISTS, boxes::CONTAINERS, boxes::ENTRIES];
+    assert_eq!(rt; differences(rt.alloc(), &tables)?.as_str(), "");
+    Ok(())
+}
+
+// The rows, each its path and its value.
+fn rows_text(alloc: Global, schema: &Schema, config: &Config) -> Result<String, NoMemory> {
+    let any = LeafType {
+        kind: TypeKind::Text,
+        limits: Vec::new(alloc),
+    };
+    let mut text = String::new(alloc);
+    for (path, value) in config.iter() {
+        text.push_str(write_path(alloc, schema, path)?.as_str())?;
+        text.push('=')?;
+        text.push_str(write_value(alloc, &any, value)?.as_str())?;
+        text.push(' ')?;
+    }
+    Ok(text)
 }
 
 fn answer_text(
@@ -187,174 +154,215 @@ fn answer_text(
     }
 }
 
-// RFC 7951 sections 4 to 6: names, containers, lists, leaf-lists and each type.
+// A row for each leaf that is no key, each entry of a list or leaf-list and each container with presence, in path order
+// (RFC 7950 sections 7.5.1, 7.6, 7.7 and 7.8; the order is this project's own).
+static ROWS: &[(&str, &str)] = &[
+    ("{}", ""),
+    ("[]", "BadForm "),
+    (
+        r#"{"ex:sys":{"ex:uplink":"eth0","iface":[{"name":"eth0","mtu":1500},{"name":"a"}]}}"#,
+        "/ex:sys/iface[name='a']= /ex:sys/iface[name='eth0']= /ex:sys/iface[name='eth0']/mtu=1500 /ex:sys/uplink=eth0 ",
+    ),
+    (
+        r#"{"ey:srv":[{"port":1,"id":70},{"ey:id":8}]}"#,
+        "/ey:srv[id='8']= /ey:srv[id='70']= /ey:srv[id='70']/port=1 ",
+    ),
+    (
+        r#"{"eb:plain":{"inner":{"flagged":{}}},"eb:here":{"none":{},"below":{}}}"#,
+        "/eb:here= /eb:here/below= /eb:plain/inner/flagged= ",
+    ),
+    (
+        r#"{"eb:nums":[2,10],"eb:l":[{"k":"it's","tags":["b","a"],"c":{"nums":[1]}}]}"#,
+        "/eb:l[k='it''s']= /eb:l[k='it''s']/c/nums[.='1']=1 /eb:l[k='it''s']/tags[.='a']=a /eb:l[k='it''s']/tags[.='b']=b /eb:nums[.='2']=2 /eb:nums[.='10']=10 ",
+    ),
+    (
+        r#"{"et:d2":"+01.50","et:flag":true,"et:mode":"down","et:caps":"read write","et:nil":[null],"et:i64":"-0"}"#,
+        "/et:caps=write read /et:d2=1.5 /et:flag=true /et:i64=0 /et:mode=down /et:nil= ",
+    ),
+    (
+        r#"{"ek:two":[{"a":"x","b":1,"deep":[{"k":"p","v":false,"last":[{"k":-1}]}]}]}"#,
+        "/ek:two[b='1'][a='x']= /ek:two[b='1'][a='x']/deep[k='p']= /ek:two[b='1'][a='x']/deep[k='p']/last[k='-1']= /ek:two[b='1'][a='x']/deep[k='p']/v=false ",
+    ),
+];
+
 #[test]
-fn configurations_are_read(rt: HostRuntime) -> Result<(), Fail> {
+fn rows_are_read(rt: HostRuntime) -> Result<(), Fail> {
     let alloc = rt.alloc();
     let schema = sample(alloc)?;
-    for (text, want) in [
-        ("{}", ""),
-        (
-            r#"{"ey:big":"-9223372036854775808"}"#,
-            "/ey:big=-9223372036854775808 ",
-        ),
-        (
-            r#"{"ex:sys":{"ex:uplink":"eth0","iface":[{"name":"eth0","mtu":1500},{"name":"a"}]}}"#,
-            "/ex:sys/iface[name='a']= /ex:sys/iface[name='eth0']= /ex:sys/iface[name='eth0']/mtu=1500 /ex:sys/uplink=eth0 ",
-        ),
-        (r#"{"ex:sys":{}}"#, ""),
-        (r#"{"ez:all":{}}"#, "/ez:all= "),
-        (
-            r#"{"ey:srv":[{"port":1,"id":7},{"ey:id":3}]}"#,
-            "/ey:srv[id='3']= /ey:srv[id='7']= /ey:srv[id='7']/port=1 ",
-        ),
-        (
-            r#"{"ez:all":{"dec":"+01.50","on":true,"mode":"down","caps":"write read","nil":[null],"tags":["b","a"],"nums":[2,10]}}"#,
-            "/ez:all= /ez:all/caps=read write /ez:all/dec=1.5 /ez:all/mode=down /ez:all/nil= /ez:all/nums[.='2']=2 /ez:all/nums[.='10']=10 /ez:all/on=true /ez:all/tags[.='a']=a /ez:all/tags[.='b']=b ",
-        ),
-        (
-            r#"{"ez:two":[{"a":"it's","b":1,"deep":[{"k":"x","v":false}],"note":{"text":"t"}}]}"#,
-            "/ez:two[b='1'][a='it''s']= /ez:two[b='1'][a='it''s']/deep[k='x']= /ez:two[b='1'][a='it''s']/deep[k='x']/v=false /ez:two[b='1'][a='it''s']/note/text=t ",
-        ),
-    ]
-    .as_slice()
-    {
-        let answer = read_config(alloc, &schema, text.as_bytes());
-        let got = answer_text(alloc, &schema, &answer)?;
-        assert_eq!(rt; got.as_str(), *want);
+    for (text, want) in ROWS {
+        let value = Json::from_str(alloc, text)?;
+        let rows = answer_text(alloc, &schema, &config_of(alloc, &schema, &value))?;
+        assert_eq!(rt; rows.as_str(), *want);
     }
     Ok(())
 }
 
-// This project's own: the least fault, by its place and its kind.
+// Any value of JSON is written as the configuration that it is.
 #[test]
-fn the_least_fault_is_answered(rt: HostRuntime) -> Result<(), Fail> {
+fn values_are_written(rt: HostRuntime) -> Result<(), Fail> {
     let alloc = rt.alloc();
     let schema = sample(alloc)?;
-    for (text, want) in [
-        ("{", "not JSON"),
-        ("[]", "BadForm "),
-        (r#"{"sys":{}}"#, "Unknown /sys"),
-        (r#"{"ey:sys":{}}"#, "Unknown /ey:sys"),
-        (r#"{"@ex:sys":{}}"#, "Unknown /@ex:sys"),
-        (
-            r#"{"ex:sys":{"ey:uplink":"a"}}"#,
-            "Unknown /ex:sys/ey:uplink",
-        ),
-        (r#"{"ex:sys":[]}"#, "BadForm /ex:sys"),
-        (r#"{"ex:sys":{"iface":{}}}"#, "BadForm /ex:sys/iface"),
-        (r#"{"ex:sys":{"iface":[1]}}"#, "BadForm /ex:sys/iface"),
-        (
-            r#"{"ex:sys":{"uplink":"a","ex:uplink":"b"}}"#,
-            "Repeated /ex:sys/uplink",
-        ),
-        (
-            r#"{"ex:sys":{"iface":[],"ex:iface":[]}}"#,
-            "Repeated /ex:sys/iface",
-        ),
-        (r#"{"ey:big":-9223372036854775808}"#, "BadForm /ey:big"),
-        (r#"{"ey:big":"9223372036854775808"}"#, "BadValue /ey:big"),
-        (
-            r#"{"ex:sys":{"iface":[{"name":"eth0","mtu":60}]}}"#,
-            "BadValue /ex:sys/iface[name='eth0']/mtu",
-        ),
-        (
-            r#"{"ex:sys":{"iface":[{"name":"eth0","mtu":"1500"}]}}"#,
-            "BadForm /ex:sys/iface[name='eth0']/mtu",
-        ),
-        (
-            r#"{"ex:sys":{"iface":[{"name":"eth0","mtu":1500.0}]}}"#,
-            "BadValue /ex:sys/iface[name='eth0']/mtu",
-        ),
-        (
-            r#"{"ex:sys":{"iface":[{"mtu":1}]}}"#,
-            "MissingKey /ex:sys/iface/name",
-        ),
-        (
-            r#"{"ex:sys":{"iface":[{"name":""}]}}"#,
-            "BadValue /ex:sys/iface/name",
-        ),
-        (
-            r#"{"ex:sys":{"iface":[{"name":"a","ex:name":"a"}]}}"#,
-            "Repeated /ex:sys/iface/name",
-        ),
-        (
-            r#"{"ex:sys":{"iface":[{"name":"a"},{"name":"a"}]}}"#,
-            "Repeated /ex:sys/iface[name='a']",
-        ),
-        (r#"{"ez:all":{"nil":null}}"#, "BadForm /ez:all/nil"),
-        (r#"{"ez:all":{"nil":[]}}"#, "BadValue /ez:all/nil"),
-        (r#"{"ez:all":{"on":"true"}}"#, "BadForm /ez:all/on"),
-        (
-            r#"{"ez:all":{"nums":[1,1]}}"#,
-            "Repeated /ez:all/nums[.='1']",
-        ),
-        (r#"{"ez:all":{"nums":[1,"2"]}}"#, "BadForm /ez:all/nums"),
-        (r#"{"ez:two":[{"deep":5}]}"#, "MissingKey /ez:two/a"),
-        (
-            r#"{"zz:a":1,"ey:big":1,"ex:sys":{"b":1,"a":1}}"#,
-            "Unknown /ex:sys/a",
-        ),
-        (r#"{"ey:big":1,"aa:a":1}"#, "Unknown /aa:a"),
-    ]
-    .as_slice()
-    {
-        let answer = read_config(alloc, &schema, text.as_bytes());
-        let got = answer_text(alloc, &schema, &answer)?;
-        assert_eq!(rt; got.as_str(), *want);
+    let text = r#"{"ey:srv":[{"port":1,"id":70},{"id":8}],"ey:big":"+5","eb:plain":{}}"#;
+    match read_config(alloc, &schema, text.as_bytes()) {
+        Ok(config) => {
+            let value = config_value(alloc, &schema, &config)?;
+            assert_eq!(rt;
+                value.to_string(alloc)?.as_str(),
+                r#"{"ey:big":"5","ey:srv":[{"id":8},{"id":70,"port":1}]}"#
+            );
+        }
+        Err(_) => assert!(rt; false, "no configuration"),
     }
     Ok(())
 }
 
-// A value that was read before.
+// Texts with bytes that are no UTF-8 (RFC 3629) are no JSON; so is a byte of zero outside of strings (RFC 8259).
 #[test]
-fn values_are_read(rt: HostRuntime) -> Result<(), Fail> {
+fn bytes_are_answered(rt: HostRuntime) -> Result<(), Fail> {
     let alloc = rt.alloc();
     let schema = sample(alloc)?;
-    let value = Json::from_str(alloc, r#"{"ey:big":"5"}"#)?;
-    let answer = config_of(alloc, &schema, &value);
-    let got = answer_text(alloc, &schema, &answer)?;
-    assert_eq!(rt; got.as_str(), "/ey:big=5 ");
+    let cases: &[(&[u8], &str)] = &[
+        (b"{\"et:text\":\"a\"}", "{\"et:text\":\"a\"}"),
+        (b"{\"et:text\":\"\xc3\xa9\"}", "{\"et:text\":\"é\"}"),
+        (b"{\"et:text\":\"\xc3\"}", "not JSON"),
+        (b"{\"et:text\":\"\xa9\"}", "not JSON"),
+        (b"{\"et:text\":\"\xc0\x80\"}", "not JSON"),
+        (b"{\"et:text\":\"\xed\xa0\x80\"}", "not JSON"),
+        (b"{\"et:text\":\"\xff\"}", "not JSON"),
+        (b"{\"et:text\":\"\xf4\x90\x80\x80\"}", "not JSON"),
+        (b"{\"\xff\":1}", "not JSON"),
+        (b"{}\x00", "not JSON"),
+        (b"\xff", "not JSON"),
+    ];
+    for (text, want) in cases {
+        assert_eq!(rt; written(alloc, &schema, text)?.as_str(), *want);
+    }
     Ok(())
 }
 
-// What is read and written again, or the fault.
-fn written(alloc: Global, schema: &Schema, text: &str) -> Result<String, NoMemory> {
-    let answer = read_config(alloc, schema, text.as_bytes());
-    match &answer {
-        Ok(config) => write_config(alloc, schema, config),
-        Err(fault) => fault_text(alloc, fault),
+// Arrays in each other, so many deep, between two texts.
+fn nested(alloc: Global, front: &str, deep: usize, back: &str) -> Result<String, NoMemory> {
+    let mut text = String::from_str(alloc, front)?;
+    for _ in 0..deep {
+        text.push('[')?;
     }
+    for _ in 0..deep {
+        text.push(']')?;
+    }
+    text.push_str(back)?;
+    Ok(text)
 }
 
-// RFC 7951 sections 4 to 6: the names of members, and each type. What is written is read and written as it is.
+// At most 127 arrays and objects stand in each other (this project's own, after what `serde_json` reads).
 #[test]
-fn configurations_are_written(rt: HostRuntime) -> Result<(), Fail> {
+fn depths_are_answered(rt: HostRuntime) -> Result<(), Fail> {
     let alloc = rt.alloc();
     let schema = sample(alloc)?;
-    for (text, want) in [
-        ("{}", "{}"),
-        (r#"{"ez:all":{}}"#, r#"{"ez:all":{}}"#),
-        (r#"{ "ey:big" : "+007" }"#, r#"{"ey:big":"7"}"#),
-        (
-            r#"{"ex:sys":{"iface":[{"ex:mtu":1500,"name":"b"},{"name":"a"}],"ex:uplink":"a"}}"#,
-            r#"{"ex:sys":{"iface":[{"name":"a"},{"mtu":1500,"name":"b"}],"uplink":"a"}}"#,
-        ),
-        (
-            r#"{"ez:all":{"dec":"-0.10","on":false,"mode":"up","caps":"write","nil":[null],"tags":["b","a"],"nums":[2,10]}}"#,
-            r#"{"ez:all":{"caps":"write","dec":"-0.1","mode":"up","nil":[null],"nums":[2,10],"on":false,"tags":["a","b"]}}"#,
-        ),
-        (
-            r#"{"ez:two":[{"a":"y","b":2},{"a":"x","b":1,"deep":[{"k":"q"},{"k":"p","v":true}],"note":{"text":"t"}}]}"#,
-            r#"{"ez:two":[{"a":"x","b":1,"deep":[{"k":"p","v":true},{"k":"q"}],"note":{"text":"t"}},{"a":"y","b":2}]}"#,
-        ),
+    for (front, deep, back, want) in [
+        ("", 127, "", "BadForm "),
+        ("", 128, "", "not JSON"),
+        (r#"{"ey:big":"#, 126, "}", "BadForm /ey:big"),
+        (r#"{"ey:big":"#, 127, "}", "not JSON"),
+        (r#"{"zz:big":"#, 126, "}", "Unknown /zz:big"),
+        (r#"{"et:nil":"#, 126, "}", "BadValue /et:nil"),
     ]
     .as_slice()
     {
-        let once = written(alloc, &schema, text)?;
-        assert_eq!(rt; once.as_str(), *want);
-        let again = written(alloc, &schema, once.as_str())?;
-        assert_eq!(rt; again.as_str(), *want);
+        let text = nested(alloc, front, *deep, back)?;
+        let got = written(alloc, &schema, text.as_bytes())?;
+        assert_eq!(rt; got.as_str(), *want, "{front} {deep}");
     }
+    Ok(())
+}
+
+// Items numbered from 0, each number between two texts, and all of them between two texts.
+fn numbered(
+    alloc: Global,
+    outer: (&str, &str),
+    inner: (&str, &str),
+    count: usize,
+) -> Result<String, NoMemory> {
+    let mut text = String::from_str(alloc, outer.0)?;
+    for number in 0..count {
+        if number > 0 {
+            text.push(',')?;
+        }
+        text.push_str(format!(in alloc; "{}{number}{}", inner.0, inner.1)?.as_str())?;
+    }
+    text.push_str(outer.1)?;
+    Ok(text)
+}
+
+fn count_text(alloc: Global, schema: &Schema, text: &str) -> Result<String, NoMemory> {
+    match read_config(alloc, schema, text.as_bytes()) {
+        Ok(config) => Ok(format!(in alloc; "{} rows", config.len())?),
+        Err(fault) => fault_text(alloc, &fault),
+    }
+}
+
+// At most 20,000 rows are taken, and a fault comes before too many of them (this project's own). A whole interface has 3 rows.
+static COUNTED: &[((&str, &str), (&str, &str), usize, &str)] = &[
+    (
+        (r#"{"ex:sys":{"iface":["#, "]}}"),
+        (r#"{"name":"eth"#, r#""}"#),
+        20_000,
+        "20000 rows",
+    ),
+    (
+        (r#"{"ex:sys":{"iface":["#, "]}}"),
+        (r#"{"name":"eth"#, r#""}"#),
+        20_001,
+        "too many",
+    ),
+    (
+        (r#"{"ex:sys":{"uplink":"eth1","iface":["#, "]}}"),
+        (r#"{"address":"a","mtu":1500,"name":"eth"#, r#""}"#),
+        6_666,
+        "19999 rows",
+    ),
+    (
+        (r#"{"ex:sys":{"iface":["#, "]}}"),
+        (r#"{"address":"a","mtu":1500,"name":"eth"#, r#""}"#),
+        6_667,
+        "too many",
+    ),
+    ((r#"{"eb:nums":["#, "]}"), ("", ""), 20_000, "20000 rows"),
+    ((r#"{"eb:nums":["#, "]}"), ("", ""), 20_001, "too many"),
+    (
+        (r#"{"eb:here":{},"eb:nums":["#, "]}"),
+        ("", ""),
+        20_000,
+        "too many",
+    ),
+    (
+        (r#"{"eb:plain":{},"eb:nums":["#, "]}"),
+        ("", ""),
+        20_000,
+        "20000 rows",
+    ),
+    (
+        (r#"{"eb:nums":["#, ",0]}"),
+        ("", ""),
+        20_001,
+        "Repeated /eb:nums[.='0']",
+    ),
+    (
+        (r#"{"zz:a":1,"eb:nums":["#, "]}"),
+        ("", ""),
+        20_001,
+        "Unknown /zz:a",
+    ),
+];
+
+#[test]
+fn rows_are_counted(rt: HostRuntime) -> Result<(), Fail> {
+    let alloc = rt.alloc();
+    let schema = sample(alloc)?;
+    for (outer, inner, count, want) in COUNTED {
+        let text = numbered(alloc, *outer, *inner, *count)?;
+        let got = count_text(alloc, &schema, text.as_str())?;
+        assert_eq!(rt; got.as_str(), *want, "{count}");
+    }
+    assert_eq!(rt; ROW_LIMIT, 20_000);
     Ok(())
 }

@@ -1,10 +1,13 @@
 //! Writing configurations.
 
-ghost use Rattle.std.specs.Prelude.{◌≡◌, ◌≤◌, IfOk, OnOk, Some, string_bytes};
+ghost use Rattle.std.specs.Prelude.{◌≡◌, ◌≤◌, IfOk, OnOk, Some, Ok, string_bytes};
 ghost use Rattle.serde_json.specs.Data.{depth};
 ghost use Rattle.serde_json.specs.Read.{read, max_depth};
 ghost use Rattle.serde_json.specs.View.{view, members_view};
 ghost use Rattle.serde_json.specs.Written.{compact_text};
+ghost use Rattle.nm_path.specs.Sound.{IsSound};
+ghost use Rattle.nm_json.specs.Whole.{config_read, text_read};
+ghost use Rattle.nm_json.specs.Configs.{IsConfigOf};
 ghost use Rattle.nm_json.specs.Writing as spec;
 
 use crate::put::put_steps;
@@ -30,10 +33,9 @@ fn put_row(
     put_steps(alloc, schema, Place::Top, &path.steps, value, members)
 }
 
-/// The JSON value of a configuration (RFC 7951 sections 4 to 6): members at the top with their module's name, entries
-/// in path order.
+// The JSON value of a configuration, row by row.
 #[tactic(auto, unfolding(crate::specs::Writing::config_data))]
-pub fn config_value(alloc: Global, schema: &Schema, config: &Config) -> Result<Json, NoMemory>
+fn whole_value(alloc: Global, schema: &Schema, config: &Config) -> Result<Json, NoMemory>
     ensures { IfOk result (λ whole. view whole ≡ spec.config_data schema.now config.now) }
 {
     let mut members = Map::new(alloc);
@@ -43,11 +45,23 @@ pub fn config_value(alloc: Global, schema: &Schema, config: &Config) -> Result<J
     Ok(Json::Object(members))
 }
 
-/// The JSON text of a configuration, without blanks.
+/// The JSON value of a configuration (RFC 7951 sections 4 to 6): members at the top with their module's name, entries
+/// in path order. Where the rows are a configuration of the schema, it is read as that configuration.
+pub fn config_value(alloc: Global, schema: &Schema, config: &Config) -> Result<Json, NoMemory>
+    ensures value { IfOk result (λ whole. view whole ≡ spec.config_data schema.now config.now) }
+    ensures same_config { IfOk result (λ whole. IsSound schema.now.nodes → IsConfigOf schema.now config.now → config_read schema.now (view whole) ≡ Ok config.now) }
+{
+    whole_value(alloc, schema, config)
+}
+
+/// The JSON text of a configuration, without blanks. Where the rows are a configuration of the schema, it is read as
+/// that configuration if arrays and objects are nested at most 127 deep.
 #[tactic(auto, using(crate::proofs::Floats::no_float))]
 pub fn write_config(alloc: Global, schema: &Schema, config: &Config) -> Result<String, NoMemory>
     ensures text { IfOk result (λ text. string_bytes text ≡ compact_text (spec.config_data schema.now config.now)) }
     ensures reads_back { IfOk result (λ text. depth (spec.config_data schema.now config.now) ≤ max_depth → read (string_bytes text) ≡ Some (spec.config_data schema.now config.now)) }
+    ensures same_config { IfOk result (λ text. IsSound schema.now.nodes → IsConfigOf schema.now config.now → depth (spec.config_data schema.now config.now) ≤ max_depth
+        → text_read schema.now (string_bytes text) ≡ Ok config.now) }
 {
     let whole = config_value(alloc, schema, config)?;
     Ok(whole.to_string(alloc)?)

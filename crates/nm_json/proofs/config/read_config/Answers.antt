@@ -4,10 +4,10 @@ use Rattle.nm_json.specs.Whole.{Gives, from_json}
 use Rattle.nm_json.proofs.Json.{json_some, json_none}
 use Rattle.nm_json.proofs.config.read_config.Goals as goal
 
-pub returns-in-Ok : goal.returns-in-Ok
-returns-in-Ok c =
-    subst (λ o. Gives c.config_of.result (from_json c.args.schema.now o)) (sym (json_some c.args.text.now (view c.in-Ok.value) c.in-Ok.ensures.ok.0 c.in-Ok.ensures.ok.1)) c.config_of.ensures
+pub returns-in-Ok-clause-given : goal.returns-in-Ok-clause-given
+returns-in-Ok-clause-given c =
+    subst (λ o. Gives c.config_of.result (from_json c.args.schema.now o)) (sym (json_some c.args.text.now (view c.in-Ok.value) c.in-Ok.ensures.ok.0 c.in-Ok.ensures.ok.1)) c.config_of.ensures.given
 
-pub returns-in-Err-2 : goal.returns-in-Err-2
-returns-in-Err-2 c =
+pub returns-in-Err-2-clause-given : goal.returns-in-Err-2-clause-given
+returns-in-Err-2-clause-given c =
     ap (from_json c.args.schema.now) (json_none c.args.text.now (c.in-Err.ensures.err (λ m. cc (c.is_memory.ensures.1 m, c.if-is_memory.false))))

@@ -3,7 +3,7 @@ use Rattle.std.specs.FinMap.{entries}
 use Rattle.serde_json.specs.Data.{no_members}
 use Rattle.serde_json.specs.View.{members_view}
 use Rattle.nm_json.specs.Writing.{put_row}
-use Rattle.nm_json.proofs.write.config_value.Given as goal
+use Rattle.nm_json.proofs.write.whole_value.Given as goal
 
 -- what is left goes on from the rows that were put
 abbrev pub invariant-loop-path : goal.invariant-loop-path
