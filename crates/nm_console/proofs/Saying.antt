@@ -1,18 +1,20 @@
 -- What is said without the bytes of the input, and what is said where there were too many.
 use Rattle.std.proofs.Common.{◌≡◌, ℕ, ◌<◌, ◌+◌, List, [], length, Option, Some, None, Result, Ok, Err, IfSome, unwrap_or, replicate, cond, refl, sym, ap, subst, arith, lt-ltb}
 use Rattle.std.proofs.lemmas.List.{length-replicate}
+use Rattle.nm_proto.specs.FlatContent.{flat_meaning}
 use Rattle.nm_reading.specs.declared.fault.ScenarioKind.TheVariants.{TooLong}
 use Rattle.nm_reading.specs.declared.fault.Fault.{Fault}
+use Rattle.nm_reading.specs.Reading.{◌>>=◌, here}
+use Rattle.nm_scenario.specs.declared.scenario.Body.{Body}
+use Rattle.nm_scenario.specs.declared.scenario.Body.TheVariants.{Flat, Yang}
 use Rattle.nm_scenario.specs.declared.scenario.Scenario.{Scenario}
-use Rattle.nm_reading.specs.Reading.{here}
-use Rattle.nm_scenario.specs.Scenario.{byte_limit, scenario_from, scenario_of, json_of}
-use Rattle.nm_scenario.specs.Checkable.{checkable_from, checkable_of}
+use Rattle.nm_scenario.specs.Scenario.{ReadsWhole, byte_limit, flat_scenario_of, flat_whole_at, json_of, parsed, whole_of}
+use Rattle.nm_world.proofs.Safe.{run_is_safe}
 use Rattle.nm_console.specs.declared.status.Status.{Status}
 use Rattle.nm_console.specs.declared.command.Command.{Command}
 use Rattle.nm_console.specs.declared.command.Command.TheVariants.{Check, Replay}
-use Rattle.nm_console.specs.Console.{Tells, Says, IsTold, IsToldOfCheck, RunsSafely, faulted, replayed, usage_told, course_of, plan_of}
-use Rattle.nm_proto.specs.FlatContent.{flat_meaning}
-use Rattle.nm_world.proofs.Safe.{run_is_safe}
+use Rattle.nm_console.specs.Refusal.{of_whole}
+use Rattle.nm_console.specs.Console.{AreFirst, Tells, Says, IsTold, RunsSafely, RunsSafelyBy, faulted, replayed, usage_told, course_of, plan_of}
 use Rattle.nm_console.proofs.Valid.{devices_valid}
 
 held : (left : Option (List ℕ)) (other : List ℕ) → IfSome left (λ told. told ≡ unwrap_or left other)
@@ -20,30 +22,37 @@ held None other = tt
 held (Some told) other = refl
 
 -- the world of every scenario is safe
-pub safe : (bytes : List ℕ) (given : Result Scenario Fault) → scenario_of bytes ≡ given → RunsSafely given
-safe bytes (Err fault) e = tt
-safe bytes (Ok s) e = record {
-  valid = devices_valid bytes s e;
-  safe = run_is_safe flat_meaning s.edits (course_of (plan_of s.changes)) s.devices (plan_of s.changes).edits (length s.operators) s.events;
+safe_by : (s : Scenario) (body : Body) → AreFirst body → RunsSafelyBy body s
+safe_by s (Flat devices edits) valid = record {
+  valid = valid;
+  safe = run_is_safe flat_meaning edits (course_of (plan_of s.changes)) devices (plan_of s.changes).edits (length s.operators) s.events;
 }
+safe_by s (Yang modules schema devices) valid = tt
+
+pub safe : (bytes : List ℕ) (given : Result Scenario Fault) → flat_scenario_of bytes ≡ given → RunsSafely given
+safe bytes (Err fault) e = tt
+safe bytes (Ok s) e = safe_by s s.body (devices_valid bytes s e)
 
 pub bytes_say : (left : Option (List ℕ)) (command : Command) (bytes : List ℕ) (status : Status) (text : List ℕ) → IfSome left (λ told. told ≡ bytes) → IsTold (Some command) bytes status text → Says left (Some command) status text
-bytes_say left command bytes status text h tells = record { bytes = bytes; held = h; tells = tells; safe = safe bytes (scenario_of bytes) refl }
+bytes_say left command bytes status text h tells = record { bytes = bytes; held = h; tells = tells; safe = safe bytes (flat_scenario_of bytes) refl }
 
 pub usage_says : (left : Option (List ℕ)) (status : Status) (text : List ℕ) → Tells usage_told status text → Says left None status text
-usage_says left status text tells = record { bytes = unwrap_or left []; held = held left []; tells = tells; safe = safe (unwrap_or left []) (scenario_of (unwrap_or left [])) refl }
+usage_says left status text tells = record { bytes = unwrap_or left []; held = held left []; tells = tells; safe = safe (unwrap_or left []) (flat_scenario_of (unwrap_or left [])) refl }
 
-pub scenario_of-too_long : (bytes : List ℕ) → byte_limit < length bytes → scenario_of bytes ≡ here TooLong
-unfolding scenario_of
-scenario_of-too_long bytes long = ap (λ t. cond t (here TooLong) (scenario_from (json_of bytes))) (lt-ltb byte_limit (length bytes) long)
+whole_of-too_long : (bytes : List ℕ) → byte_limit < length bytes → whole_of bytes ≡ here TooLong
+unfolding whole_of
+whole_of-too_long bytes long = ap (λ t. cond t (here TooLong) (parsed (json_of bytes))) (lt-ltb byte_limit (length bytes) long)
 
-checkable_of-too_long : (bytes : List ℕ) → byte_limit < length bytes → checkable_of bytes ≡ here TooLong
-unfolding checkable_of
-checkable_of-too_long bytes long = ap (λ t. cond t (here TooLong) (checkable_from (json_of bytes))) (lt-ltb byte_limit (length bytes) long)
+scenario_of-too_long : (bytes : List ℕ) → byte_limit < length bytes → flat_scenario_of bytes ≡ here TooLong
+scenario_of-too_long bytes long = ap (λ whole. whole >>= flat_whole_at) (whole_of-too_long bytes long)
 
 -- too many bytes are told of by every command in the same way
-long_told : (command : Command) (bytes : List ℕ) (status : Status) (text : List ℕ) → byte_limit < length bytes → Tells (faulted TooLong) status text → IsTold (Some command) bytes status text
-long_told Check bytes status text long tells = subst (λ read. IsToldOfCheck read status text) (sym (checkable_of-too_long bytes long)) tells
+long_told : (command : Command) (bytes : List ℕ) (status : Status) (text : List ℕ) → byte_limit < length bytes → Tells (faulted (of_whole TooLong)) status text → IsTold (Some command) bytes status text
+long_told Check bytes status text long tells = record {
+  outcome = here TooLong;
+  reads = subst (λ whole. ReadsWhole whole (here TooLong)) (sym (whole_of-too_long bytes long)) refl;
+  tells = tells;
+}
 long_told Replay bytes status text long tells = subst (λ read. Tells (replayed read) status text) (sym (scenario_of-too_long bytes long)) tells
 
 -- so many bytes
@@ -65,12 +74,12 @@ too_long : (left : Option (List ℕ)) → IfSome left (λ told. byte_limit < len
 too_long None h = length-more
 too_long (Some told) h = h
 
-pub too_long_says : (left : Option (List ℕ)) (command : Command) (status : Status) (text : List ℕ) → IfSome left (λ told. byte_limit < length told) → Tells (faulted TooLong) status text → Says left (Some command) status text
+pub too_long_says : (left : Option (List ℕ)) (command : Command) (status : Status) (text : List ℕ) → IfSome left (λ told. byte_limit < length told) → Tells (faulted (of_whole TooLong)) status text → Says left (Some command) status text
 too_long_says left command status text h tells =
     record {
       bytes = unwrap_or left more;
       held = held left more;
-      safe = safe (unwrap_or left more) (scenario_of (unwrap_or left more)) refl;
+      safe = safe (unwrap_or left more) (flat_scenario_of (unwrap_or left more)) refl;
       tells = long_told command (unwrap_or left more) status text (too_long left h) tells;
     }
 

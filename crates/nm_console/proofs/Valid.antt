@@ -11,15 +11,20 @@ use Rattle.nm_proto.specs.FlatContent.{flat_meaning}
 use Rattle.nm_reading.specs.declared.fault.Fault.{Fault}
 use Rattle.nm_reading.specs.declared.fault.Step.{Step}
 use Rattle.nm_reading.specs.declared.fault.Step.TheVariants.{Item}
+use Rattle.nm_reading.specs.declared.fault.ScenarioKind.TheVariants.{BadValue}
+use Rattle.nm_reading.specs.Reading.{◌>>=◌, here, under, required_from, required, optional, object_at, only_known, items_after, within, list_at, some_of, empty_list_at}
+use Rattle.nm_events.specs.Limits.{device_limit}
 use Rattle.nm_scenario.specs.declared.scenario.Scenario.{Scenario}
-use Rattle.nm_reading.specs.declared.fault.ScenarioKind.TheVariants.{BadValue, NotBuilt}
-use Rattle.nm_reading.specs.Reading.{◌>>=◌, here, under, required_from, required, optional, object_at, only_known, items_after, within, list_at, number_within, some_of, empty_list_at, off_at, switch_at}
-use Rattle.nm_scenario.specs.Flat.{cells_at}
-use Rattle.nm_scenario.specs.Scenario.{knows_scenario, knows_device, contents_at, changes_read_at, operators_at, events_at, put_together, valid_only, running_at, device_at, device_limit, devices_at, scenario_at, scenario_from, scenario_of, json_of}
+use Rattle.nm_scenario.specs.Changes.{changes_read_at}
+use Rattle.nm_scenario.specs.Devices.{knows_device, valid_only, running_at, device_at, devices_at}
+use Rattle.nm_scenario.specs.Flat.{cells_at, flat_edit_at}
+use Rattle.nm_scenario.specs.Head.{flat_head_at}
+use Rattle.nm_scenario.specs.Scenario.{flat_scenario, flat_scenario_at, flat_scenario_of, flat_whole_at, rest_at, whole_of}
 use Rattle.nm_world.specs.World.{IsFirst}
+use Rattle.nm_console.specs.Console.{AreFirst}
 
-abbrev AreFirst : List FlatState → Type 0
-AreFirst devices = All (IsFirst flat_meaning) devices
+abbrev Valid : List FlatState → Type 0
+Valid devices = All (IsFirst flat_meaning) devices
 
 abbrev Read : Scenario → Result Scenario Fault
 Read s = Ok s
@@ -32,7 +37,7 @@ cond_ok : {A : Type 0} (above : Bool) (kind : _) (given : Result A Fault) (value
 cond_ok true kind given value e = cc
 cond_ok false kind given value e = e
 
-one_of : (value : FlatState) → IsFirst flat_meaning value → AreFirst (value ∷ [])
+one_of : (value : FlatState) → IsFirst flat_meaning value → Valid (value ∷ [])
 one_of value is = All-cons (IsFirst flat_meaning) value [] is (All-nil (IsFirst flat_meaning))
 
 -- what was read before the rest was
@@ -74,17 +79,17 @@ device_ok before part value e =
     let same : running.first ≡ value = cc in
     subst (IsFirst flat_meaning) same (required_ok (codes "running") (get (codes "running") part) running.first running.is)
 
-items_ok : (before : List FlatState) (n : ℕ) (items : Items) (devices : List FlatState) → AreFirst before → items_after device_at before n items ≡ Ok devices → AreFirst devices
-items_ok before n no_items devices s e = let same : before ≡ devices = cc in subst AreFirst same s
+items_ok : (before : List FlatState) (n : ℕ) (items : Items) (devices : List FlatState) → Valid before → items_after device_at before n items ≡ Ok devices → Valid devices
+items_ok before n no_items devices s e = let same : before ≡ devices = cc in subst Valid same s
 items_ok before n (item part rest) devices s e =
     let value = bound (under (Item n) (device_at before part)) _ devices e in
-    let one : AreFirst (value.first ∷ []) = one_of value.first (device_ok before part value.first (under_ok (Item n) (device_at before part) value.first value.is)) in
+    let one : Valid (value.first ∷ []) = one_of value.first (device_ok before part value.first (under_ok (Item n) (device_at before part) value.first value.is)) in
     items_ok (before ++ value.first ∷ []) (n + 1) rest devices (All-append (IsFirst flat_meaning) before (value.first ∷ []) s one) value.after
 
-within_ok : (items : Items) (devices : List FlatState) → within device_limit device_at items ≡ Ok devices → AreFirst devices
+within_ok : (items : Items) (devices : List FlatState) → within device_limit device_at items ≡ Ok devices → Valid devices
 within_ok items devices e = items_ok [] 0 items devices (All-nil (IsFirst flat_meaning)) (cond_ok _ _ _ devices e)
 
-list_ok : (part : Data) (devices : List FlatState) → list_at device_limit device_at part ≡ Ok devices → AreFirst devices
+list_ok : (part : Data) (devices : List FlatState) → list_at device_limit device_at part ≡ Ok devices → Valid devices
 list_ok (array items) devices e = within_ok items devices e
 list_ok null devices e = cc
 list_ok (boolean b) devices e = cc
@@ -92,42 +97,32 @@ list_ok (number n) devices e = cc
 list_ok (string text) devices e = cc
 list_ok (object m) devices e = cc
 
-some_ok : (found devices : List FlatState) → some_of found ≡ Ok devices → AreFirst found → AreFirst devices
+some_ok : (found devices : List FlatState) → some_of found ≡ Ok devices → Valid found → Valid devices
 some_ok [] devices e s = cc
-some_ok (x ∷ xs) devices e s = let same : x ∷ xs ≡ devices = cc in subst AreFirst same s
+some_ok (x ∷ xs) devices e s = let same : x ∷ xs ≡ devices = cc in subst Valid same s
 
-devices_ok : (part : Data) (devices : List FlatState) → devices_at part ≡ Ok devices → AreFirst devices
+devices_ok : (part : Data) (devices : List FlatState) → devices_at part ≡ Ok devices → Valid devices
 unfolding devices_at
 devices_ok part devices e = let found = bound (list_at device_limit device_at part) _ devices e in some_ok found.first devices found.after (list_ok part found.first found.is)
 
-member_ok : (name : List ℕ) (part : Option Data) (devices : List FlatState) → required_from name devices_at part ≡ Ok devices → AreFirst devices
+member_ok : (name : List ℕ) (part : Option Data) (devices : List FlatState) → required_from name devices_at part ≡ Ok devices → Valid devices
 member_ok name None devices e = cc
 member_ok name (Some part) devices e = devices_ok part devices (under_ok _ (devices_at part) devices e)
 
-scenario_ok : (part : Data) (s : Scenario) → scenario_at part ≡ Ok s → AreFirst s.devices
-unfolding scenario_at
+scenario_ok : (part : Data) (s : Scenario) → flat_scenario_at part ≡ Ok s → AreFirst s.body
+unfolding flat_scenario_at
 scenario_ok part s e =
-    let whole = bound (object_at part) _ s e in
-    let version = bound (required (codes "netm") (number_within 1 1) part) _ s whole.after in
-    let contents = bound (required (codes "contents") contents_at part) _ s version.after in
-    let modules = bound (optional (codes "modules") tt (empty_list_at (here BadValue)) part) _ s contents.after in
+    let modules = bound (optional (codes "modules") tt (empty_list_at (here BadValue)) part) _ s e in
     let devices = bound (required (codes "devices") devices_at part) _ s modules.after in
     let changes = bound (optional (codes "changes") [] (changes_read_at devices.first) part) _ s devices.after in
-    let operators = bound (optional (codes "operators") [] (operators_at (length changes.first)) part) _ s changes.after in
-    let faults = bound (optional (codes "faults") tt (empty_list_at (here NotBuilt)) part) _ s operators.after in
-    let events = bound (optional (codes "events") [] (events_at (length changes.first) (length devices.first) operators.first) part) _ s faults.after in
-    let drain = bound (optional (codes "drain") tt off_at part) _ s events.after in
-    let trace = bound (optional (codes "trace") false switch_at part) _ s drain.after in
-    let known = bound (only_known knows_scenario part) _ s trace.after in
-    let last : Read (put_together devices.first changes.first operators.first events.first trace.first) ≡ Read s = known.after in
-    let same : devices.first ≡ s.devices = ap (λ (s : Scenario). s.devices) (same_Ok last) in
-    subst AreFirst same (member_ok (codes "devices") (get (codes "devices") part) devices.first devices.is)
+    let rest = bound (rest_at flat_edit_at (length changes.first) (length devices.first) part) _ s changes.after in
+    let last : Read (flat_scenario devices.first changes.first rest.first) ≡ Read s = rest.after in
+    subst (λ (s : Scenario). AreFirst s.body) (same_Ok last) (member_ok (codes "devices") (get (codes "devices") part) devices.first devices.is)
 
-from_ok : (read : Option Data) (s : Scenario) → scenario_from read ≡ Ok s → AreFirst s.devices
-from_ok None s e = cc
-from_ok (Some whole) s e = scenario_ok whole s e
+whole_ok : (part : Data) (s : Scenario) → flat_whole_at part ≡ Ok s → AreFirst s.body
+unfolding flat_whole_at
+whole_ok part s e = let front = bound (flat_head_at part) _ s e in scenario_ok part s front.after
 
 -- the devices of a scenario that was read begin with valid configurations
-pub devices_valid : (bytes : List ℕ) (s : Scenario) → scenario_of bytes ≡ Ok s → AreFirst s.devices
-unfolding scenario_of
-devices_valid bytes s e = from_ok (json_of bytes) s (cond_ok _ _ _ s e)
+pub devices_valid : (bytes : List ℕ) (s : Scenario) → flat_scenario_of bytes ≡ Ok s → AreFirst s.body
+devices_valid bytes s e = let whole = bound (whole_of bytes) flat_whole_at s e in whole_ok whole.first s whole.after

@@ -1,4 +1,5 @@
 pub mod Status
 pub mod Words
 pub mod Refusal
+pub mod Rows
 pub mod Console

@@ -1,28 +1,19 @@
-ghost use Rattle.std.specs.Prelude.{◌≡◌, [], IfOk, IsErrOf, Some, None, IsTrue, IsSome};
-ghost use Rattle.std.specs.List.{All};
+ghost use Rattle.std.specs.Prelude.{◌≡◌, IfOk, IsErrOf, Some, IsTrue, IsSome};
 ghost use Rattle.nm_io.specs.Count.{Rose};
-ghost use Rattle.nm_proto.specs.FlatContent.{flat_meaning};
-ghost use Rattle.nm_scenario.specs.Scenario.{scenario_of};
-ghost use Rattle.nm_world.specs.World.{IsFirst, run, start};
 ghost use Rattle.nm_console.specs.Words.{command_of, texts_of};
 ghost use Rattle.nm_console.specs.Status.{is_whole};
-ghost use Rattle.nm_console.specs.Console.{Answers, CutOff, IsTold, Says, Tells, course_of, devices_told, faulted, no_plan, replayed, told, usage_told, world_told};
+ghost use Rattle.nm_console.specs.Console.{Answers, CutOff, IsTold, Says, Tells, usage_told};
 
 use crate::check::check_bytes;
 use crate::command::{Command, command_of};
 use crate::refusal::USAGE;
-use crate::said::{Said, say_fault};
-use crate::status::{Status, status_for};
-use nm_base::token::token_of;
-use nm_base::{ChangeNo, Label, NoMemory};
-use nm_device::MANAGER;
+use crate::replay::replay_bytes;
+use crate::said::{Said, say_whole_fault};
+use crate::status::Status;
+use nm_base::NoMemory;
 use nm_io::{ReadAllFault, Sink, Source, read_all, write_all};
-use nm_proto::{ChangePlan, Event, FlatConfig, FlatContent, FlatEdit, Listed};
 use nm_report::text::put;
-use nm_report::{differing, reports_of, unsettled, write_devices, write_world};
-use nm_scenario::{BYTE_LIMIT, ReadError, Scenario, ScenarioKind, read_scenario};
-use nm_world::course::{is_decided, is_submitted};
-use nm_world::{Course, World};
+use nm_scenario::{BYTE_LIMIT, ScenarioKind};
 use std::alloc::Global;
 
 /// Why there is nothing to say.
@@ -109,7 +100,7 @@ fn say_input<S: Source>(alloc: Global, command: Command, input: &mut S) -> Resul
             Ok(said) => Ok(said),
             Err(_) => Err(Stop::NoMemory),
         },
-        Err(ReadAllFault::TooLong) => match say_fault(alloc, ScenarioKind::TooLong) {
+        Err(ReadAllFault::TooLong) => match say_whole_fault(alloc, ScenarioKind::TooLong) {
             Ok(said) => Ok(said),
             Err(_) => Err(Stop::NoMemory),
         },
@@ -127,132 +118,4 @@ fn say_bytes(alloc: Global, command: Command, bytes: &[u8]) -> Result<Said, NoMe
         Command::Check => check_bytes(alloc, bytes),
         Command::Replay => replay_bytes(alloc, bytes),
     }
-}
-
-// The answer of `replay` to the bytes of a scenario.
-fn replay_bytes(alloc: Global, bytes: &[u8]) -> Result<Said, NoMemory>
-    ensures { IfOk result (λ said. Tells (replayed (scenario_of bytes.now)) said.status said.text.items) }
-{
-    match read_scenario(alloc, bytes) {
-        Ok(scenario) => say_scenario(alloc, scenario),
-        Err(ReadError::Bad(fault)) => say_fault(alloc, fault.kind),
-        Err(ReadError::NoMemory) => Err(NoMemory),
-    }
-}
-
-// The answer to a scenario: its world, told as a change set's where it has one.
-fn say_scenario(alloc: Global, scenario: Scenario) -> Result<Said, NoMemory>
-    requires { All (IsFirst flat_meaning) scenario.devices }
-    ensures { IfOk result (λ said. Tells (told scenario) said.status said.text.items) }
-{
-    let Scenario {
-        devices,
-        edits,
-        mut changes,
-        operators,
-        events,
-        trace,
-    } = scenario;
-    let operators = operators.len();
-    match changes.take_first() {
-        None => {
-            let none = no_plan(alloc);
-            let world = world_of(alloc, devices, edits, &none, operators, events.as_slice())?;
-            say_devices(alloc, trace, &world)
-        }
-        Some(plan) => {
-            let world = world_of(alloc, devices, edits, &plan, operators, events.as_slice())?;
-            say_world(alloc, trace, &world)
-        }
-    }
-}
-
-// Without a change set nothing is planned.
-fn no_plan(alloc: Global) -> ChangePlan
-    ensures { result ≡ no_plan }
-{
-    ChangePlan {
-        timeout: 600,
-        edits: Listed::new(alloc),
-    }
-}
-
-// The course of change set 1.
-fn course_of(alloc: Global, plan: &ChangePlan) -> Result<Course, NoMemory>
-    ensures { IfOk result (λ course. course ≡ course_of plan.now) }
-{
-    let change = ChangeNo::new(1).unwrap();
-    Ok(Course {
-        change,
-        timeout: plan.timeout,
-        user: Label::new(alloc, MANAGER)?,
-        token: token_of(alloc, change)?,
-    })
-}
-
-// The world that the events lead to.
-fn world_of(
-    alloc: Global,
-    devices: Listed<FlatConfig>,
-    edits: Listed<FlatEdit>,
-    plan: &ChangePlan,
-    operators: usize,
-    events: &[Event],
-) -> Result<World<FlatContent>, NoMemory>
-    requires { All (IsFirst flat_meaning) devices }
-    ensures course { IfOk result (λ w. w.course ≡ course_of plan.now) }
-    ensures state { IfOk result (λ w. w.state ≡ run flat_meaning edits (course_of plan.now) (start devices plan.now.edits operators) events.now) }
-{
-    let content = FlatContent::new(alloc);
-    let course = course_of(alloc, plan)?;
-    let mut world = World::new(
-        alloc,
-        content,
-        edits,
-        devices,
-        course,
-        plan.edits.as_slice(),
-        operators,
-    )?;
-    world.run(events)?;
-    Ok(world)
-}
-
-// The text and the status of a world with a change set.
-fn say_world(alloc: Global, trace: bool, world: &World<FlatContent>) -> Result<Said, NoMemory>
-    ensures { IfOk result (λ said. Tells (world_told trace world.now.course world.now.state) said.status said.text.items) }
-{
-    let course = world.course();
-    let entries = world.entries();
-    let reports = reports_of(alloc, &course.token, world.links(), world.devices())?;
-    let differing = differing(alloc, is_decided(entries), reports.as_slice())?;
-    let unsettled = unsettled(alloc, is_submitted(entries), reports.as_slice())?;
-    let status = status_for(unsettled.as_slice(), differing.as_slice());
-    let text = write_world(
-        alloc,
-        &FlatContent::new(alloc),
-        trace,
-        world,
-        reports.as_slice(),
-        differing.as_slice(),
-        unsettled.as_slice(),
-    )?;
-    Ok(Said { status, text })
-}
-
-// The text of a world without a change set.
-fn say_devices(alloc: Global, trace: bool, world: &World<FlatContent>) -> Result<Said, NoMemory>
-    ensures { IfOk result (λ said. Tells (devices_told trace world.now.state) said.status said.text.items) }
-{
-    let text = write_devices(
-        alloc,
-        &FlatContent::new(alloc),
-        trace,
-        world.trail(),
-        world.devices(),
-    )?;
-    Ok(Said {
-        status: Status::Ok,
-        text,
-    })
 }

@@ -9,9 +9,13 @@ pub mod check;
 mod check_tests;
 pub mod command;
 pub mod console;
+#[cfg(test)]
+mod limit_tests;
 pub mod refusal;
+pub mod replay;
 #[cfg(test)]
 mod replay_tests;
+mod rows;
 pub mod said;
 pub mod status;
 #[cfg(test)]

@@ -1,10 +1,12 @@
 ghost use Rattle.std.specs.Prelude.{◌≡◌, [], IfOk};
 ghost use Rattle.nm_console.specs.Console.{Tells, faulted};
+ghost use Rattle.nm_console.specs.Refusal.{of_whole};
 
 use crate::refusal::write_fault;
 use crate::status::Status;
 use nm_base::NoMemory;
-use nm_reading::ScenarioKind;
+use nm_proto::Listed;
+use nm_reading::{Fault, ScenarioKind};
 use std::alloc::Global;
 
 /// A status and a text.
@@ -14,14 +16,25 @@ pub struct Said {
     pub text: Vec<u8>,
 }
 
-/// The answer to a scenario with a fault of this kind.
-pub fn say_fault(alloc: Global, kind: ScenarioKind) -> Result<Said, NoMemory>
-    ensures { IfOk result (λ said. Tells (faulted kind) said.status said.text.items) }
+/// The answer to a scenario with this fault.
+pub fn say_fault(alloc: Global, fault: &Fault) -> Result<Said, NoMemory>
+    ensures { IfOk result (λ said. Tells (faulted fault.now) said.status said.text.items) }
 {
     let mut text = Vec::new(alloc);
-    write_fault(&mut text, kind)?;
+    write_fault(alloc, &mut text, fault)?;
     Ok(Said {
         status: Status::Scenario,
         text,
     })
+}
+
+/// The answer to a scenario that has a fault as a whole.
+pub fn say_whole_fault(alloc: Global, kind: ScenarioKind) -> Result<Said, NoMemory>
+    ensures { IfOk result (λ said. Tells (faulted (of_whole kind)) said.status said.text.items) }
+{
+    let fault = Fault {
+        kind,
+        place: Listed::new(alloc),
+    };
+    say_fault(alloc, &fault)
 }

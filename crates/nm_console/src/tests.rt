@@ -40,14 +40,26 @@ const USAGE: &str = "usage: netm check, replay, run, make, stress, journal\n";
 // Words and inputs with the texts and statuses that docs/FORMATS.md gives.
 #[test]
 fn answers_words_and_inputs(rt: HostRuntime) -> Result<(), Fail> {
-    let cases: [(&[&str], &str, Status, &str); 10] = [
+    let cases: [(&[&str], &str, Status, &str); 12] = [
         (&["replay"], EMPTY, Status::Ok, CLEAN),
         (&["replay"], "{", Status::Scenario, "scenario not-json /\n"),
         (
             &["replay"],
             "{}",
             Status::Scenario,
-            "scenario not-built /\n",
+            "scenario missing /netm\n",
+        ),
+        (
+            &["replay"],
+            r#"{"netm":2}"#,
+            Status::Scenario,
+            "scenario bad-value /netm\n",
+        ),
+        (
+            &["replay"],
+            r#"{"netm":1,"contents":"flat","devices":[{"running":{},"x":1}]}"#,
+            Status::Scenario,
+            "scenario unknown /devices/0/x\n",
         ),
         (&[], EMPTY, Status::Usage, USAGE),
         (&["replay", "replay"], EMPTY, Status::Usage, USAGE),

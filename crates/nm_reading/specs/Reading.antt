@@ -148,3 +148,7 @@ switch_of (Some on) = Ok on
 
 unfoldable pub switch_at : Data → Result Bool Fault
 switch_at part = switch_of (as_bool part)
+
+-- a part that isn't built, whatever stands there
+unfoldable pub unbuilt_at : Data → Result (Unit {0}) Fault
+unbuilt_at part = here NotBuilt

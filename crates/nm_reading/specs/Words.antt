@@ -9,14 +9,13 @@ use Rattle.nm_reading.specs.declared.fault.Step.TheVariants.{Item}
 use Rattle.nm_reading.specs.declared.fault.Fault.{Fault}
 use Rattle.nm_reading.specs.Reading.{here, there, under, natural_of, count_of}
 
--- a list at all
-abbrev pub array_at : Data → Result (Unit {0}) Fault
-array_at (array items) = Ok tt
-array_at null = here BadValue
-array_at (boolean b) = here BadValue
-array_at (number n) = here BadValue
-array_at (string text) = here BadValue
-array_at (object m) = here BadValue
+-- a list that has a first item, whatever that is: its word stands there
+abbrev pub begun : Option Data → Result (Unit {0}) Fault
+begun None = here BadValue
+begun (Some first) = Ok tt
+
+abbrev pub begun_at : Data → Result (Unit {0}) Fault
+begun_at whole = begun (at 0 whole)
 
 -- the word of a list
 abbrev pub word_of : Data → Option (List ℕ)

@@ -5,11 +5,16 @@
 #![tactic(auto)]
 
 pub mod fault;
+pub mod pointer;
+pub mod pointer_laws;
 pub mod reader;
 pub mod values;
 pub mod words;
 
 pub use fault::{Fault, ReadError, ScenarioKind, Step};
+pub use pointer::write_place;
 
+#[cfg(test)]
+mod pointer_tests;
 #[cfg(test)]
 mod tests;

@@ -6,8 +6,8 @@ use crate::reader::{
     ItemReader, Names, Reader, optional_member, read_items, read_list, read_object,
     read_only_known, required_member, seen_from_outside,
 };
-use crate::values::{EmptyList, NumberWithin, Off, Switch, at_least_one};
-use crate::words::{argument, counted, is_word, item_count, natural_in, read_array, read_part};
+use crate::values::{EmptyList, NumberWithin, Off, Switch, Unbuilt, at_least_one};
+use crate::words::{argument, counted, is_word, item_count, natural_in, read_begun, read_part};
 use crate::{Fault, ReadError, ScenarioKind, Step};
 use nm_proto::Listed;
 use serde_json::Value;
@@ -147,7 +147,7 @@ fn lists_are_told(rt: HostRuntime) -> Result<(), Fail> {
 
 // The word `go`, a digit, and a digit that is read as a part.
 fn going(alloc: Global, whole: &Value) -> Result<u64, ReadError> {
-    read_array(alloc, whole)?;
+    read_begun(alloc, whole)?;
     if !is_word(whole, "go") {
         return Ok(item_count(whole) as u64);
     }
@@ -165,7 +165,8 @@ fn words_are_told(rt: HostRuntime) -> Result<(), Fail> {
         (r#"["go",0,2]"#, "bad-value /1"),
         (r#"["go",1,null]"#, "bad-value /2"),
         (r#"["stay",1]"#, "2"),
-        ("[]", "0"),
+        ("[7]", "1"),
+        ("[]", "bad-value /"),
         ("{}", "bad-value /"),
     ] {
         let told = told(rt.alloc(), going(rt.alloc(), &parsed(rt.alloc(), text)?))?;
@@ -178,13 +179,14 @@ fn words_are_told(rt: HostRuntime) -> Result<(), Fail> {
     Ok(())
 }
 
-// A list that has to be empty, a switch that has to be off, and a switch.
+// A list that has to be empty, a switch that has to be off, a part that isn't built, and a switch.
 fn switched(alloc: Global, whole: &Value) -> Result<u64, ReadError> {
     let list = EmptyList {
         otherwise: ScenarioKind::NotBuilt,
     };
     optional_member(alloc, whole, "list", (), &list)?;
     optional_member(alloc, whole, "off", (), &Off)?;
+    optional_member(alloc, whole, "unbuilt", (), &Unbuilt)?;
     let on = optional_member(alloc, whole, "switch", false, &Switch)?;
     Ok(u64::from(on))
 }
@@ -198,6 +200,7 @@ fn switches_are_told(rt: HostRuntime) -> Result<(), Fail> {
         (r#"{"list":0}"#, "bad-value /list"),
         (r#"{"off":true}"#, "not-built /off"),
         (r#"{"off":0}"#, "bad-value /off"),
+        (r#"{"unbuilt":[]}"#, "not-built /unbuilt"),
         (r#"{"switch":0}"#, "bad-value /switch"),
     ] {
         let told = told(rt.alloc(), switched(rt.alloc(), &parsed(rt.alloc(), text)?))?;

@@ -1,6 +1,6 @@
 ghost use Rattle.std.specs.Prelude.{◌≡◌};
 ghost use Rattle.serde_json.specs.View.{view, items_view};
-ghost use Rattle.nm_reading.specs.Reading.{Gives, here, number_within, empty_list_at, nothing_in, off_at, some_of, switch_at};
+ghost use Rattle.nm_reading.specs.Reading.{Gives, here, number_within, empty_list_at, nothing_in, off_at, some_of, switch_at, unbuilt_at};
 
 use crate::fault::{ReadError, ScenarioKind};
 use crate::reader::{Reader, fault_here};
@@ -93,6 +93,21 @@ impl Reader for Switch {
             None => fault_here(alloc, ScenarioKind::BadValue),
             Some(on) => Ok(on),
         }
+    }
+}
+
+/// A part that isn't built, whatever stands there.
+#[derive(Drop)]
+pub struct Unbuilt;
+
+impl Reader for Unbuilt {
+    type Out = ();
+
+    ghost reads = { λ _. unbuilt_at };
+
+    #[tactic(auto, unfolding(crate::specs::Reading::unbuilt_at))]
+    fn read(&self, alloc: Global, _part: &Value) -> Result<(), ReadError> {
+        fault_here(alloc, ScenarioKind::NotBuilt)
     }
 }
 

@@ -1,7 +1,7 @@
 ghost use Rattle.std.specs.Prelude.{◌≡◌, ◌≤◌, IfOk};
 ghost use Rattle.serde_json.specs.View.{view, items_view};
 ghost use Rattle.nm_reading.specs.Reading.{Gives, count_of, under};
-ghost use Rattle.nm_reading.specs.Words.{array_at, is_word, item_count, counted, natural_in, argument, part_in};
+ghost use Rattle.nm_reading.specs.Words.{begun_at, is_word, item_count, counted, natural_in, argument, part_in};
 
 use crate::fault::{ReadError, ScenarioKind, Step};
 use crate::reader::{Reader, fault_at, fault_here, seen_from_outside};
@@ -74,13 +74,13 @@ pub fn counted(alloc: Global, whole: &Value, count: usize) -> Result<(), ReadErr
     fault_here(alloc, ScenarioKind::BadValue)
 }
 
-/// A list, whatever its items.
-pub fn read_array(alloc: Global, whole: &Value) -> Result<(), ReadError>
-    ensures { Gives result (array_at (view whole.now)) }
+/// A list that has a first item, whatever that is.
+pub fn read_begun(alloc: Global, whole: &Value) -> Result<(), ReadError>
+    ensures { Gives result (begun_at (view whole.now)) }
 {
-    match whole {
-        Value::Array(_) => Ok(()),
-        _ => fault_here(alloc, ScenarioKind::BadValue),
+    match whole.get(0) {
+        None => fault_here(alloc, ScenarioKind::BadValue),
+        Some(_) => Ok(()),
     }
 }
 

@@ -5,6 +5,7 @@ use Rattle.std.specs.FinMap.{FinMap, insert, empty}
 use Rattle.serde_json.specs.Data.{Data, null, boolean, number, string, array, object, Members, no_members, member}
 use Rattle.serde_json.specs.Find.{as_u64}
 use Rattle.nm_base.specs.Decimal.{number_of}
+use Rattle.nm_proto.specs.declared.flat.FlatEdit.{FlatEdit}
 use Rattle.nm_reading.specs.declared.fault.ScenarioKind.TheVariants.{Content, TooMany}
 use Rattle.nm_reading.specs.declared.fault.Fault.{Fault}
 use Rattle.nm_reading.specs.Reading.{◌>>=◌, here, natural_of}
@@ -71,3 +72,9 @@ changes_at (boolean b) = here Content
 changes_at (number n) = here Content
 changes_at (string text) = here Content
 changes_at (array items) = here Content
+
+-- a flat edit
+unfoldable pub flat_edit_at : Data → Result FlatEdit Fault
+flat_edit_at part = do
+  changes ← changes_at part
+  Ok (record { changes = changes })

@@ -1,4 +1,6 @@
 pub mod Flat
-pub mod Requests
+pub mod Devices
+pub mod Changes
+pub mod Operators
+pub mod Head
 pub mod Scenario
-pub mod Checkable

@@ -2,13 +2,14 @@ ghost use Rattle.std.specs.Prelude.{◌≡◌, ◌+◌, ◌-◌, ◌^◌, ◌≤
 ghost use Rattle.nm_proto.specs.Flat.{flat_violation};
 ghost use Rattle.serde_json.specs.View.{view};
 ghost use Rattle.nm_reading.specs.Reading.{Gives, number_within};
-ghost use Rattle.nm_scenario.specs.Scenario.{knows_change, knows_edit, device_limit, last_device, device_within, goes_through, own_mark, edit_at, entry_at, entries_at, change_at, changes_read_at};
+ghost use Rattle.nm_events.specs.Limits.{device_limit};
+ghost use Rattle.nm_scenario.specs.Changes.{knows_change, knows_edit, last_device, device_within, goes_through, own_mark, edit_at, entry_at, entries_at, change_at, changes_read_at};
 
-use crate::devices::DEVICE_LIMIT;
-use crate::flat::read_changes;
+use crate::flat::FlatEdits;
 use crate::scenario::{ReadChange, ReadEdit};
-use crate::values::Operation;
 use nm_base::{ChangeMask, ChangeNo, DeviceNo, NoMemory};
+use nm_events::Operation;
+use nm_events::limits::{CHANGE_LIMIT, DEVICE_LIMIT};
 use nm_proto::{
     ApplyFault, CheckFault, Content, DefaultOperation, FlatConfig, FlatContent, FlatEdit, Listed,
     Marks,
@@ -21,9 +22,6 @@ use nm_reading::values::at_least_one;
 use nm_reading::{ReadError, ScenarioKind};
 use serde_json::Value;
 use std::alloc::Global;
-
-/// How many change sets a scenario may have.
-pub const CHANGE_LIMIT: usize = 64;
 
 /// How long a confirmed commit waits where nothing else is said, in seconds (RFC 6241 section 8.4.5).
 pub const DEFAULT_TIMEOUT: u32 = 600;
@@ -50,11 +48,9 @@ impl<'a> Reader for EditOf<'a> {
 
     ghost reads = { λ r. edit_at (option_copied r.running) };
 
-    #[tactic(auto, unfolding(crate::specs::Scenario::edit_at))]
+    #[tactic(auto, unfolding(crate::specs::Changes::edit_at))]
     fn read(&self, alloc: Global, part: &Value) -> Result<FlatEdit, ReadError> {
-        let edit = FlatEdit {
-            changes: read_changes(alloc, part)?,
-        };
+        let edit = FlatEdits.read(alloc, part)?;
         if goes_through(alloc, self.running, &edit)? {
             return Ok(edit);
         }
@@ -120,7 +116,7 @@ impl Reader for DeviceWithin {
 
     ghost reads = { λ r. device_within r.low r.count };
 
-    #[tactic(auto, unfolding(crate::specs::Scenario::device_within))]
+    #[tactic(auto, unfolding(crate::specs::Changes::device_within))]
     fn read(&self, alloc: Global, part: &Value) -> Result<DeviceNo, ReadError> {
         match part.as_u64() {
             Some(number) if self.low <= number && number <= self.highest() => {
@@ -163,7 +159,7 @@ impl<'a> ItemReader for Entry<'a> {
 
     ghost reads = { λ r. entry_at r.devices.now };
 
-    #[tactic(auto, unfolding(crate::specs::Scenario::entry_at))]
+    #[tactic(auto, unfolding(crate::specs::Changes::entry_at))]
     fn read(
         &self,
         alloc: Global,
@@ -215,7 +211,7 @@ impl<'a> Reader for Edits<'a> {
 
     ghost reads = { λ r. entries_at r.devices.now };
 
-    #[tactic(auto, unfolding(crate::specs::Scenario::entries_at))]
+    #[tactic(auto, unfolding(crate::specs::Changes::entries_at))]
     fn read(&self, alloc: Global, part: &Value) -> Result<Listed<ReadEdit>, ReadError> {
         let entry = Entry {
             devices: self.devices,
@@ -265,7 +261,7 @@ impl<'a> ItemReader for Change<'a> {
 
     ghost reads = { λ r. change_at r.devices.now };
 
-    #[tactic(auto, unfolding(crate::specs::Scenario::change_at))]
+    #[tactic(auto, unfolding(crate::specs::Changes::change_at))]
     fn read(
         &self,
         alloc: Global,
@@ -297,7 +293,7 @@ impl<'a> Reader for Changes<'a> {
 
     ghost reads = { λ r. changes_read_at r.devices.now };
 
-    #[tactic(auto, unfolding(crate::specs::Scenario::changes_read_at))]
+    #[tactic(auto, unfolding(crate::specs::Changes::changes_read_at))]
     fn read(&self, alloc: Global, part: &Value) -> Result<Listed<ReadChange>, ReadError> {
         let change = Change {
             devices: self.devices,

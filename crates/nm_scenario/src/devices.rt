@@ -2,9 +2,10 @@ ghost use Rattle.std.specs.Prelude.{◌≡◌};
 ghost use Rattle.serde_json.specs.View.{view};
 ghost use Rattle.nm_proto.specs.Flat.{flat_violation};
 ghost use Rattle.nm_reading.specs.Reading.{Gives};
-ghost use Rattle.nm_scenario.specs.Scenario.{knows_device, running_at, device_at, devices_at, valid_only};
+ghost use Rattle.nm_scenario.specs.Devices.{knows_device, running_at, device_at, devices_at, valid_only};
 
 use crate::flat::read_cells;
+use nm_events::limits::DEVICE_LIMIT;
 use nm_proto::{CheckFault, Content, FlatConfig, FlatContent, Listed};
 use nm_reading::reader::{
     ItemReader, Names, Reader, fault_here, read_list, read_object, read_only_known, required_member,
@@ -13,9 +14,6 @@ use nm_reading::values::at_least_one;
 use nm_reading::{ReadError, ScenarioKind};
 use serde_json::Value;
 use std::alloc::Global;
-
-/// How many devices a scenario may have.
-pub const DEVICE_LIMIT: usize = 32;
 
 /// The member `running` of a device.
 #[derive(Drop)]
@@ -26,7 +24,7 @@ impl Reader for Running {
 
     ghost reads = { λ _. running_at };
 
-    #[tactic(auto, unfolding(crate::specs::Scenario::running_at))]
+    #[tactic(auto, unfolding(crate::specs::Devices::running_at))]
     fn read(&self, alloc: Global, part: &Value) -> Result<FlatConfig, ReadError> {
         let cells = read_cells(alloc, part)?;
         only_valid(alloc, FlatConfig::new(alloc, cells))
@@ -64,7 +62,7 @@ impl ItemReader for Device {
 
     ghost reads = { λ _. device_at };
 
-    #[tactic(auto, unfolding(crate::specs::Scenario::device_at))]
+    #[tactic(auto, unfolding(crate::specs::Devices::device_at))]
     fn read(
         &self,
         alloc: Global,
@@ -87,7 +85,7 @@ impl Reader for Devices {
 
     ghost reads = { λ _. devices_at };
 
-    #[tactic(auto, unfolding(crate::specs::Scenario::devices_at))]
+    #[tactic(auto, unfolding(crate::specs::Devices::devices_at))]
     fn read(&self, alloc: Global, part: &Value) -> Result<Listed<FlatConfig>, ReadError> {
         let devices = read_list(alloc, part, DEVICE_LIMIT, &Device)?;
         at_least_one(alloc, devices)

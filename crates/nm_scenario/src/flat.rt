@@ -2,11 +2,11 @@ ghost use Rattle.std.specs.Prelude.{◌≡◌, ℕ, if◌then◌else◌, nat_lt,
 ghost use Rattle.std.specs.FinMap.{empty};
 ghost use Rattle.serde_json.specs.View.{view, members_view};
 ghost use Rattle.nm_reading.specs.Reading.{Gives, here, natural_of};
-ghost use Rattle.nm_scenario.specs.Flat.{row_limit, node_limit, key_of, change_of, or_unread, member_count, cells_after, cells_at, changes_after, changes_at};
+ghost use Rattle.nm_scenario.specs.Flat.{flat_edit_at, row_limit, node_limit, key_of, change_of, or_unread, member_count, cells_after, cells_at, changes_after, changes_at};
 
 use nm_base::read_decimal;
-use nm_proto::NumberMap;
-use nm_reading::reader::fault_here;
+use nm_proto::{FlatEdit, NumberMap};
+use nm_reading::reader::{Reader, fault_here};
 use nm_reading::{ReadError, ScenarioKind};
 use serde_json::{Map, Value};
 use std::alloc::Global;
@@ -69,8 +69,24 @@ fn read_natural(alloc: Global, part: &Value) -> Result<u64, ReadError>
     }
 }
 
-/// The changes of a flat edit.
-pub fn read_changes(alloc: Global, part: &Value) -> Result<NumberMap<Option<u64>>, ReadError>
+/// A flat edit.
+#[derive(Drop)]
+pub struct FlatEdits;
+
+impl Reader for FlatEdits {
+    type Out = FlatEdit;
+
+    ghost reads = { λ _. flat_edit_at };
+
+    #[tactic(auto, unfolding(crate::specs::Flat::flat_edit_at))]
+    fn read(&self, alloc: Global, part: &Value) -> Result<FlatEdit, ReadError> {
+        let changes = read_changes(alloc, part)?;
+        Ok(FlatEdit { changes })
+    }
+}
+
+// The changes of a flat edit.
+fn read_changes(alloc: Global, part: &Value) -> Result<NumberMap<Option<u64>>, ReadError>
     ensures { Gives result (changes_at (view part.now)) }
 {
     match part.as_object() {

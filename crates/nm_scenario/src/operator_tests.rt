@@ -174,7 +174,7 @@ fn requests_are_told(rt: HostRuntime) -> Result<(), Fail> {
         (r#"["close-session"]"#, "read"),
         ("{}", "bad-value /events/1/3"),
         (r#""open""#, "bad-value /events/1/3"),
-        ("[]", "bad-value /events/1/3/0"),
+        ("[]", "bad-value /events/1/3"),
         ("[7]", "bad-value /events/1/3/0"),
         (r#"["Open"]"#, "bad-value /events/1/3/0"),
         (r#"["copy-config",7]"#, "bad-value /events/1/3/0"),
@@ -289,7 +289,7 @@ fn unbuilt_requests_are_told(rt: HostRuntime) -> Result<(), Fail> {
 }
 
 fn read(alloc: Global, text: &str) -> Result<Scenario, Fail> {
-    match read_scenario(alloc, text.as_bytes()) {
+    match read_flat_scenario(alloc, text.as_bytes()) {
         Ok(scenario) => Ok(scenario),
         Err(_) => Err("refused".into()),
     }
@@ -326,10 +326,13 @@ fn requests_are_read(rt: HostRuntime) -> Result<(), Fail> {
     )?;
     let scenario = read(rt.alloc(), text.as_str())?;
     assert!(rt; scenario.trace);
-    assert_eq!(rt; scenario.edits.len(), 2);
-    let first = scenario.edits.get(0).ok_or("edit 0")?;
+    let Body::Flat { edits, .. } = &scenario.body else {
+        return Err("no flat contents".into());
+    };
+    assert_eq!(rt; edits.len(), 2);
+    let first = edits.get(0).ok_or("edit 0")?;
     assert_eq!(rt; first.changes.get(7), Some(Some(5)));
-    let second = scenario.edits.get(1).ok_or("edit 1")?;
+    let second = edits.get(1).ok_or("edit 1")?;
     assert_eq!(rt; second.changes.get(9), Some(None));
     for (place, number) in [(1, 0), (2, 1)] {
         let event = scenario.events.get(place).ok_or("event")?;

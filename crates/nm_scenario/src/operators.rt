@@ -1,9 +1,10 @@
 ghost use Rattle.std.specs.Prelude.{◌≡◌, Some};
 ghost use Rattle.serde_json.specs.View.{view};
 ghost use Rattle.nm_reading.specs.Reading.{Gives};
-ghost use Rattle.nm_scenario.specs.Scenario.{knows_operator, user_of, user_at, operator_at, built_beside, operators_at};
+ghost use Rattle.nm_scenario.specs.Operators.{knows_operator, user_of, user_at, operator_at, built_beside, operators_at};
 
 use nm_base::Label;
+use nm_events::limits::OPERATOR_LIMIT;
 use nm_proto::Listed;
 use nm_reading::reader::{
     ItemReader, Names, Reader, fault_here, optional_member, read_list, read_object,
@@ -13,9 +14,6 @@ use nm_reading::values::EmptyList;
 use nm_reading::{ReadError, ScenarioKind};
 use serde_json::Value;
 use std::alloc::Global;
-
-/// How many operators a scenario may have.
-pub const OPERATOR_LIMIT: usize = 16;
 
 /// How long a user's name may be, in bytes.
 pub const USER_LIMIT: usize = 64;
@@ -29,7 +27,7 @@ impl Reader for User {
 
     ghost reads = { λ _. user_at };
 
-    #[tactic(auto, unfolding(crate::specs::Scenario::user_at))]
+    #[tactic(auto, unfolding(crate::specs::Operators::user_at))]
     fn read(&self, alloc: Global, part: &Value) -> Result<Label, ReadError> {
         match part.as_str() {
             None => fault_here(alloc, ScenarioKind::BadValue),
@@ -71,7 +69,7 @@ impl ItemReader for Operator {
 
     ghost reads = { λ _. operator_at };
 
-    #[tactic(auto, unfolding(crate::specs::Scenario::operator_at))]
+    #[tactic(auto, unfolding(crate::specs::Operators::operator_at))]
     fn read(
         &self,
         alloc: Global,
@@ -100,7 +98,7 @@ impl Reader for Operators {
 
     ghost reads = { λ r. operators_at r.changes };
 
-    #[tactic(auto, unfolding(crate::specs::Scenario::operators_at))]
+    #[tactic(auto, unfolding(crate::specs::Operators::operators_at))]
     fn read(&self, alloc: Global, part: &Value) -> Result<Listed<Label>, ReadError> {
         self.none_beside(alloc, part)?;
         read_list(alloc, part, OPERATOR_LIMIT, &Operator)

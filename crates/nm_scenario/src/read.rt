@@ -1,21 +1,17 @@
-ghost use Rattle.std.specs.Prelude.{◌≡◌, ◌≤◌, ◌<◌, length, nat_lt, IfOk};
-ghost use Rattle.serde_json.specs.View.{view};
-ghost use Rattle.nm_reading.specs.Reading.{Gives};
-ghost use Rattle.nm_scenario.specs.Scenario.{knows_scenario, put_together, scenario_at, scenario_from, scenario_of, byte_limit, json_of};
+//! Reading the scenario of bytes.
 
-use crate::changes::Changes;
-use crate::devices::Devices;
-use crate::events::Events;
-use crate::numbering::{Numbered, with_event_numbers, with_numbers};
-use crate::operators::Operators;
-use crate::scenario::{ReadChange, ReadEvent, Scenario};
-use crate::values::Contents;
-use nm_base::{Label, NoMemory};
-use nm_proto::{FlatConfig, Listed};
-use nm_reading::reader::{
-    Names, fault_here, optional_member, read_object, read_only_known, required_member,
-};
-use nm_reading::values::{EmptyList, NumberWithin, Off, Switch};
+ghost use Rattle.std.specs.Prelude.{◌≡◌, IfOk, IsTrue, Ok, Err};
+ghost use Rattle.serde_json.specs.View.{view};
+ghost use Rattle.nm_reading.specs.declared.fault.Fault.{Fault as Told};
+ghost use Rattle.nm_reading.specs.declared.fault.ReadError.TheVariants.{Bad};
+ghost use Rattle.nm_reading.specs.Reading.{Gives};
+ghost use Rattle.nm_scenario.specs.Scenario.{Answers, Reads, ReadsBytes, flat_scenario_of, flat_whole_at, is_flat, json_of, parsed, whole_of};
+
+use crate::flat_scenario::read_flat;
+use crate::head::{Head, read_flat_head, read_head};
+use crate::scenario::Scenario;
+use crate::yang::read_yang;
+use nm_reading::reader::fault_here;
 use nm_reading::{ReadError, ScenarioKind};
 use serde_json::Value;
 use std::alloc::Global;
@@ -23,130 +19,73 @@ use std::alloc::Global;
 /// The greatest length of a scenario, in bytes: what is read of it stays below a gigabyte of memory.
 pub const BYTE_LIMIT: usize = 16_777_216;
 
-/// The members of a scenario.
-#[derive(Drop)]
-pub struct ScenarioNames;
-
-impl Names for ScenarioNames {
-    ghost knows = { λ _. knows_scenario };
-
-    fn knows(&self, name: &str) -> bool {
-        name == "netm"
-            || name == "contents"
-            || name == "modules"
-            || name == "devices"
-            || name == "changes"
-            || name == "operators"
-            || name == "faults"
-            || name == "events"
-            || name == "drain"
-            || name == "trace"
-    }
-}
-
 /// The scenario of bytes, or the first fault met with its kind and its place.
 ///
 /// The bytes are one JSON object (RFC 8259), nested at most 127 deep. Where an object has a name twice, its last
-/// value stands.
+/// value stands. Of YANG contents all module texts are read (RFC 7950 section 6) before the modules give a schema tree, by
+/// which the configurations of the devices are read (RFC 7951).
 pub fn read_scenario(alloc: Global, bytes: &[u8]) -> Result<Scenario, ReadError>
-    ensures { Gives result (scenario_of bytes.now) }
+    ensures read { Answers (ReadsBytes bytes.now) result }
 {
-    parse(alloc, bytes)
+    match parse(alloc, bytes) {
+        Ok(whole) => read_whole(alloc, &whole),
+        Err(error) => Err(error),
+    }
 }
 
-#[tactic(auto, unfolding(crate::specs::Scenario::scenario_of))]
-fn parse(alloc: Global, bytes: &[u8]) -> Result<Scenario, ReadError>
-    ensures { Gives result (scenario_of bytes.now) }
+/// The scenario of bytes where only flat contents are built, or the first fault met with its kind and its place: YANG
+/// contents are told at the member `contents`.
+pub fn read_flat_scenario(alloc: Global, bytes: &[u8]) -> Result<Scenario, ReadError>
+    ensures read { Gives result (flat_scenario_of bytes.now) }
+    ensures flat { IfOk result (λ scenario. IsTrue (is_flat scenario.body)) }
+{
+    match parse(alloc, bytes) {
+        Ok(whole) => read_flat_whole(alloc, &whole),
+        Err(error) => Err(error),
+    }
+}
+
+// The JSON value of bytes that may be a scenario.
+#[tactic(auto, unfolding(crate::specs::Scenario::whole_of))]
+fn parse(alloc: Global, bytes: &[u8]) -> Result<Value, ReadError>
+    ensures whole { IfOk result (λ whole. whole_of bytes.now ≡ Ok (view whole)) }
+    ensures fault { (fault : Told) → result ≡ Err (Bad fault) → whole_of bytes.now ≡ Err fault }
 {
     if bytes.len() > BYTE_LIMIT {
         return fault_here(alloc, ScenarioKind::TooLong);
     }
-    read_json(alloc, bytes)
+    parse_text(alloc, bytes)
 }
 
-fn read_json(alloc: Global, bytes: &[u8]) -> Result<Scenario, ReadError>
-    ensures { Gives result (scenario_from (json_of bytes.now)) }
+// The JSON value of bytes.
+fn parse_text(alloc: Global, bytes: &[u8]) -> Result<Value, ReadError>
+    ensures whole { IfOk result (λ whole. parsed (json_of bytes.now) ≡ Ok (view whole)) }
+    ensures fault { (fault : Told) → result ≡ Err (Bad fault) → parsed (json_of bytes.now) ≡ Err fault }
 {
     match Value::from_slice(alloc, bytes) {
-        Ok(whole) => read_whole(alloc, &whole),
+        Ok(whole) => Ok(whole),
         Err(error) if error.is_memory() => Err(ReadError::NoMemory),
         Err(_) => fault_here(alloc, ScenarioKind::NotJson),
     }
 }
 
-/// The scenario of a JSON value.
-#[tactic(auto, unfolding(crate::specs::Scenario::scenario_at))]
-pub fn read_whole(alloc: Global, whole: &Value) -> Result<Scenario, ReadError>
-    ensures { Gives result (scenario_at (view whole.now)) }
+// The scenario of a JSON value.
+fn read_whole(alloc: Global, whole: &Value) -> Result<Scenario, ReadError>
+    ensures { Answers (Reads (view whole.now)) result }
 {
-    read_object(alloc, whole)?;
-    required_member(alloc, whole, "netm", &NumberWithin { low: 1, high: 1 })?;
-    required_member(alloc, whole, "contents", &Contents)?;
-    optional_member(
-        alloc,
-        whole,
-        "modules",
-        (),
-        &EmptyList {
-            otherwise: ScenarioKind::BadValue,
-        },
-    )?;
-    let devices = required_member(alloc, whole, "devices", &Devices)?;
-    let reads = optional_member(
-        alloc,
-        whole,
-        "changes",
-        Listed::new(alloc),
-        &Changes { devices: &devices },
-    )?;
-    let operators = optional_member(
-        alloc,
-        whole,
-        "operators",
-        Listed::new(alloc),
-        &Operators {
-            changes: reads.len(),
-        },
-    )?;
-    optional_member(
-        alloc,
-        whole,
-        "faults",
-        (),
-        &EmptyList {
-            otherwise: ScenarioKind::NotBuilt,
-        },
-    )?;
-    let sizes = Events {
-        changes: reads.len(),
-        devices: devices.len(),
-        operators: &operators,
-    };
-    let events = optional_member(alloc, whole, "events", Listed::new(alloc), &sizes)?;
-    optional_member(alloc, whole, "drain", (), &Off)?;
-    let trace = optional_member(alloc, whole, "trace", false, &Switch)?;
-    read_only_known(alloc, whole, &ScenarioNames)?;
-    Ok(put_together(alloc, devices, reads, operators, events, trace)?)
+    match read_head(alloc, whole) {
+        Ok(Head::Flat) => read_flat(alloc, whole),
+        Ok(Head::Yang { modules }) => read_yang(alloc, whole, modules),
+        Err(error) => Err(error),
+    }
 }
 
-fn put_together(
-    alloc: Global,
-    devices: Listed<FlatConfig>,
-    reads: Listed<ReadChange>,
-    operators: Listed<Label>,
-    events: Listed<ReadEvent>,
-    trace: bool,
-) -> Result<Scenario, NoMemory>
-    ensures { IfOk result (λ whole. whole ≡ put_together devices reads operators events trace) }
+// The scenario of a JSON value where only flat contents are built.
+#[tactic(auto, unfolding(crate::specs::Scenario::flat_whole_at))]
+fn read_flat_whole(alloc: Global, whole: &Value) -> Result<Scenario, ReadError>
+    ensures value { Gives result (flat_whole_at (view whole.now)) }
+    ensures flat { IfOk result (λ scenario. IsTrue (is_flat scenario.body)) }
 {
-    let Numbered { changes, mut edits } = with_numbers(alloc, reads)?;
-    let events = with_event_numbers(alloc, events, &mut edits)?;
-    Ok(Scenario {
-        devices,
-        edits,
-        changes,
-        operators,
-        events,
-        trace,
-    })
+    read_flat_head(alloc, whole)?;
+    read_flat(alloc, whole)
 }

@@ -1,13 +1,15 @@
+//! What a scenario holds.
+
 use nm_base::{DeviceNo, Label};
-use nm_proto::{ChangePlan, DefaultOperation, Event, FlatConfig, FlatEdit, Listed, Request};
+use nm_config::Config;
+use nm_proto::{ChangePlan, DefaultOperation, Event, FlatConfig, FlatEdit, Listed};
+use nm_tree::Schema;
 
 /// What a scenario holds.
 #[derive(Drop)]
 pub struct Scenario {
-    /// The running configuration of each device; the first is device 1.
-    pub devices: Listed<FlatConfig>,
-    /// The edits of the change sets and then those of the events, numbered from 0 by `EditNo`.
-    pub edits: Listed<FlatEdit>,
+    /// What depends on the form of the contents.
+    pub body: Body,
     /// The change sets; the first is change set 1.
     pub changes: Listed<ChangePlan>,
     /// The users of the operators; the first is operator 1.
@@ -16,6 +18,27 @@ pub struct Scenario {
     pub events: Listed<Event>,
     /// Whether each event is told.
     pub trace: bool,
+}
+
+/// The contents of a scenario.
+#[derive(Drop)]
+pub enum Body {
+    /// Numbered cells.
+    Flat {
+        /// The running configuration of each device; the first is device 1.
+        devices: Listed<FlatConfig>,
+        /// The edits of the change sets and then those of the events, numbered from 0 by `EditNo`.
+        edits: Listed<FlatEdit>,
+    },
+    /// Data of YANG modules (RFC 7950). No edit of it is read yet.
+    Yang {
+        /// The texts of the modules, in their order.
+        modules: Listed<Label>,
+        /// The tree of the modules.
+        schema: Schema,
+        /// The running configuration of each device; the first is device 1.
+        devices: Listed<Config>,
+    },
 }
 
 /// A change set as it was read, before its edits have numbers.
@@ -31,27 +54,4 @@ pub struct ReadEdit {
     pub device: DeviceNo,
     pub default_operation: DefaultOperation,
     pub edit: FlatEdit,
-}
-
-/// What an operator asks as it was read, before its edit has a number.
-#[derive(Drop)]
-pub enum ReadRequest {
-    /// A request without an edit.
-    Known(Request),
-    WithEdit {
-        default_operation: DefaultOperation,
-        edit: FlatEdit,
-    },
-}
-
-/// An event as it was read, before its edit has a number.
-#[derive(Drop)]
-pub enum ReadEvent {
-    /// An event without a request.
-    Other(Event),
-    Asked {
-        operator: u32,
-        device: DeviceNo,
-        request: ReadRequest,
-    },
 }

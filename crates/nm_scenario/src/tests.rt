@@ -45,9 +45,9 @@ pub fn fault_text(alloc: Global, fault: &Fault) -> Result<String, AllocError> {
     Ok(text)
 }
 
-// `read`, or the first fault.
+// `read`, or the first fault, where only flat contents are built.
 pub fn told(alloc: Global, bytes: &[u8]) -> Result<String, NoMemory> {
-    match read_scenario(alloc, bytes) {
+    match read_flat_scenario(alloc, bytes) {
         Ok(_) => Ok(String::from_str(alloc, "read")?),
         Err(ReadError::Bad(fault)) => Ok(fault_text(alloc, &fault)?),
         Err(ReadError::NoMemory) => Err(NoMemory),
@@ -435,6 +435,7 @@ fn events_are_told(rt: HostRuntime) -> Result<(), Fail> {
         (r#"["round",1]"#, "bad-value /events/0"),
         (r#"["Submit",1]"#, "bad-value /events/0/0"),
         (r#"[1,1]"#, "bad-value /events/0/0"),
+        (r#"["submit",1],[]"#, "bad-value /events/1"),
         (r#"["break",1,1]"#, "not-built /events/0"),
         (r#"["lose",1,1,1]"#, "not-built /events/0"),
         (r#"["advance",1,1]"#, "not-built /events/0"),
@@ -498,7 +499,7 @@ fn scenarios_are_read(rt: HostRuntime) -> Result<(), Fail> {
         r#","changes":[{"timeout":5,"edits":[{"device":1,"edit":{"7":2}},{"device":2,"edit":{"9":null}}]}]"#;
     let events = r#","events":[["deliver",1,2,3],["answer",1,2,3,4],["round",1,9]]}"#;
     let text = format!(in rt.alloc(); "{DEVICES}{changes}{events}")?;
-    let Ok(scenario) = read_scenario(rt.alloc(), text.as_bytes()) else {
+    let Ok(scenario) = read_flat_scenario(rt.alloc(), text.as_bytes()) else {
         return Err("refused".into());
     };
     for (place, want) in [(0, (1, 2, 3, 0)), (1, (1, 2, 3, 4)), (2, (1, 0, 0, 9))] {
@@ -514,9 +515,12 @@ fn scenarios_are_read(rt: HostRuntime) -> Result<(), Fail> {
     };
     assert_eq!(rt; plan.timeout, 5);
     assert_eq!(rt; plan.edits.get(1).copied(), Some(planned));
-    let edit = scenario.edits.get(1).ok_or("edit 1")?;
+    let Body::Flat { devices, edits } = &scenario.body else {
+        return Err("no flat contents".into());
+    };
+    let edit = edits.get(1).ok_or("edit 1")?;
     assert_eq!(rt; edit.changes.get(9), Some(None));
-    let running = scenario.devices.get(0).ok_or("device 1")?;
+    let running = devices.get(0).ok_or("device 1")?;
     assert_eq!(rt; running.cells().get(7), Some(1));
     Ok(())
 }

@@ -1,143 +1,172 @@
-ghost use Rattle.std.specs.Prelude.{◌≡◌};
-ghost use Rattle.serde_json.specs.View.{view, members_view};
-ghost use Rattle.nm_yang.specs.Module.{reading};
-ghost use Rattle.nm_reading.specs.Reading.{Gives};
-ghost use Rattle.nm_scenario.specs.Checkable.{module_at, module_read, modules_at, no_rows_at, no_rows_in, unbuilt_at, yang_device_at, yang_devices_at};
+//! A scenario of YANG contents, after its head.
 
-use crate::devices::{DEVICE_LIMIT, DeviceNames};
+ghost use Rattle.std.specs.Prelude.{◌≡◌, IfOk, Ok};
+ghost use Rattle.serde_json.specs.View.{view};
+ghost use Rattle.nm_reading.specs.Reading.{Gives};
+ghost use Rattle.nm_scenario.specs.Devices.{data_at, yang_device_at, yang_devices_at};
+ghost use Rattle.nm_scenario.specs.Scenario.{Answers, ReadsYang, at_module, yang_rest_at, yang_scenario};
+
+use crate::devices::DeviceNames;
+use crate::head::{ModuleParts, ReadModule, parts_of};
+use crate::rest::{Rest, read_rest};
+use crate::scenario::{Body, Scenario};
+use nm_base::{Label, NoMemory};
+use nm_config::Config;
+use nm_events::limits::DEVICE_LIMIT;
+use nm_events::with_event_numbers;
+use nm_json::{JsonFault, config_of};
 use nm_proto::Listed;
 use nm_reading::reader::{
-    ItemReader, Reader, fault_here, read_list, read_object, read_only_known, required_member,
+    ItemReader, Reader, fault_at, fault_here, optional_member, read_list, read_object,
+    read_only_known, required_member, seen_from_outside,
 };
-use nm_reading::values::at_least_one;
-use nm_reading::{ReadError, ScenarioKind};
-use nm_yang::{Statement, YangFault, read_module};
-use serde_json::{Map, Value};
+use nm_reading::values::{EmptyList, Unbuilt, at_least_one};
+use nm_reading::{ReadError, ScenarioKind, Step};
+use nm_schema::{SchemaFault, build};
+use nm_tree::Schema;
+use serde_json::Value;
 use std::alloc::Global;
 
-/// How many modules a scenario may have: their schema trees stay below what one device's configuration may take.
-pub const MODULE_LIMIT: usize = 16;
-
-/// One element of the member `modules`: the text of a module.
+/// The member `running` of a device: data by a schema.
 #[derive(Drop)]
-struct ModuleText;
+struct Running<'a> {
+    schema: &'a Schema,
+}
 
-impl ItemReader for ModuleText {
-    type Out = Statement;
+impl<'a> Reader for Running<'a> {
+    type Out = Config;
 
-    ghost reads = { λ _. module_at };
+    ghost reads = { λ r. data_at r.schema.now };
 
-    #[tactic(auto, unfolding(crate::specs::Checkable::module_at))]
-    fn read(
-        &self,
-        alloc: Global,
-        _before: &Listed<Statement>,
-        part: &Value,
-    ) -> Result<Statement, ReadError> {
-        match part.as_str() {
-            None => fault_here(alloc, ScenarioKind::BadValue),
-            Some(text) => read_text(alloc, text),
+    #[tactic(auto, unfolding(crate::specs::Devices::data_at))]
+    fn read(&self, alloc: Global, part: &Value) -> Result<Config, ReadError> {
+        match config_of(alloc, self.schema, part) {
+            Ok(config) => Ok(config),
+            Err(JsonFault::TooManyRows) => fault_here(alloc, ScenarioKind::TooMany),
+            Err(JsonFault::NoMemory) => Err(ReadError::NoMemory),
+            Err(JsonFault::Bad { .. }) => fault_here(alloc, ScenarioKind::Content),
+            Err(JsonFault::NotJson) => fault_here(alloc, ScenarioKind::Content),
         }
     }
-}
-
-fn read_text(alloc: Global, text: &str) -> Result<Statement, ReadError>
-    ensures { Gives result (module_read (reading text.now)) }
-{
-    match read_module(alloc, text.as_bytes()) {
-        Ok(statement) => Ok(statement),
-        Err(YangFault::Bad { .. }) => fault_here(alloc, ScenarioKind::Yang),
-        Err(YangFault::NoMemory) => Err(ReadError::NoMemory),
-    }
-}
-
-/// The member `modules`.
-#[derive(Drop)]
-pub struct Modules;
-
-impl Reader for Modules {
-    type Out = Listed<Statement>;
-
-    ghost reads = { λ _. modules_at };
-
-    #[tactic(auto, unfolding(crate::specs::Checkable::modules_at))]
-    fn read(&self, alloc: Global, part: &Value) -> Result<Listed<Statement>, ReadError> {
-        read_list(alloc, part, MODULE_LIMIT, &ModuleText)
-    }
-}
-
-/// The member `running` of a device, which has to be empty.
-#[derive(Drop)]
-struct NoRows;
-
-impl Reader for NoRows {
-    type Out = ();
-
-    ghost reads = { λ _. no_rows_at };
-
-    #[tactic(auto, unfolding(crate::specs::Checkable::no_rows_at))]
-    fn read(&self, alloc: Global, part: &Value) -> Result<(), ReadError> {
-        match part.as_object() {
-            None => fault_here(alloc, ScenarioKind::Content),
-            Some(members) => only_empty(alloc, members),
-        }
-    }
-}
-
-#[tactic(auto, using(crate::proofs::Counts::counts))]
-fn only_empty(alloc: Global, members: &Map<String, Value>) -> Result<(), ReadError>
-    ensures { Gives result (no_rows_in (members_view members.now.entries)) }
-{
-    if members.len() == 0 {
-        return Ok(());
-    }
-    fault_here(alloc, ScenarioKind::NotBuilt)
 }
 
 /// One element of the member `devices`.
 #[derive(Drop)]
-struct YangDevice;
+struct Device<'a> {
+    schema: &'a Schema,
+}
 
-impl ItemReader for YangDevice {
-    type Out = ();
+impl<'a> ItemReader for Device<'a> {
+    type Out = Config;
 
-    ghost reads = { λ _. yang_device_at };
+    ghost reads = { λ r. yang_device_at r.schema.now };
 
-    #[tactic(auto, unfolding(crate::specs::Checkable::yang_device_at))]
-    fn read(&self, alloc: Global, _before: &Listed<()>, part: &Value) -> Result<(), ReadError> {
+    #[tactic(auto, unfolding(crate::specs::Devices::yang_device_at))]
+    fn read(
+        &self,
+        alloc: Global,
+        _before: &Listed<Config>,
+        part: &Value,
+    ) -> Result<Config, ReadError> {
         read_object(alloc, part)?;
-        required_member(alloc, part, "running", &NoRows)?;
-        read_only_known(alloc, part, &DeviceNames)
+        let reader = Running {
+            schema: self.schema,
+        };
+        let running = required_member(alloc, part, "running", &reader)?;
+        read_only_known(alloc, part, &DeviceNames)?;
+        Ok(running)
     }
 }
 
-/// The member `devices`: how many there are.
+/// The member `devices`.
 #[derive(Drop)]
-pub struct YangDevices;
+struct Devices<'a> {
+    schema: &'a Schema,
+}
 
-impl Reader for YangDevices {
-    type Out = usize;
+impl<'a> Reader for Devices<'a> {
+    type Out = Listed<Config>;
 
-    ghost reads = { λ _. yang_devices_at };
+    ghost reads = { λ r. yang_devices_at r.schema.now };
 
-    #[tactic(auto, unfolding(crate::specs::Checkable::yang_devices_at))]
-    fn read(&self, alloc: Global, part: &Value) -> Result<usize, ReadError> {
-        let devices = read_list(alloc, part, DEVICE_LIMIT, &YangDevice)?;
-        Ok(at_least_one(alloc, devices)?.len())
+    #[tactic(auto, unfolding(crate::specs::Devices::yang_devices_at))]
+    fn read(&self, alloc: Global, part: &Value) -> Result<Listed<Config>, ReadError> {
+        let device = Device {
+            schema: self.schema,
+        };
+        let devices = read_list(alloc, part, DEVICE_LIMIT, &device)?;
+        at_least_one(alloc, devices)
     }
 }
 
-/// A member that isn't built.
-#[derive(Drop)]
-pub struct Unbuilt;
-
-impl Reader for Unbuilt {
-    type Out = ();
-
-    ghost reads = { λ _. unbuilt_at };
-
-    #[tactic(auto, unfolding(crate::specs::Checkable::unbuilt_at))]
-    fn read(&self, alloc: Global, _part: &Value) -> Result<(), ReadError> {
-        fault_here(alloc, ScenarioKind::NotBuilt)
+/// The scenario of YANG contents of a JSON value whose head, with these modules, has been read.
+pub fn read_yang(
+    alloc: Global,
+    whole: &Value,
+    modules: Listed<ReadModule>,
+) -> Result<Scenario, ReadError>
+    ensures { Answers (ReadsYang (view whole.now) modules) result }
+{
+    let ModuleParts { texts, statements } = parts_of(alloc, modules)?;
+    match build(alloc, statements.as_slice()) {
+        Ok(schema) => read_built(alloc, whole, texts, schema),
+        Err(SchemaFault::Flawed { module: number, .. }) => fault_in(alloc, number),
+        Err(SchemaFault::TooLarge { module: number, .. }) => fault_in(alloc, number),
+        Err(SchemaFault::NoMemory) => Err(ReadError::NoMemory),
     }
+}
+
+// A fault of the module of a number.
+fn fault_in<T>(alloc: Global, number: usize) -> Result<T, ReadError>
+    ensures { Gives result (at_module number) }
+{
+    let step = Step::Name(Label::new(alloc, "modules")?);
+    let fault: Result<T, ReadError> = fault_at(alloc, ScenarioKind::Schema, Step::Item(number));
+    match fault {
+        Ok(value) => Ok(value),
+        Err(error) => seen_from_outside(error, step),
+    }
+}
+
+// What follows modules that gave a tree.
+#[tactic(auto, unfolding(crate::specs::Scenario::yang_rest_at))]
+fn read_built(
+    alloc: Global,
+    whole: &Value,
+    texts: Listed<Label>,
+    schema: Schema,
+) -> Result<Scenario, ReadError>
+    ensures { Gives result (yang_rest_at schema texts (view whole.now)) }
+{
+    let devices = required_member(alloc, whole, "devices", &Devices { schema: &schema })?;
+    let none = EmptyList {
+        otherwise: ScenarioKind::NotBuilt,
+    };
+    optional_member(alloc, whole, "changes", (), &none)?;
+    let rest = read_rest(alloc, whole, 0, devices.len(), &Unbuilt)?;
+    Ok(put_together(alloc, texts, schema, devices, rest)?)
+}
+
+fn put_together(
+    alloc: Global,
+    modules: Listed<Label>,
+    schema: Schema,
+    devices: Listed<Config>,
+    rest: Rest<()>,
+) -> Result<Scenario, NoMemory>
+    ensures { IfOk result (λ scenario. scenario ≡ yang_scenario modules schema devices rest) }
+{
+    let mut edits = Listed::new(alloc);
+    let events = with_event_numbers(alloc, rest.events, &mut edits)?;
+    Ok(Scenario {
+        body: Body::Yang {
+            modules,
+            schema,
+            devices,
+        },
+        changes: Listed::new(alloc),
+        operators: rest.operators,
+        events,
+        trace: rest.trace,
+    })
 }

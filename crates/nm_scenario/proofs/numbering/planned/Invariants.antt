@@ -1,5 +1,5 @@
 use Rattle.std.proofs.Common.{◌≡◌, ◌++◌, ◌+◌, drop}
-use Rattle.nm_scenario.specs.Scenario.{planned_from}
+use Rattle.nm_scenario.specs.Changes.{planned_from}
 use Rattle.nm_scenario.proofs.numbering.planned.Given as goal
 
 -- what was planned and what is left make the whole

@@ -1,5 +1,5 @@
 use Rattle.std.proofs.Common.{◌≡◌, ◌++◌, length}
-use Rattle.nm_scenario.specs.Scenario.{plans_from, edits_of}
+use Rattle.nm_scenario.specs.Changes.{plans_from, edits_of}
 use Rattle.nm_scenario.proofs.numbering.with_numbers.Given as goal
 
 -- what was numbered and what is left make the whole

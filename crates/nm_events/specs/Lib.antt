@@ -1,0 +1,4 @@
+pub mod Limits
+pub mod Requests
+pub mod Events
+pub mod Numbered

@@ -1,0 +1,20 @@
+-- How many of everything a scenario may have (this project's own).
+use Rattle.std.specs.Prelude.{ℕ}
+
+abbrev pub device_limit : ℕ
+device_limit = 32
+
+-- the greatest number of a change set
+abbrev pub change_limit : ℕ
+change_limit = 64
+
+abbrev pub operator_limit : ℕ
+operator_limit = 16
+
+-- elementary events
+abbrev pub event_limit : ℕ
+event_limit = 100000
+
+-- the turns of one round
+abbrev pub turn_limit : ℕ
+turn_limit = 1000
