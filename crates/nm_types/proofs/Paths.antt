@@ -1,10 +1,10 @@
 -- The order of paths by their parts.
-use Rattle.std.proofs.Common.{◌≡◌, ℕ, ◌<◌, ◌-◌, List, [], ◌∷◌, length, get_or, take, drop, refl, sym, arith, ◌⊎◌, inl, inr}
+use Rattle.std.proofs.Common.{◌≡◌, ℕ, ◌<◌, ◌-◌, List, [], ◌∷◌, length, get_or, take, drop, ◌++◌, refl, sym, arith, Ordering, ◌⊎◌, inl, inr}
 use Rattle.std.proofs.lemmas.List.{take_all}
 use Rattle.std.proofs.lemmas.Bool.Decides.{nat_tests}
 use Rattle.std.specs.Ordering.{ordering_then, nat_cmp}
 use Rattle.std.specs.Cmp.Lexicographic.{slice_cmp}
-use Rattle.std.specs.declared.cmp.Ordering.TheVariants.{Less, Greater}
+use Rattle.std.specs.declared.cmp.Ordering.TheVariants.{Less, Equal, Greater}
 use Rattle.nm_types.specs.Path.{PathStep, at_top, printed_cmp, step_cmp, path_cmp}
 use Rattle.nm_types.specs.PathLaws.{path_cmp-cons}
 
@@ -32,3 +32,21 @@ path_cmp-parts (x ∷ xs) (y ∷ ys) s t a b p q =
     let g : s ≡ x = p in
     let h : t ≡ y = q in
     rw (g, h, e, f) (sym (path_cmp-cons x y xs ys))
+
+-- texts with one beginning are in the order of what follows
+pub slice_cmp-same_front : (p xs ys : List ℕ) → slice_cmp nat_cmp (p ++ xs) (p ++ ys) ≡ slice_cmp nat_cmp xs ys
+slice_cmp-same_front [] xs ys = refl
+slice_cmp-same_front (n ∷ p) xs ys =
+    let e : nat_cmp n n ≡ Equal = grind (arith, nat_tests) in
+    rw e (slice_cmp-same_front p xs ys)
+
+-- where two orders stand one after the other, the second decides what is equal to the first, and the first the rest
+pub decided_later : (o p q : Ordering) → o ≡ Equal → ordering_then o p ≡ q → p ≡ q
+decided_later Less p q h e = cc
+decided_later Equal p q h e = e
+decided_later Greater p q h e = cc
+
+pub decided_first : (o p q : Ordering) → (o ≡ Equal → ⊥) → ordering_then o p ≡ q → o ≡ q
+decided_first Less p q h e = e
+decided_first Equal p q h e = absurd (h refl)
+decided_first Greater p q h e = e

@@ -134,8 +134,8 @@ impl Step {
         ensures { result ≡ printed_cmp (at_top self.now) (at_top other.now) }
     {
         order_of_names(&self.module, &self.name, &other.module, &other.name)
-            .then(self.module.cmp(&other.module))
-            .then(self.chosen.order(&other.chosen))
+            .then_with(|| self.module.cmp(&other.module))
+            .then_with(|| self.chosen.order(&other.chosen))
     }
 }
 
@@ -143,6 +143,9 @@ impl Step {
 fn order_of_names(owner: &Label, name: &Label, other_owner: &Label, other_name: &Label) -> Ordering
     ensures { result ≡ slice_cmp nat_cmp (owner.now ++ 58 ∷ name.now) (other_owner.now ++ 58 ∷ other_name.now) }
 {
+    if owner.same(other_owner) {
+        return name.cmp(other_name);
+    }
     let ours = owner
         .as_str()
         .bytes()
@@ -194,8 +197,8 @@ impl Ord for Step {
     fn cmp(&self, other: &Step) -> Ordering {
         self.name
             .cmp(&other.name)
-            .then(self.module.cmp(&other.module))
-            .then(self.chosen.order(&other.chosen))
+            .then_with(|| self.module.cmp(&other.module))
+            .then_with(|| self.chosen.order(&other.chosen))
     }
 }
 
@@ -265,7 +268,8 @@ fn order_of_steps(ours: &[Step], theirs: &[Step]) -> Ordering
     if ours.is_empty() || theirs.is_empty() {
         return ours.len().cmp(&theirs.len());
     }
-    ours[0]
-        .order_at_top(&theirs[0])
-        .then(ours[1..].cmp(&theirs[1..]))
+    match ours[0].order_at_top(&theirs[0]) {
+        Ordering::Equal => ours[1..].cmp(&theirs[1..]),
+        unequal => unequal,
+    }
 }

@@ -135,8 +135,8 @@ impl Ord for Value {
     fn cmp(&self, other: &Value) -> Ordering {
         self.rank()
             .cmp(&other.rank())
-            .then(self.number().cmp(&other.number()))
-            .then(self.digits().cmp(&other.digits()))
-            .then(self.text().cmp(other.text()))
+            .then_with(|| self.number().cmp(&other.number()))
+            .then_with(|| self.digits().cmp(&other.digits()))
+            .then_with(|| self.text().cmp(other.text()))
     }
 }
