@@ -145,7 +145,8 @@ pub(crate) fn below_state(
 ) -> Result<Vec<bool>, NoMemory>
     requires graph { IsGraph graph.now }
     requires size { length graph.now ≡ length rows.now }
-    ensures { IfOk result (λ marks. spec.Marks (spec.IsBelowState (successors_of graph.now) rows.now) marks.items) }
+    ensures marks { IfOk result (λ marks. spec.Marks (spec.IsBelowState (successors_of graph.now) rows.now) marks.items) }
+    ensures size { IfOk result (λ marks. length marks.items ≡ length rows.now) }
 {
     let states = states(alloc, rows)?;
     let marks = reached(alloc, graph, &states)?;
@@ -160,7 +161,8 @@ pub(crate) fn rooted(
 ) -> Result<Vec<bool>, NoMemory>
     requires graph { IsGraph graph.now }
     requires size { length graph.now ≡ length rows.now }
-    ensures { IfOk result (λ marks. spec.Marks (spec.IsRooted (successors_of graph.now) rows.now) marks.items) }
+    ensures marks { IfOk result (λ marks. spec.Marks (spec.IsRooted (successors_of graph.now) rows.now) marks.items) }
+    ensures size { IfOk result (λ marks. length marks.items ≡ length rows.now) }
 {
     rows.laws();
     let marks = reached(alloc, graph, rows.roots())?;

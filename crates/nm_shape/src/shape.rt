@@ -100,14 +100,16 @@ impl Shape<'_> {
 
     /// For each row whether it is used as configuration.
     pub fn configured(&self) -> &[bool]
-        ensures { config.Marks (config.IsConfiguration self.now.rows self.now.groupings) result.now }
+        ensures marks { config.Marks (config.IsConfiguration self.now.rows self.now.groupings) result.now }
+        ensures size { length result.now ≡ length self.now.rows }
     {
         self.settings.configured.as_slice()
     }
 
     /// For each row whether it stands in state.
     pub fn in_state(&self) -> &[bool]
-        ensures { config.Marks (config.IsInState self.now.rows self.now.groupings) result.now }
+        ensures marks { config.Marks (config.IsInState self.now.rows self.now.groupings) result.now }
+        ensures size { length result.now ≡ length self.now.rows }
     {
         self.settings.in_state.as_slice()
     }
