@@ -1,5 +1,5 @@
 -- What is known, put together.
-use Rattle.std.proofs.Common.{◌≡◌, ◌∙◌, ℕ, List, Bool, Option, None, slice_index_or, ap, subst}
+use Rattle.std.proofs.Common.{◌≡◌, ◌∙◌, ℕ, List, Bool, false, Option, None, is_some, slice_index_or, ap, subst}
 use Rattle.nm_grammar.specs.declared.row.Row.{Row}
 use Rattle.nm_shape.specs.Outline.{Outline, outline}
 use Rattle.nm_shape.specs.Config.{Marks, IsConfiguration, IsInState}
@@ -10,21 +10,23 @@ use Rattle.nm_typing.specs.declared.listing.Judgement.{Judgement}
 use Rattle.nm_typing.specs.Defaults.{joined, default_of}
 use Rattle.nm_keys.specs.Standing.{Standing, IsStanding}
 use Rattle.nm_keys.specs.Keys.{keys_of, IsKey}
+use Rattle.nm_keys.specs.Uniques.{unique_flaw}
 use Rattle.nm_expansion.specs.Expansion.{Expanded, expanded, IsExpansion}
 use Rattle.nm_leafref.specs.Known.{Known, AreLeafrefs}
 use Rattle.nm_flaws.specs.Facts.{Facts, facts_of, IsCycle, definitions, standing, tree}
 use Rattle.nm_flaws.specs.Grounded.{AreGrounds}
 use Rattle.nm_flaws.proofs.Standings.{marks-standing, by_standing}
 
-pub are_grounds : (rows : List Row) (named : List (Option ℕ)) (shape : Outline) (expansion : Expanded) (types : Typings) (judgements : List Judgement) (texts : List (Option (Option (List ℕ)))) (known : Known) (keys : List (Option (List ℕ))) (cycle : Option ℕ) (configured in_state is_key : List Bool)
+pub are_grounds : (rows : List Row) (named : List (Option ℕ)) (shape : Outline) (expansion : Expanded) (types : Typings) (judgements : List Judgement) (texts : List (Option (Option (List ℕ)))) (known : Known) (keys : List (Option (List ℕ))) (cycle : Option ℕ) (configured in_state is_key flawed : List Bool)
     → named ≡ definitions rows → shape ≡ outline rows named → expansion.rows ≡ rows → expansion.groupings ≡ named
     → AreMeanings rows named types.meanings → AreJudgements rows named judgements → ((i : ℕ) → joined (slice_index_or texts i None) ≡ default_of rows named i) → AreLeafrefs named expansion known
     → ((s : Standing) → IsStanding shape.rows shape.groupings s → (i : ℕ) → slice_index_or keys i None ≡ keys_of shape.rows shape.groupings s i)
     → ((s : Standing) → IsStanding shape.rows shape.groupings s → Marks (IsKey shape.rows shape.groupings s) is_key)
+    → ((s : Standing) → IsStanding shape.rows shape.groupings s → (i : ℕ) → slice_index_or flawed i false ≡ is_some (unique_flaw shape.rows shape.groupings s i))
     → Marks (IsConfiguration shape.rows shape.groupings) configured → Marks (IsInState shape.rows shape.groupings) in_state
     → IsCycle rows cycle → IsExpansion expansion.rows expansion.groupings expansion.nodes
-    → AreGrounds rows (facts_of cycle configured in_state is_key expansion.nodes known.faults) named shape expansion types judgements texts known keys
-are_grounds rows named shape expansion types judgements texts known keys cycle configured in_state is_key named_is shape_by rows_is groupings_is meanings judged texts_are leafrefs keys_are marks config state cycle_is nodes =
+    → AreGrounds rows (facts_of cycle configured in_state is_key expansion.nodes known.faults) named shape expansion types judgements texts known keys flawed
+are_grounds rows named shape expansion types judgements texts known keys cycle configured in_state is_key flawed named_is shape_by rows_is groupings_is meanings judged texts_are leafrefs keys_are marks flaws config state cycle_is nodes =
     let facts : Facts = facts_of cycle configured in_state is_key expansion.nodes known.faults in
     let defs : List (Option ℕ) = definitions rows in
     let shape_is : shape ≡ outline rows defs = subst (λ (n : List (Option ℕ)). shape ≡ outline rows n) named_is shape_by in
@@ -44,6 +46,7 @@ are_grounds rows named shape expansion types judgements texts known keys cycle c
       defaults = λ i. texts_are i ∙ ap (λ (n : List (Option ℕ)). default_of rows n i) named_is;
       leafrefs = leafrefs_are;
       keys_are = by_standing (λ r g s. (i : ℕ) → slice_index_or keys i None ≡ keys_of r g s i) rows defs (standing facts) shape shape_is stands keys_are;
+      flawed_are = by_standing (λ r g s. (i : ℕ) → slice_index_or flawed i false ≡ is_some (unique_flaw r g s i)) rows defs (standing facts) shape shape_is stands flaws;
       facts_are = record {
         cycle = cycle_is;
         configured = config_is;

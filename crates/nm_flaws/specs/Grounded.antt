@@ -1,5 +1,5 @@
 -- What is known of modules when their faults are looked for.
-use Rattle.std.specs.Prelude.{◌≡◌, ℕ, List, Option, None, slice_index_or}
+use Rattle.std.specs.Prelude.{◌≡◌, ℕ, List, Bool, false, Option, None, is_some, slice_index_or}
 use Rattle.nm_grammar.specs.declared.row.Row.{Row}
 use Rattle.nm_shape.specs.Outline.{Outline, outline}
 use Rattle.nm_typing.specs.Cycle.{Typings}
@@ -8,6 +8,7 @@ use Rattle.nm_typing.specs.Listing.{AreJudgements}
 use Rattle.nm_typing.specs.declared.listing.Judgement.{Judgement}
 use Rattle.nm_typing.specs.Defaults.{joined, default_of}
 use Rattle.nm_keys.specs.Keys.{keys_of}
+use Rattle.nm_keys.specs.Uniques.{unique_flaw}
 use Rattle.nm_expansion.specs.Expansion.{Expanded}
 use Rattle.nm_leafref.specs.Known.{Known, AreLeafrefs}
 use Rattle.nm_flaws.specs.Facts.{Facts, AreFacts, definitions, standing, tree}
@@ -28,8 +29,12 @@ AreDefaults rows texts = (i : ℕ) → joined (slice_index_or texts i None) ≡ 
 abbrev pub AreKeys : List Row → Facts → List (Option (List ℕ)) → Type 0
 AreKeys rows facts keys = (i : ℕ) → slice_index_or keys i None ≡ keys_of rows (definitions rows) (standing facts) i
 
+-- which rows are `unique` statements that have a flaw
+abbrev pub AreFlawed : List Row → Facts → List Bool → Type 0
+AreFlawed rows facts marks = (i : ℕ) → slice_index_or marks i false ≡ is_some (unique_flaw rows (definitions rows) (standing facts) i)
+
 -- what is known is so
-pub record AreGrounds (rows : List Row) (facts : Facts) (named : List (Option ℕ)) (shape : Outline) (expansion : Expanded) (types : Typings) (judgements : List Judgement) (texts : List (Option (Option (List ℕ)))) (known : Known) (keys : List (Option (List ℕ))) : Type 0 where
+pub record AreGrounds (rows : List Row) (facts : Facts) (named : List (Option ℕ)) (shape : Outline) (expansion : Expanded) (types : Typings) (judgements : List Judgement) (texts : List (Option (Option (List ℕ)))) (known : Known) (keys : List (Option (List ℕ))) (flawed : List Bool) : Type 0 where
   pub named_are : named ≡ definitions rows
   pub shape_is : shape ≡ outline rows (definitions rows)
   pub tree_is : expansion ≡ tree rows facts
@@ -38,4 +43,5 @@ pub record AreGrounds (rows : List Row) (facts : Facts) (named : List (Option �
   pub defaults : AreDefaults rows texts
   pub leafrefs : AreLeafrefs (definitions rows) (tree rows facts) known
   pub keys_are : AreKeys rows facts keys
+  pub flawed_are : AreFlawed rows facts flawed
   pub facts_are : AreFacts rows facts

@@ -1,6 +1,6 @@
 //! What is wrong with a row.
 
-ghost use Rattle.std.specs.Prelude.{◌≡◌, ◌<◌, IfOk, length};
+ghost use Rattle.std.specs.Prelude.{◌≡◌, ◌<◌, IfOk, is_some, length};
 ghost use Rattle.nm_keys.specs.Keys as keys;
 ghost use Rattle.nm_keys.specs.Uniques as uniques;
 ghost use Rattle.nm_flaws.specs.Facts.{definitions, standing};
@@ -71,9 +71,23 @@ impl<'g, 'a> Grounds<'g, 'a> {
         key_flaw(alloc, self.names, self.shape, at)
     }
 
+    // Whether a row is a `unique` statement that has a flaw.
+    fn has_unique_flaw(&self, at: usize) -> bool
+        ensures { result ≡ is_some (uniques.unique_flaw self.now.rows (definitions self.now.rows) (standing self.now.facts) at) }
+    {
+        if at < self.flawed_uniques.len() {
+            return self.flawed_uniques[at];
+        }
+        false
+    }
+
+    // The members of the list are sought only where the statement has a flaw, and so at one row at most.
     fn unique_flaw(&self, alloc: Global, at: usize) -> Result<Option<Flaw>, NoMemory>
         ensures { IfOk result (λ flaw. flaw ≡ uniques.unique_flaw self.now.rows (definitions self.now.rows) (standing self.now.facts) at) }
     {
+        if !self.has_unique_flaw(at) {
+            return Ok(None);
+        }
         unique_flaw(alloc, self.names, self.shape, at)
     }
 

@@ -13,7 +13,7 @@ use crate::keys::keys_of_all;
 use nm_base::{Label, NoMemory};
 use nm_expansion::Expansion;
 use nm_grammar::Rows;
-use nm_keys::{Keys, Uniques, key_leafs, uniques_of};
+use nm_keys::{Keys, Uniques, flawed_uniques, key_leafs, uniques_of};
 use nm_leafref::{Leafrefs, Paths, leafrefs_of};
 use nm_names::Names;
 use nm_shape::Shape;
@@ -34,6 +34,7 @@ pub struct Grounds<'g, 'a> {
     pub(crate) leafrefs: Leafrefs,
     pub(crate) keys: Vec<Option<Keys>>,
     pub(crate) is_key: Vec<bool>,
+    pub(crate) flawed_uniques: Vec<bool>,
     pub(crate) configured: &'a [bool],
     pub(crate) in_state: &'a [bool],
     pub(crate) cycle: Option<usize>,
@@ -47,7 +48,7 @@ impl<'g, 'a> Model for Grounds<'g, 'a> {
 
     ghost view = { λ g. grounded g.names.now (facts_of g.cycle g.configured.now g.in_state.now g.is_key.items g.expansion.now.nodes g.leafrefs.faults) };
 
-    ghost invariant = { λ g. AreGrounds g.names.now (facts_of g.cycle g.configured.now g.in_state.now g.is_key.items g.expansion.now.nodes g.leafrefs.faults) g.definitions.now g.shape.now g.expansion.now g.types g.judgements.items g.defaults g.leafrefs g.keys.items };
+    ghost invariant = { λ g. AreGrounds g.names.now (facts_of g.cycle g.configured.now g.in_state.now g.is_key.items g.expansion.now.nodes g.leafrefs.faults) g.definitions.now g.shape.now g.expansion.now g.types g.judgements.items g.defaults g.leafrefs g.keys.items g.flawed_uniques.items };
 }
 
 impl<'g, 'a> Grounds<'g, 'a> {
@@ -75,6 +76,7 @@ impl<'g, 'a> Grounds<'g, 'a> {
         let leafrefs = leafrefs_of(alloc, names, paths, shape, expansion, &types, definitions)?;
         let keys = keys_of_all(alloc, names, shape)?;
         let is_key = key_leafs(alloc, names, shape)?;
+        let flawed_uniques = flawed_uniques(alloc, names, shape)?;
         let cycle = cycle_of(alloc, names)?;
         Ok(Grounds {
             names,
@@ -87,6 +89,7 @@ impl<'g, 'a> Grounds<'g, 'a> {
             leafrefs,
             keys,
             is_key,
+            flawed_uniques,
             configured: shape.configured(),
             in_state: shape.in_state(),
             cycle,

@@ -4,3 +4,5 @@ pub mod Parting
 pub mod Fitting
 pub mod Ways
 pub mod Marking
+pub mod Keeping
+pub mod Flawing

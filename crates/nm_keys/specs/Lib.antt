@@ -2,8 +2,8 @@ pub mod Standing
 pub mod Words
 pub mod Found
 pub mod Membership
+pub mod Kept
 pub mod Said
 pub mod Keys
 pub mod Leafs
 pub mod Uniques
-pub mod Field

@@ -63,9 +63,9 @@ fn says_false(rows: &Rows, config: Option<usize>) -> bool
     }
 }
 
-// Whether a row is a node that has `config false` directly.
+/// Whether a row is a node that has `config false` directly.
 #[tactic(auto, unfolding(nm_shape::specs::Config::is_state))]
-fn is_state(rows: &Rows, at: usize) -> bool
+pub(crate) fn is_state(rows: &Rows, at: usize) -> bool
     ensures { result ≡ is_state rows.now at }
 {
     let word = match rows.row(at) {

@@ -5,6 +5,7 @@
 //! leads through, and on which leafs are keys.
 #![tactic(auto)]
 
+mod finder;
 mod found;
 mod key;
 mod leafs;
@@ -19,7 +20,7 @@ pub use key::{key_flaw, keys_of};
 pub use leafs::Keys;
 pub use marks::key_leafs;
 pub use passage::Way;
-pub use unique::{Unique, Uniques, unique_flaw, uniques_of};
+pub use unique::{Unique, Uniques, flawed_uniques, unique_flaw, uniques_of};
 
 #[cfg(test)]
 mod tests;

@@ -1,6 +1,6 @@
 //! The members of a statement by name.
 
-ghost use Rattle.std.specs.Prelude.{◌≡◌, [], IfOk, is_some, unwrap_or};
+ghost use Rattle.std.specs.Prelude.{◌≡◌, [], IfOk, is_some, length, unwrap_or};
 ghost use Rattle.nm_shape.specs.Members as shape_spec;
 ghost use Rattle.nm_keys.specs.Found as spec;
 ghost use Rattle.nm_keys.specs.Membership.{Leads, membership};
@@ -90,8 +90,15 @@ impl<'n, 'a> Members<'n, 'a> {
         self.nodes.is_some()
     }
 
-    // The first member that has a name.
-    fn named(&self, name: &'a str) -> Found
+    /// How many members there are. Where they aren't known, none.
+    pub fn len(&self) -> usize
+        ensures { result ≡ length (unwrap_or self.now.nodes []) }
+    {
+        slice_of(&self.nodes).len()
+    }
+
+    /// The first member that has a name.
+    pub fn named(&self, name: &'a str) -> Found
         ensures { result ≡ spec.found_among self.now.rows self.now.nodes name.now }
     {
         if self.nodes.is_none() {

@@ -262,3 +262,49 @@ fn marks_keys(rt: HostRuntime) -> Result<(), Fail> {
     }
     Ok(())
 }
+
+// The numbers of the rows that are marked as `unique` statements with a flaw.
+fn flawed_of(alloc: Global, text: &str) -> Result<String, Fail> {
+    let modules = [read_module(alloc, text.as_bytes())?];
+    let rows = rows_of(alloc, &modules)?;
+    let names = Names::new(alloc, &rows)?;
+    let groupings = groupings_of(alloc, &names)?;
+    if !are_named(&rows, &groupings) {
+        return Ok(String::from_str(alloc, "no grouping")?);
+    }
+    let shape = shape_of(alloc, &rows, &groupings)?;
+    let marks = flawed_uniques(alloc, &names, &shape)?;
+    let mut numbers = Vec::new(alloc);
+    for at in 0..marks.len() {
+        if marks[at] {
+            numbers.push(at)?;
+        }
+    }
+    Ok(format!(in alloc; "{:?}", numbers.as_slice())?)
+}
+
+// A module's text, and the rows of its `unique` statements that have a flaw (RFC 7950 section 7.8.3).
+const FLAWED: [(&str, &str); 3] = [
+    (
+        "module m { prefix p; list l { unique a; unique b; leaf a; list k { unique \"c/d\"; unique \"c/e c/d\"; unique \"\"; container c { leaf d; } } unique \"p:a\"; unique \"x:a\"; } container c { unique b; } }",
+        "[4, 8, 9, 13]",
+    ),
+    (
+        "module m { prefix p; list l { unique a; unique \"c/d\"; unique \"c/d\"; leaf a { config false; } container c { config false; leaf d; } } list k { config false; unique a; leaf a; } }",
+        "[3, 4, 5]",
+    ),
+    (
+        "module m { prefix p; grouping g { container c { leaf d; } } list l { unique \"c/d\"; uses g; unique \"c/c\"; } list k { uses g; unique \"d/c\"; unique \"c/d\"; } list n { unique x; uses nowhere; } }",
+        "[8, 11]",
+    ),
+];
+
+#[test]
+fn marks_flaws(rt: HostRuntime) -> Result<(), Fail> {
+    let alloc = rt.alloc();
+    for (text, expected) in &FLAWED {
+        let found = flawed_of(alloc, text)?;
+        assert_eq!(rt; found.as_str(), *expected, "{text}");
+    }
+    Ok(())
+}

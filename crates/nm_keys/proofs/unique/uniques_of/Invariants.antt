@@ -7,5 +7,8 @@ use Rattle.nm_keys.proofs.unique.uniques_of.Given as goal
 
 -- what the statements so far say, before what those that are left say
 abbrev pub invariant-loop-at : goal.invariant-loop-at
-invariant-loop-at l = (standing : Standing) → IsStanding l.shape.rows l.shape.groupings standing
-    → in_front l.all.items (all_there (map (unique_at l.shape.rows l.shape.groupings standing) (drop l.at-index l.at-items))) ≡ all_there (map (unique_at l.shape.rows l.shape.groupings standing) l.at-items)
+invariant-loop-at l = record {
+  same : l.finder ≡ l.initial.finder;
+  uniques : (standing : Standing) → IsStanding l.initial.finder.rows l.initial.finder.groupings standing
+      → in_front l.all.items (all_there (map (unique_at l.initial.finder.rows l.initial.finder.groupings standing) (drop l.at-index l.at-items))) ≡ all_there (map (unique_at l.initial.finder.rows l.initial.finder.groupings standing) l.at-items);
+}

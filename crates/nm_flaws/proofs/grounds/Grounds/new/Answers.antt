@@ -10,9 +10,9 @@ pub invariant_of-result : goal.invariant_of-result
 invariant_of-result c =
     let named = c.args.definitions.now in
     are_grounds c.args.names.now named c.args.shape.now c.args.expansion.now c.in_ok-types.types c.in_ok-judgements.judgements.items c.in_ok-defaults.defaults c.in_ok-leafrefs.leafrefs c.in_ok-keys.keys.items
-    c.in_ok-cycle.cycle c.configured.result.now c.in_state.result.now c.in_ok-is_key.is_key.items
+    c.in_ok-cycle.cycle c.configured.result.now c.in_state.result.now c.in_ok-is_key.is_key.items c.in_ok-flawed_uniques.flawed_uniques.items
     c.requires.definitions c.requires.shape c.requires.expansion.0 c.requires.expansion.1
     (subst (λ (r : List Row). AreMeanings r named c.in_ok-types.types.meanings) c.rows-rows.ensures c.in_ok-types.ensures.meanings)
     (subst (λ (r : List Row). AreJudgements r named c.in_ok-judgements.judgements.items) c.rows-rows.ensures c.in_ok-judgements.ensures.exact)
     (subst (λ (r : List Row). (i : ℕ) → joined (slice_index_or c.in_ok-defaults.defaults i None) ≡ default_of r named i) c.rows-rows.ensures c.in_ok-defaults.ensures.exact)
-    c.in_ok-leafrefs.ensures c.in_ok-keys.ensures c.in_ok-is_key.ensures.marks c.configured.ensures c.in_state.ensures c.in_ok-cycle.ensures c.laws.ensures
+    c.in_ok-leafrefs.ensures c.in_ok-keys.ensures c.in_ok-is_key.ensures.marks c.in_ok-flawed_uniques.ensures.marks c.configured.ensures.marks c.in_state.ensures.marks c.in_ok-cycle.ensures c.laws.ensures

@@ -1,8 +1,0 @@
-use Rattle.std.proofs.Common.{◌≡◌, List, ℕ, Bor, map, drop}
-use Rattle.std.specs.List.{find}
-use Rattle.nm_keys.specs.Uniques as spec
-use Rattle.nm_keys.proofs.unique.Field.first_astray.Given as goal
-
--- the words so far lead somewhere
-abbrev pub invariant-loop-word : goal.invariant-loop-word
-invariant-loop-word l = find (spec.leads_nowhere l.self.rows l.self.groupings l.self.loses l.self.owner l.self.list) (map (λ (t : Bor (List ℕ)). t.now) (drop l.word-index l.words)) ≡ find (spec.leads_nowhere l.self.rows l.self.groupings l.self.loses l.self.owner l.self.list) (map (λ (t : Bor (List ℕ)). t.now) l.words)
