@@ -3,3 +3,4 @@ pub mod Form
 pub mod Written
 pub mod Sound
 pub mod Reading
+pub mod Fault

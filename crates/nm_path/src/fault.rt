@@ -16,6 +16,11 @@ pub enum PathFault {
 }
 
 impl fmt::Display for PathFault {
+    ghost use Rattle.std.specs.Prelude.{Some};
+    ghost use Rattle.nm_path.specs.Fault.{fault_text};
+
+    ghost output = { λ fault. Some (fault_text fault) };
+
     fn fmt<W: fmt::Write>(&self, f: &mut fmt::Formatter<W>) -> fmt::Result {
         f.write_str(match self {
             PathFault::Unknown => "no node of the schema",
