@@ -120,16 +120,17 @@ impl Gathered {
         Ok(())
     }
 
-    // A second row for a path.
-    fn note_repeated(&mut self, alloc: Global, path: Path, value: Value) -> Result<(), NoMemory>
-        ensures { OnOk result (self.new ≡ spec.noted (spec.with_config self.old path value) (bad (fault_at path JsonKind.Repeated))) }
+    /// A row more.
+    pub fn note_row(&mut self, alloc: Global, path: Path, value: Value) -> Result<(), NoMemory>
+        ensures { OnOk result (self.new ≡ spec.noted self.old (row path value)) }
     {
-        let copied = path.copy(alloc)?;
-        self.config.put(path, value)?;
         let place = Place {
-            path: copied,
+            path: path.copy(alloc)?,
             below: None,
         };
+        if self.config.put(path, value)?.is_none() {
+            return Ok(());
+        }
         self.note_fault(
             alloc,
             Fault {
@@ -137,16 +138,5 @@ impl Gathered {
                 place,
             },
         )
-    }
-
-    /// A row more.
-    pub fn note_row(&mut self, alloc: Global, path: Path, value: Value) -> Result<(), NoMemory>
-        ensures { OnOk result (self.new ≡ spec.noted self.old (row path value)) }
-    {
-        if self.config.value(&path).is_some() {
-            return self.note_repeated(alloc, path, value);
-        }
-        self.config.put(path, value)?;
-        Ok(())
     }
 }
