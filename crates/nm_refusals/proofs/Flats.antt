@@ -1,0 +1,131 @@
+-- What is told of flat configurations and edits, and of data of modules.
+use Rattle.std.proofs.Common.{◌≡◌, ℕ, Bool, true, false, cond, Option, Some, None, Result, Ok, Err, refl, ap}
+use Rattle.std.specs.Prelude.{if◌then◌else◌, nat_lt, ◌&&◌, is_some}
+use Rattle.std.specs.Ordering.{nat_cmp}
+use Rattle.std.specs.FinMap.{FinMap, insert, empty, len}
+use Rattle.std.proofs.lemmas.Bool.{ltb-true}
+use Rattle.serde_json.specs.Data.{Data, null, boolean, number, string, array, object, Members, no_members, member}
+use Rattle.nm_proto.specs.Content.{Refusal}
+use Rattle.nm_proto.specs.Flat.{FlatState, flat_violation}
+use Rattle.nm_tree.specs.Nodes.{SchemaTree}
+use Rattle.nm_config.specs.Rows.{Rows}
+use Rattle.nm_json.specs.declared.fault.Fault.{Fault as JsonPlace}
+use Rattle.nm_json.specs.declared.fault.JsonFault.{JsonFault}
+use Rattle.nm_json.specs.declared.fault.JsonFault.TheVariants.{NotJson, Bad, TooManyRows, NoMemory}
+use Rattle.nm_json.specs.Findings.{whole_found}
+use Rattle.nm_json.specs.Whole.{config_read, answered, least_of, faults_found, rows_of}
+use Rattle.nm_reading.specs.declared.fault.ScenarioKind.TheVariants as kind
+use Rattle.nm_reading.specs.declared.fault.Fault.{Fault}
+use Rattle.nm_reading.specs.Reading.{◌>>=◌, here, natural_of}
+use Rattle.nm_scenario.specs.Flat.{row_limit, node_limit, key_of, or_unread, member_count, cells_after, cells_at, change_of, changes_after, changes_at, flat_edit_at}
+use Rattle.nm_scenario.specs.Devices.{valid_only, running_at, rows_from, data_at}
+use Rattle.nm_scenario.specs.Changes.{goes_through, edit_at}
+use Rattle.nm_refusals.specs.Roles.{Role, running, cells, data_of, change_edit}
+use Rattle.nm_refusals.specs.Wrong.{Wrong, is_flat_edit_role, is_cell, is_change, all_members, unmarked, too_many_cells, too_many_nodes, no_cells, no_edit, no_data, too_many_rows, invalid, unbuilt_result}
+use Rattle.nm_refusals.specs.Told.{Told}
+use Rattle.nm_refusals.proofs.Sound.{IsSound, is_read, then_so, by_test}
+use Rattle.nm_refusals.proofs.Parts.{wrong}
+
+-- ---- cells
+
+and_false : (a b : Bool) → a ≡ false → (a && b) ≡ false
+and_false true b e = cc
+and_false false b e = refl
+
+false_and : (a b : Bool) → b ≡ false → (a && b) ≡ false
+false_and true b e = e
+false_and false b e = refl
+
+-- a member without a key or a value
+unread_so : {A B : Type 0} {r : Role} {part : Data} (x : Option A) (f : A → Result B Fault) → (x ≡ None → Wrong r kind.Content part) → ((v : A) → x ≡ Some v → IsSound (Told r part) (f v)) → IsSound (Told r part) (or_unread x >>= f)
+unread_so None f w s = wrong kind.Content (w refl)
+unread_so (Some v) f w s = s v refl
+
+cells_so : (r : Role) (part : Data) (found : FinMap nat_cmp ℕ) (members : Members) → (all_members is_cell members ≡ false → Wrong r kind.Content part) → IsSound (Told r part) (cells_after found members)
+cells_so r part found no_members w = is_read found
+cells_so r part found (member name value rest) w =
+    unread_so (key_of name) (λ key. or_unread (natural_of value) >>= λ v. cells_after (insert found key v) rest)
+    (λ e. w (and_false (is_cell name value) (all_members is_cell rest) (and_false (is_some (key_of name)) (is_some (natural_of value)) (ap is_some e))))
+    (λ key k. unread_so (natural_of value) (λ v. cells_after (insert found key v) rest)
+    (λ e. w (and_false (is_cell name value) (all_members is_cell rest) (false_and (is_some (key_of name)) (is_some (natural_of value)) (ap is_some e))))
+    (λ v n. cells_so r part (insert found key v) rest (λ e. w (false_and (is_cell name value) (all_members is_cell rest) e))))
+
+pub all_cells_so : (part : Data) → IsSound (Told (running cells) part) (cells_at part)
+all_cells_so (object m) =
+    by_test (nat_lt row_limit (member_count m)) (here kind.TooMany) (cells_after empty m) (λ many. wrong kind.TooMany (too_many_cells m refl (ltb-true row_limit (member_count m) many)))
+    (λ few. cells_so (running cells) (object m) empty m (λ e. no_cells e))
+all_cells_so null = wrong kind.Content (no_cells refl)
+all_cells_so (boolean b) = wrong kind.Content (no_cells refl)
+all_cells_so (number n) = wrong kind.Content (no_cells refl)
+all_cells_so (string text) = wrong kind.Content (no_cells refl)
+all_cells_so (array items) = wrong kind.Content (no_cells refl)
+
+valid_so : (part : Data) (found : FinMap nat_cmp ℕ) → cells_at part ≡ Ok found → (refusal : Option Refusal) → flat_violation (unmarked found) ≡ refusal → IsSound (Told (running cells) part) (valid_only (unmarked found) refusal)
+valid_so part found e None is = is_read (unmarked found)
+valid_so part found e (Some refusal) is = wrong kind.Invalid (invalid found refusal e is)
+
+pub running_so : (part : Data) → IsSound (Told (running cells) part) (running_at part)
+unfolding running_at
+running_so part =
+    then_so (cells_at part) (λ found. valid_only (unmarked found) (flat_violation (unmarked found))) (all_cells_so part)
+    (λ found e. valid_so part found e (flat_violation (unmarked found)) refl)
+
+-- ---- edits
+
+changes_so : (r : Role) (part : Data) (found : FinMap nat_cmp (Option ℕ)) (members : Members) → (all_members is_change members ≡ false → Wrong r kind.Content part) → IsSound (Told r part) (changes_after found members)
+changes_so r part found no_members w = is_read found
+changes_so r part found (member name value rest) w =
+    unread_so (key_of name) (λ key. or_unread (change_of value) >>= λ v. changes_after (insert found key v) rest)
+    (λ e. w (and_false (is_change name value) (all_members is_change rest) (and_false (is_some (key_of name)) (is_some (change_of value)) (ap is_some e))))
+    (λ key k. unread_so (change_of value) (λ v. changes_after (insert found key v) rest)
+    (λ e. w (and_false (is_change name value) (all_members is_change rest) (false_and (is_some (key_of name)) (is_some (change_of value)) (ap is_some e))))
+    (λ v n. changes_so r part (insert found key v) rest (λ e. w (false_and (is_change name value) (all_members is_change rest) e))))
+
+all_changes_so : (r : Role) (part : Data) → is_flat_edit_role r ≡ true → IsSound (Told r part) (changes_at part)
+all_changes_so r (object m) is =
+    by_test (nat_lt node_limit (member_count m)) (here kind.TooMany) (changes_after empty m) (λ many. wrong kind.TooMany (too_many_nodes m is refl (ltb-true node_limit (member_count m) many)))
+    (λ few. changes_so r (object m) empty m (λ e. no_edit is e))
+all_changes_so r null is = wrong kind.Content (no_edit is refl)
+all_changes_so r (boolean b) is = wrong kind.Content (no_edit is refl)
+all_changes_so r (number n) is = wrong kind.Content (no_edit is refl)
+all_changes_so r (string text) is = wrong kind.Content (no_edit is refl)
+all_changes_so r (array items) is = wrong kind.Content (no_edit is refl)
+
+pub flat_edit_so : (r : Role) (part : Data) → is_flat_edit_role r ≡ true → IsSound (Told r part) (flat_edit_at part)
+unfolding flat_edit_at
+flat_edit_so r part is = then_so (changes_at part) (λ changes. Ok (record { changes = changes })) (all_changes_so r part is) (λ changes e. is_read (record { changes = changes }))
+
+pub edit_so : (state : Option FlatState) (part : Data) → IsSound (Told (change_edit state) part) (edit_at state part)
+unfolding edit_at
+edit_so state part =
+    then_so (flat_edit_at part) (λ e. if goes_through state e then Ok e else here kind.NotBuilt) (flat_edit_so (change_edit state) part refl)
+    (λ e is. by_test (goes_through state e) (Ok e) (here kind.NotBuilt) (λ hold. is_read e) (λ fail. wrong kind.NotBuilt (unbuilt_result e is fail)))
+
+-- ---- data
+
+-- reading data never answers that it is no JSON, or that memory ran out
+abbrev is_plain : Result Rows JsonFault → Bool
+is_plain (Ok rows) = true
+is_plain (Err (Bad k path)) = true
+is_plain (Err TooManyRows) = true
+is_plain (Err NotJson) = false
+is_plain (Err NoMemory) = false
+
+tested_plain : (rows : Rows) (b : Bool) → is_plain (cond b (Err TooManyRows) (Ok rows)) ≡ true
+tested_plain rows true = refl
+tested_plain rows false = refl
+
+answered_plain : (tree : SchemaTree) (least : Option JsonPlace) (rows : Rows) → is_plain (answered tree least rows) ≡ true
+answered_plain tree (Some fault) rows = refl
+answered_plain tree None rows = tested_plain rows (nat_lt 20000 (len rows))
+
+answer_so : (tree : SchemaTree) (part : Data) (r : Result Rows JsonFault) → config_read tree part ≡ r → is_plain r ≡ true → IsSound (Told (running (data_of tree)) part) (rows_from r)
+answer_so tree part (Ok rows) e plain = is_read rows
+answer_so tree part (Err (Bad k path)) e plain = wrong kind.Content (no_data k path e)
+answer_so tree part (Err TooManyRows) e plain = wrong kind.TooMany (too_many_rows e)
+answer_so tree part (Err NotJson) e plain = cc
+answer_so tree part (Err NoMemory) e plain = cc
+
+pub data_so : (tree : SchemaTree) (part : Data) → IsSound (Told (running (data_of tree)) part) (data_at tree part)
+unfolding data_at
+data_so tree part = answer_so tree part (config_read tree part) refl (answered_plain tree (least_of (faults_found empty (whole_found tree part))) (rows_of empty (whole_found tree part)))

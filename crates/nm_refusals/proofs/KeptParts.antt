@@ -1,0 +1,343 @@
+-- What holds of the configurations, the change sets and the operators that are read.
+use Rattle.std.proofs.Common.{◌≡◌, ℕ, ◌+◌, ◌-◌, ◌^◌, ◌≤◌, List, [], ◌∷◌, ◌++◌, length, map, Bool, true, false, cond, min, Option, Some, None, Result, Ok, Err, codes, refl, ap, sym, subst, ◌∙◌, arith}
+use Rattle.std.specs.Prelude.{if◌then◌else◌, ◌&&◌, nat_lt, nat_le, not, slice_get}
+use Rattle.std.specs.Str.{bytes_eq}
+use Rattle.std.specs.List.{All}
+use Rattle.std.specs.Ordering.{nat_cmp}
+use Rattle.std.specs.FinMap.{FinMap, insert, empty, len, contains_key, len-insert, len-empty}
+use Rattle.std.proofs.lemmas.Bool.{ltb-false}
+use Rattle.std.proofs.lemmas.Bool.Decides.{nat_tests}
+use Rattle.std.proofs.lemmas.Cmp.{nat_cmp_total}
+use Rattle.std.proofs.lemmas.List.Elements.{All-nil, All-cons, All-append, All-head, All-tail}
+use Rattle.serde_json.specs.Data.{Data, null, boolean, number, string, array, object, Members, no_members, member}
+use Rattle.serde_json.specs.Find.{as_str}
+use Rattle.nm_proto.specs.declared.message.DefaultOperation.TheVariants.{Merge}
+use Rattle.nm_proto.specs.Content.{Refusal}
+use Rattle.nm_proto.specs.Flat.{FlatState, flat_violation}
+use Rattle.nm_tree.specs.Nodes.{SchemaTree}
+use Rattle.nm_config.specs.Rows.{Rows}
+use Rattle.nm_json.specs.declared.fault.Fault.{Fault as JsonPlace}
+use Rattle.nm_json.specs.declared.fault.JsonFault.{JsonFault}
+use Rattle.nm_json.specs.declared.fault.JsonFault.TheVariants.{NotJson, Bad, TooManyRows, NoMemory}
+use Rattle.nm_json.specs.Findings.{whole_found}
+use Rattle.nm_json.specs.Whole.{config_read, answered, least_of, faults_found, rows_of}
+use Rattle.nm_reading.specs.declared.fault.ScenarioKind.TheVariants as kind
+use Rattle.nm_reading.specs.declared.fault.Fault.{Fault}
+use Rattle.nm_reading.specs.Reading.{◌>>=◌, here, required, optional, object_at, only_known, list_at, natural_of, in_range, number_within, some_of, empty_list_at}
+use Rattle.nm_events.specs.Limits.{device_limit, change_limit, operator_limit}
+use Rattle.nm_events.specs.Requests.{default_at}
+use Rattle.nm_scenario.specs.declared.scenario.ReadChange.{ReadChange}
+use Rattle.nm_scenario.specs.declared.scenario.ReadEdit.{ReadEdit}
+use Rattle.nm_scenario.specs.Flat.{row_limit, node_limit, key_of, or_unread, member_count, cells_after, cells_at, change_of, changes_after, changes_at, flat_edit_at}
+use Rattle.nm_scenario.specs.Devices.{knows_device, valid_only, running_at, device_at, devices_at, rows_from, data_at, yang_device_at, yang_devices_at}
+use Rattle.nm_scenario.specs.Changes.{knows_change, knows_edit, device_of, last_device, device_within, goes_through, edit_at, entry_at, entries_at, change_at, changes_read_at, planned_from, plans_from, edits_of}
+use Rattle.nm_scenario.specs.Operators.{knows_operator, user_limit, user_of, user_at, operator_at, built_beside, operators_at}
+use Rattle.nm_refusals.specs.Wrong.{unmarked}
+use Rattle.nm_refusals.specs.Kept.{IsWithin, StateKeeps, EditKeeps, RowsKeep, Ascend, device_of_plan, ChangeKeeps, UserKeeps}
+use Rattle.nm_refusals.proofs.Parts.{Listed, list_read}
+use Rattle.nm_refusals.proofs.Good.{IsGood, good, no_good, then_good, test_good, required_good, optional_good, list_good, each_good, some_good}
+
+-- ---- cells and edits
+
+inserted : (there : Bool) (n : ℕ) → cond there n (n + 1) ≤ n + 1
+inserted true n = omega arith
+inserted false n = omega arith
+
+insert_len : {X : Type 0} (m : FinMap nat_cmp X) (k : ℕ) (v : X) → len (insert m k v) ≤ len m + 1
+insert_len m k v = subst (λ n. n ≤ len m + 1) (sym (len-insert nat_cmp_total m k v)) (inserted (contains_key m k) (len m))
+
+read_good : {A B : Type 0} {Q : B → Type 0} (x : Option A) (f : A → Result B Fault) → ((v : A) → IsGood Q (f v)) → IsGood Q (or_unread x >>= f)
+read_good None f g = no_good _
+read_good (Some v) f g = g v
+
+cells_good : (found : FinMap nat_cmp ℕ) (members : Members) → IsGood (λ cells. len cells ≤ len found + member_count members) (cells_after found members)
+cells_good found no_members = good (λ cells. len cells ≤ len found + 0) found (omega arith)
+cells_good found (member name part rest) =
+    read_good (key_of name) (λ key. or_unread (natural_of part) >>= λ v. cells_after (insert found key v) rest)
+    (λ key. read_good (natural_of part) (λ v. cells_after (insert found key v) rest)
+    (λ v. let g : IsGood (λ cells. len cells ≤ len (insert found key v) + member_count rest) (cells_after (insert found key v) rest) = cells_good (insert found key v) rest in
+    record { so = λ cells e. omega (arith, g.so cells e, insert_len found key v) }))
+
+all_cells_good : (part : Data) → IsGood (λ cells. len cells ≤ row_limit) (cells_at part)
+all_cells_good (object m) =
+    test_good (nat_lt row_limit (member_count m)) (here kind.TooMany) (cells_after empty m) (λ many. no_good _)
+    (λ few. let g : IsGood (λ cells. len cells ≤ len (empty {X = ℕ} {R = nat_cmp}) + member_count m) (cells_after empty m) = cells_good empty m in
+    record { so = λ cells e. omega (arith, g.so cells e, len-empty nat_cmp ℕ, ltb-false row_limit (member_count m) few) })
+all_cells_good null = no_good _
+all_cells_good (boolean b) = no_good _
+all_cells_good (number n) = no_good _
+all_cells_good (string text) = no_good _
+all_cells_good (array items) = no_good _
+
+valid_good : (found : FinMap nat_cmp ℕ) → len found ≤ row_limit → (refusal : Option Refusal) → flat_violation (unmarked found) ≡ refusal → IsGood StateKeeps (valid_only (unmarked found) refusal)
+valid_good found few None is = good StateKeeps (unmarked found) (record { cells = few; unmarked = refl; valid = is })
+valid_good found few (Some refusal) is = no_good _
+
+running_good : (part : Data) → IsGood StateKeeps (running_at part)
+unfolding running_at
+running_good part =
+    then_good (cells_at part) _
+    (λ found e. valid_good found (let g : IsGood (λ cells. len cells ≤ row_limit) (cells_at part) = all_cells_good part in g.so found e) (flat_violation (unmarked found)) refl)
+
+device_good : (before : List FlatState) (part : Data) → IsGood StateKeeps (device_at before part)
+unfolding device_at
+device_good before part =
+    then_good (object_at part) _
+    (λ u o. then_good (required (codes "running") running_at part) _
+    (λ x e. then_good (only_known knows_device part) _ (λ k f. good StateKeeps x (let g : IsGood StateKeeps (required (codes "running") running_at part) = required_good (codes "running") running_at part running_good in g.so x e))))
+
+-- a list of devices that were read
+pub record DevicesKeep {A : Type 0} (P : A → Type 0) (devices : List A) : Type 0 where
+  pub all : All P devices
+  pub count : IsWithin 1 device_limit (length devices)
+
+some_is : {A : Type 0} (xs ys : List A) → some_of xs ≡ Ok ys → xs ≡ ys
+some_is [] ys e = cc
+some_is (x ∷ xs) ys e = cc
+
+some_count : {A : Type 0} (xs ys : List A) → some_of xs ≡ Ok ys → 1 ≤ length ys
+some_count [] ys e = cc
+some_count (x ∷ xs) ys e = let same : x ∷ xs ≡ ys = cc in omega (arith, ap length same)
+
+listed_good : {A : Type 0} (P : A → Type 0) (read : List A → Data → Result A Fault) → ((before : List A) (part : Data) → IsGood P (read before part)) → (part : Data) (xs : List A) → list_at device_limit read part ≡ Ok xs
+    → IsGood (DevicesKeep P) (some_of xs)
+listed_good P read g part xs e =
+    let l : Listed part device_limit xs = list_read part device_limit read xs e in
+    let a : IsGood (All P) (list_at device_limit read part) = each_good P device_limit read g part in
+    record { so = λ ys f. record { all = subst (All P) (some_is xs ys f) (a.so xs e); count = (some_count xs ys f, omega (arith, l.within, ap length (some_is xs ys f))) } }
+
+pub devices_good : (part : Data) → IsGood (DevicesKeep StateKeeps) (devices_at part)
+unfolding devices_at
+devices_good part = then_good (list_at device_limit device_at part) some_of (λ xs e. listed_good StateKeeps device_at device_good part xs e)
+
+changes_good : (found : FinMap nat_cmp (Option ℕ)) (members : Members) → IsGood (λ changes. len changes ≤ len found + member_count members) (changes_after found members)
+changes_good found no_members = good (λ changes. len changes ≤ len found + 0) found (omega arith)
+changes_good found (member name part rest) =
+    read_good (key_of name) (λ key. or_unread (change_of part) >>= λ v. changes_after (insert found key v) rest)
+    (λ key. read_good (change_of part) (λ v. changes_after (insert found key v) rest)
+    (λ v. let g : IsGood (λ changes. len changes ≤ len (insert found key v) + member_count rest) (changes_after (insert found key v) rest) = changes_good (insert found key v) rest in
+    record { so = λ changes e. omega (arith, g.so changes e, insert_len found key v) }))
+
+all_changes_good : (part : Data) → IsGood (λ changes. len changes ≤ node_limit) (changes_at part)
+all_changes_good (object m) =
+    test_good (nat_lt node_limit (member_count m)) (here kind.TooMany) (changes_after empty m) (λ many. no_good _)
+    (λ few. let g : IsGood (λ changes. len changes ≤ len (empty {X = Option ℕ} {R = nat_cmp}) + member_count m) (changes_after empty m) = changes_good empty m in
+    record { so = λ changes e. omega (arith, g.so changes e, len-empty nat_cmp (Option ℕ), ltb-false node_limit (member_count m) few) })
+all_changes_good null = no_good _
+all_changes_good (boolean b) = no_good _
+all_changes_good (number n) = no_good _
+all_changes_good (string text) = no_good _
+all_changes_good (array items) = no_good _
+
+pub flat_edit_good : (part : Data) → IsGood EditKeeps (flat_edit_at part)
+unfolding flat_edit_at
+flat_edit_good part =
+    then_good (changes_at part) _
+    (λ changes e. good EditKeeps (record { changes = changes }) (let g : IsGood (λ m. len m ≤ node_limit) (changes_at part) = all_changes_good part in g.so changes e))
+
+edit_good : (state : Option FlatState) (part : Data) → IsGood EditKeeps (edit_at state part)
+unfolding edit_at
+edit_good state part =
+    then_good (flat_edit_at part) _
+    (λ x e. test_good (goes_through state x) (Ok x) (here kind.NotBuilt) (λ hold. good EditKeeps x (let g : IsGood EditKeeps (flat_edit_at part) = flat_edit_good part in g.so x e)) (λ fail. no_good _))
+
+-- ---- data
+
+tested_rows : (all rows : Rows) (b : Bool) → nat_lt row_limit (len all) ≡ b → cond b (Err TooManyRows) (Ok all) ≡ Ok rows → RowsKeep rows
+tested_rows all rows true t e = cc
+tested_rows all rows false t e = let same : all ≡ rows = cc in subst RowsKeep same (ltb-false row_limit (len all) t)
+
+answered_rows : (tree : SchemaTree) (least : Option JsonPlace) (all rows : Rows) → answered tree least all ≡ Ok rows → RowsKeep rows
+answered_rows tree (Some fault) all rows e = cc
+answered_rows tree None all rows e = tested_rows all rows (nat_lt row_limit (len all)) refl e
+
+rows_good : (r : Result Rows JsonFault) → ((rows : Rows) → r ≡ Ok rows → RowsKeep rows) → IsGood RowsKeep (rows_from r)
+rows_good (Ok rows) k = good RowsKeep rows (k rows refl)
+rows_good (Err (Bad k path)) h = no_good _
+rows_good (Err TooManyRows) h = no_good _
+rows_good (Err NotJson) h = no_good _
+rows_good (Err NoMemory) h = no_good _
+
+data_good : (tree : SchemaTree) (part : Data) → IsGood RowsKeep (data_at tree part)
+unfolding data_at
+data_good tree part =
+    rows_good (config_read tree part) (λ rows e. answered_rows tree (least_of (faults_found empty (whole_found tree part))) (rows_of empty (whole_found tree part)) rows e)
+
+yang_device_good : (tree : SchemaTree) (before : List Rows) (part : Data) → IsGood RowsKeep (yang_device_at tree before part)
+unfolding yang_device_at
+yang_device_good tree before part =
+    then_good (object_at part) _
+    (λ u o. then_good (required (codes "running") (data_at tree) part) _
+    (λ x e. then_good (only_known knows_device part) _ (λ k f. good RowsKeep x (let g : IsGood RowsKeep (required (codes "running") (data_at tree) part) = required_good (codes "running") (data_at tree) part (data_good tree) in g.so x e))))
+
+pub yang_devices_good : (tree : SchemaTree) (part : Data) → IsGood (DevicesKeep RowsKeep) (yang_devices_at tree part)
+unfolding yang_devices_at
+yang_devices_good tree part = then_good (list_at device_limit (yang_device_at tree) part) some_of (λ xs e. listed_good RowsKeep (yang_device_at tree) (yang_device_good tree) part xs e)
+
+-- ---- change sets
+
+range_good : (low high : ℕ) (n : Option ℕ) → IsGood (IsWithin low high) (in_range low high n)
+range_good low high None = no_good _
+range_good low high (Some n) = test_good (nat_le low n && nat_le n high) (Ok n) (here kind.BadValue) (λ hold. good (IsWithin low high) n (grind (arith, nat_tests), grind (arith, nat_tests))) (λ fail. no_good _)
+
+timeout_good : (part : Data) → IsGood (IsWithin 1 (2 ^ 32 - 1)) (number_within 1 (2 ^ 32 - 1) part)
+unfolding number_within
+timeout_good part = range_good 1 (2 ^ 32 - 1) (natural_of part)
+
+device_within_good : (low count : ℕ) (part : Data) → IsGood (IsWithin low count) (device_within low count part)
+unfolding device_within
+device_within_good low count part =
+    let g : IsGood (IsWithin low (min count device_limit)) (in_range low (min count device_limit) (natural_of part)) = range_good low (min count device_limit) (natural_of part) in
+    record { so = λ d e. let is : IsWithin low (min count device_limit) d = g.so d e in (is.0, omega (arith, is.1)) }
+
+-- an edit after others
+pub record EntryKeeps (count last : ℕ) (entry : ReadEdit) : Type 0 where
+  pub device : IsWithin (last + 1) count entry.device
+  pub edit : EditKeeps entry.edit
+
+entry_good : (states : List FlatState) (before : List ReadEdit) (part : Data) → IsGood (EntryKeeps (length states) (last_device before)) (entry_at states before part)
+unfolding entry_at
+entry_good states before part =
+    then_good (object_at part) _
+    (λ u o. then_good (required (codes "device") (device_within (last_device before + 1) (length states)) part) _
+    (λ d e. then_good (optional (codes "default") Merge default_at part) _
+    (λ operation f. then_good (required (codes "edit") (edit_at (slice_get states (d - 1))) part) _
+    (λ x g. then_good (only_known knows_edit part) _
+    (λ k h. let in_device : IsGood (IsWithin (last_device before + 1) (length states)) (required (codes "device") (device_within (last_device before + 1) (length states)) part) =
+    required_good (codes "device") (device_within (last_device before + 1) (length states)) part (device_within_good (last_device before + 1) (length states)) in
+    let in_edit : IsGood EditKeeps (required (codes "edit") (edit_at (slice_get states (d - 1))) part) = required_good (codes "edit") (edit_at (slice_get states (d - 1))) part (edit_good (slice_get states (d - 1))) in
+    good (EntryKeeps (length states) (last_device before)) _ (record { device = in_device.so d e; edit = in_edit.so x g }))))))
+
+abbrev device_in : ReadEdit → ℕ
+device_in entry = entry.device
+
+-- the device of the last edit, behind another
+abbrev last_from : ℕ → List ReadEdit → ℕ
+last_from last [] = last
+last_from last (e ∷ es) = last_from e.device es
+
+last_after : (last : ℕ) (first : ReadEdit) (es : List ReadEdit) → last_from last (first ∷ es) ≡ device_of (slice_get (first ∷ es) (length es))
+last_after last first [] = refl
+last_after last first (e ∷ es) = last_after first.device e es
+
+last_is : (es : List ReadEdit) → last_from 0 es ≡ last_device es
+last_is [] = refl
+last_is (e ∷ es) = last_after 0 e es ∙ ap (λ n. device_of (slice_get (e ∷ es) n)) (let same : length es ≡ length (e ∷ es) - 1 = omega arith in same)
+
+ascend_pushed : (last high : ℕ) (es : List ReadEdit) (x : ReadEdit) → Ascend last high (map device_in es) → IsWithin (last_from last es + 1) high x.device → Ascend last high (map device_in (es ++ x ∷ []))
+ascend_pushed last high [] x a is = (omega (arith, is.0), is.1, tt)
+ascend_pushed last high (e ∷ es) x a is = (a.0, a.1, ascend_pushed e.device high es x a.2 is)
+
+abbrev edit_in : ReadEdit → Type 0
+edit_in entry = EditKeeps entry.edit
+
+-- edits that were read so far
+pub record EntriesKeep (count : ℕ) (es : List ReadEdit) : Type 0 where
+  pub ascending : Ascend 0 count (map device_in es)
+  pub edits : All edit_in es
+
+entries_more : (states : List FlatState) (before : List ReadEdit) (part : Data) (x : ReadEdit) → EntriesKeep (length states) before → entry_at states before part ≡ Ok x → EntriesKeep (length states) (before ++ x ∷ [])
+entries_more states before part x k e =
+    let g : IsGood (EntryKeeps (length states) (last_device before)) (entry_at states before part) = entry_good states before part in
+    let is : EntryKeeps (length states) (last_device before) x = g.so x e in
+    record {
+      ascending = ascend_pushed 0 (length states) before x k.ascending (subst (λ n. IsWithin (n + 1) (length states) x.device) (sym (last_is before)) is.device);
+      edits = All-append edit_in before (x ∷ []) k.edits (All-cons edit_in x [] is.edit (All-nil edit_in));
+    }
+
+entries_good : (states : List FlatState) (part : Data) → IsGood (λ es. EntriesKeep (length states) es × (1 ≤ length es)) (entries_at states part)
+unfolding entries_at
+entries_good states part =
+    then_good (list_at (2 ^ 64 - 1) (entry_at states) part) some_of
+    (λ xs e. let g : IsGood (EntriesKeep (length states)) (list_at (2 ^ 64 - 1) (entry_at states) part) =
+    list_good (EntriesKeep (length states)) (2 ^ 64 - 1) (entry_at states) (λ before child x k f. entries_more states before child x k f) (record { ascending = tt; edits = All-nil edit_in }) part in
+    some_good (EntriesKeep (length states)) xs (g.so xs e))
+
+-- a change set that was read, in a scenario of so many devices
+pub record ReadKeeps (count : ℕ) (change : ReadChange) : Type 0 where
+  pub timeout : IsWithin 1 (2 ^ 32 - 1) change.timeout
+  pub entries : EntriesKeep count change.edits
+  pub some : 1 ≤ length change.edits
+
+change_good : (states : List FlatState) (before : List ReadChange) (part : Data) → IsGood (ReadKeeps (length states)) (change_at states before part)
+unfolding change_at
+change_good states (other ∷ others) part = no_good _
+change_good states [] part =
+    then_good (object_at part) _
+    (λ u o. then_good (optional (codes "timeout") 600 (number_within 1 (2 ^ 32 - 1)) part) _
+    (λ timeout e. then_good (required (codes "edits") (entries_at states) part) _
+    (λ edits f. then_good (only_known knows_change part) _
+    (λ k g. let in_timeout : IsGood (IsWithin 1 (2 ^ 32 - 1)) (optional (codes "timeout") 600 (number_within 1 (2 ^ 32 - 1)) part) =
+    optional_good (codes "timeout") 600 (number_within 1 (2 ^ 32 - 1)) part (omega arith, omega arith) timeout_good in
+    let in_edits : IsGood (λ es. EntriesKeep (length states) es × (1 ≤ length es)) (required (codes "edits") (entries_at states) part) = required_good (codes "edits") (entries_at states) part (entries_good states) in
+    let is : EntriesKeep (length states) edits × (1 ≤ length edits) = in_edits.so edits f in
+    good (ReadKeeps (length states)) (record { timeout = timeout; edits = edits }) (record { timeout = in_timeout.so timeout e; entries = is.0; some = is.1 })))))
+
+pub changes_read_good : (states : List FlatState) (part : Data) → IsGood (λ cs. All (ReadKeeps (length states)) cs × (length cs ≤ change_limit)) (changes_read_at states part)
+unfolding changes_read_at
+changes_read_good states part =
+    let g : IsGood (All (ReadKeeps (length states))) (list_at change_limit (change_at states) part) = each_good (ReadKeeps (length states)) change_limit (change_at states) (change_good states) part in
+    record { so = λ cs e. (g.so cs e, let l : Listed part change_limit cs = list_read part change_limit (change_at states) cs e in l.within) }
+
+-- ---- the plans of change sets, and their edits
+
+planned_devices : (n : ℕ) (es : List ReadEdit) → map device_of_plan (planned_from n es) ≡ map device_in es
+planned_devices n [] = refl
+planned_devices n (e ∷ es) = ap (λ ds. e.device ∷ ds) (planned_devices (n + 1) es)
+
+planned_length : (n : ℕ) (es : List ReadEdit) → length (planned_from n es) ≡ length es
+planned_length n [] = refl
+planned_length n (e ∷ es) = omega (arith, planned_length (n + 1) es)
+
+pub plans_keep : (count n : ℕ) (cs : List ReadChange) → All (ReadKeeps count) cs → All (ChangeKeeps count) (plans_from n cs)
+plans_keep count n [] k = All-nil (ChangeKeeps count)
+plans_keep count n (c ∷ cs) k =
+    let is : ReadKeeps count c = All-head (ReadKeeps count) c cs k in
+    let entries : EntriesKeep count c.edits = is.entries in
+    All-cons (ChangeKeeps count) _ (plans_from (n + length c.edits) cs)
+    (record { timeout = is.timeout; edits = omega (arith, is.some, planned_length n c.edits); ascending = subst (Ascend 0 count) (sym (planned_devices n c.edits)) entries.ascending })
+    (plans_keep count (n + length c.edits) cs (All-tail (ReadKeeps count) c cs k))
+
+pub plans_length : (n : ℕ) (cs : List ReadChange) → length (plans_from n cs) ≡ length cs
+plans_length n [] = refl
+plans_length n (c ∷ cs) = omega (arith, plans_length (n + length c.edits) cs)
+
+mapped : (es : List ReadEdit) → All edit_in es → All EditKeeps (map (λ e. e.edit) es)
+mapped [] k = All-nil EditKeeps
+mapped (e ∷ es) k = All-cons EditKeeps e.edit _ (All-head edit_in e es k) (mapped es (All-tail edit_in e es k))
+
+pub edits_keep : (count : ℕ) (cs : List ReadChange) → All (ReadKeeps count) cs → All EditKeeps (edits_of cs)
+edits_keep count [] k = All-nil EditKeeps
+edits_keep count (c ∷ cs) k =
+    let is : ReadKeeps count c = All-head (ReadKeeps count) c cs k in
+    let entries : EntriesKeep count c.edits = is.entries in
+    All-append EditKeeps (map (λ e. e.edit) c.edits) (edits_of cs) (mapped c.edits entries.edits) (edits_keep count cs (All-tail (ReadKeeps count) c cs k))
+
+-- ---- operators
+
+user_or_good : (name : Option (List ℕ)) → IsGood UserKeeps (user_of name)
+user_or_good None = no_good _
+user_or_good (Some name) =
+    test_good (bytes_eq name (codes "netm")) (here kind.BadValue) (if nat_le 1 (length name) && nat_le (length name) user_limit then Ok name else here kind.BadValue) (λ hold. no_good _)
+    (λ fail. test_good (nat_le 1 (length name) && nat_le (length name) user_limit) (Ok name) (here kind.BadValue)
+    (λ hold. good UserKeeps name (ap (λ b. not b && (nat_le 1 (length name) && nat_le (length name) user_limit)) fail ∙ hold)) (λ long. no_good _))
+
+user_good : (part : Data) → IsGood UserKeeps (user_at part)
+unfolding user_at
+user_good part = user_or_good (as_str part)
+
+operator_good : (before : List (List ℕ)) (part : Data) → IsGood UserKeeps (operator_at before part)
+unfolding operator_at
+operator_good before part =
+    then_good (object_at part) _
+    (λ u o. then_good (required (codes "user") user_at part) _
+    (λ user e. then_good (optional (codes "script") tt (empty_list_at (here kind.NotBuilt)) part) _
+    (λ script f. then_good (only_known knows_operator part) _
+    (λ k g. good UserKeeps user (let in_user : IsGood UserKeeps (required (codes "user") user_at part) = required_good (codes "user") user_at part user_good in in_user.so user e)))))
+
+pub operators_good : (count : ℕ) (part : Data) → IsGood (λ users. All UserKeeps users × (length users ≤ operator_limit)) (operators_at count part)
+unfolding operators_at
+operators_good count part =
+    then_good (built_beside count part) _
+    (λ u b. let g : IsGood (All UserKeeps) (list_at operator_limit operator_at part) = each_good UserKeeps operator_limit operator_at operator_good part in
+    record { so = λ users e. (g.so users e, let l : Listed part operator_limit users = list_read part operator_limit operator_at users e in l.within) })

@@ -1,0 +1,138 @@
+-- Where the places of faults lead.
+use Rattle.std.proofs.Common.{◌≡◌, ℕ, ◌<◌, List, [], ◌∷◌, length, Bool, true, false, Option, Some, None, option_and_then, Result, Ok, Err, codes, refl, ap, subst, ◌∙◌, arith}
+use Rattle.std.proofs.lemmas.List.{length-map}
+use Rattle.std.specs.Prelude.{is_some}
+use Rattle.serde_json.specs.Data.{Data, null, boolean, number, string, array, object, Members}
+use Rattle.serde_json.specs.Find.{get, at, get_member, as_object}
+use Rattle.nm_reading.specs.declared.fault.ScenarioKind.{ScenarioKind}
+use Rattle.nm_reading.specs.declared.fault.ScenarioKind.TheVariants as kind
+use Rattle.nm_reading.specs.declared.fault.Step.{Step}
+use Rattle.nm_reading.specs.declared.fault.Step.TheVariants.{Name, Item}
+use Rattle.nm_reading.specs.declared.fault.Fault.{Fault}
+use Rattle.nm_reading.specs.Reading.{under, optional_from}
+use Rattle.nm_reading.specs.Words.{item_count}
+use Rattle.nm_scenario.specs.declared.head.ReadModule.{ReadModule}
+use Rattle.nm_scenario.specs.Head.{module_limit, module_at, modules_at, statement_of, statements_of}
+use Rattle.nm_refusals.specs.Roles.{Role}
+use Rattle.nm_refusals.specs.Steps.{stepped}
+use Rattle.nm_refusals.specs.Wrong as wrong
+use Rattle.nm_refusals.specs.Wrong.{Wrong}
+use Rattle.nm_refusals.specs.Told.{Tells, here, missing, unknown, inside, TellsWhole, in_part, in_module, module_of_fault, walked, LacksMember}
+use Rattle.nm_refusals.proofs.Parts.{Listed, list_read}
+use Rattle.nm_refusals.proofs.Requests.{at_there}
+use Rattle.nm_refusals.proofs.Modules.{fault_in_module}
+
+get_in : (part : Data) (name : List ℕ) (members : Members) → as_object part ≡ Some members → get name part ≡ get_member name members
+get_in (object m) name ms e = let same : m ≡ ms = cc in ap (get_member name) same
+get_in null name ms e = cc
+get_in (boolean b) name ms e = cc
+get_in (number n) name ms e = cc
+get_in (string text) name ms e = cc
+get_in (array items) name ms e = cc
+
+-- where a member isn't missing, the part is there
+pub place_there : {r : Role} {part : Data} {k : ScenarioKind} {place : List Step} → Tells r part k place → (k ≡ kind.Missing → ⊥) → is_some (walked place part) ≡ true
+place_there (here w) known = refl
+place_there (missing l) known = absurd (known refl)
+place_there (unknown {part = part} {name = name} s) known = ap (λ o. is_some (option_and_then (walked []) o)) (get_in part name s.members s.object_is ∙ s.there)
+place_there (inside {step = step} {place = place} inner child below there t) known = ap (λ o. is_some (option_and_then (walked place) o)) there ∙ place_there t known
+
+-- kinds of faults that are told of a part itself
+abbrev is_own : ScenarioKind → Bool
+is_own kind.Missing = false
+is_own _ = true
+
+own : {r : Role} {k : ScenarioKind} {part : Data} → Wrong r k part → is_own k ≡ true
+own (wrong.no_object a b) = refl
+own (wrong.no_list a b) = refl
+own (wrong.no_item a b) = refl
+own (wrong.no_number a) = refl
+own (wrong.no_switch a b) = refl
+own (wrong.no_form a) = refl
+own (wrong.no_text a) = refl
+own (wrong.no_operation a b) = refl
+own (wrong.no_user a) = refl
+own (wrong.no_word a b) = refl
+own (wrong.other_count n a b) = refl
+own (wrong.no_event a) = refl
+own (wrong.no_request a) = refl
+own (wrong.no_store a) = refl
+own wrong.argument = refl
+own (wrong.some_module a) = refl
+own (wrong.too_many_items limit a b) = refl
+own (wrong.too_many_cells ms a b) = refl
+own (wrong.too_many_nodes ms a b c) = refl
+own (wrong.too_many_rows a) = refl
+own (wrong.too_many_events items a b) = refl
+own (wrong.no_module text fault a b) = refl
+own (wrong.no_cells a) = refl
+own (wrong.no_edit a b) = refl
+own (wrong.no_data k path a) = refl
+own (wrong.invalid found refusal a b) = refl
+own (wrong.unbuilt_form a) = refl
+own wrong.unbuilt_change = refl
+own (wrong.unbuilt_operation a) = refl
+own (wrong.unbuilt_result edit a b) = refl
+own (wrong.unbuilt_beside a b) = refl
+own (wrong.unbuilt_event a) = refl
+own (wrong.unbuilt_request a b) = refl
+own (wrong.unbuilt_list a) = refl
+own wrong.unbuilt_edit = refl
+own (wrong.unbuilt_on a) = refl
+
+-- what lacks a member one step further in
+below_lacks : (part child : Data) (step : Step) (place : List Step) → stepped step part ≡ Some child → LacksMember child place → LacksMember part (step ∷ place)
+below_lacks part child step place there l =
+    record {
+      above = step ∷ l.above;
+      name = l.name;
+      place_is = ap (λ p. step ∷ p) l.place_is;
+      part = l.part;
+      part_is = ap (option_and_then (walked l.above)) there ∙ l.part_is;
+      members = l.members;
+      object_is = l.object_is;
+      absent = l.absent;
+    }
+
+-- where a member is missing, the object is there and doesn't have it
+pub member_lacks : {r : Role} {part : Data} {k : ScenarioKind} {place : List Step} → Tells r part k place → k ≡ kind.Missing → LacksMember part place
+member_lacks (here w) is = let t : is_own kind.Missing ≡ true = subst (λ m. is_own m ≡ true) is (own w) in cc
+member_lacks (missing {part = part} {name = name} l) is =
+    record { above = []; name = name; place_is = refl; part = part; part_is = refl; members = l.members; object_is = l.object_is; absent = l.absent }
+member_lacks (unknown s) is = cc
+member_lacks (inside {part = part} {step = step} {place = place} inner child below there t) is = below_lacks part child step place there (member_lacks t is)
+
+-- ---- whole scenarios
+
+some_there : {A : Type 0} (found : Option A) → (found ≡ None → ⊥) → is_some found ≡ true
+some_there None there = absurd (there refl)
+some_there (Some x) there = refl
+
+walked_one : (found : Option Data) → is_some (option_and_then (walked []) found) ≡ is_some found
+walked_one None = refl
+walked_one (Some part) = refl
+
+modules_count : (part : Data) (modules : List ReadModule) → modules_at part ≡ Ok modules → length modules ≡ item_count part
+unfolding modules_at
+modules_count part modules e = let l : Listed part module_limit modules = list_read part module_limit module_at modules e in l.count
+
+under_ok : {A : Type 0} (name : List ℕ) (read : Result A Fault) (x : A) → under (Name name) read ≡ Ok x → read ≡ Ok x
+under_ok name (Ok y) x e = e
+under_ok name (Err fault) x e = cc
+
+module_there : (found : Option Data) (modules : List ReadModule) (m : ℕ) → optional_from (codes "modules") [] modules_at found ≡ Ok modules → m < length modules → is_some (option_and_then (walked (Item m ∷ [])) found) ≡ true
+module_there None modules m e less = let same : [] ≡ modules = cc in absurd (omega (arith, less, ap length same))
+module_there (Some part) modules m e less =
+    let read : modules_at part ≡ Ok modules = under_ok (codes "modules") (modules_at part) modules e in
+    walked_one (at m part) ∙ some_there (at m part) (at_there part m (omega (arith, less, modules_count part modules read)))
+
+-- where a member isn't missing, the part is there
+pub whole_there : (built : Bool) (whole : Data) (k : ScenarioKind) (place : List Step) → TellsWhole built whole k place → (k ≡ kind.Missing → ⊥) → is_some (walked place whole) ≡ true
+whole_there built whole k place (in_part frame is t) known = place_there t known
+whole_there built whole k place (in_module fault is g) known =
+    module_there (get (codes "modules") whole) g.modules (module_of_fault fault) g.modules_are (omega (arith, fault_in_module (statements_of g.modules) fault g.builds, length-map g.modules statement_of))
+
+-- where a member is missing, the object is there and doesn't have it
+pub whole_lacks : (built : Bool) (whole : Data) (k : ScenarioKind) (place : List Step) → TellsWhole built whole k place → k ≡ kind.Missing → LacksMember whole place
+whole_lacks built whole k place (in_part frame is t) missed = member_lacks t missed
+whole_lacks built whole k place (in_module fault is g) missed = cc

@@ -1,0 +1,75 @@
+use super::*;
+use nm_base::NoMemory;
+use nm_scenario::{ReadError, Scenario, ScenarioKind};
+use std::alloc::Global;
+use std::test::Fail;
+
+// The kind of the fault that was met and how many steps its place has, or None where there is none.
+fn met(answer: Result<Scenario, ReadError>) -> Result<Option<(ScenarioKind, usize)>, NoMemory> {
+    match answer {
+        Ok(_) => Ok(None),
+        Err(ReadError::Bad(fault)) => Ok(Some((fault.kind, fault.place.len()))),
+        Err(ReadError::NoMemory) => Err(NoMemory),
+    }
+}
+
+fn told(alloc: Global, text: &str) -> Result<Option<(ScenarioKind, usize)>, NoMemory> {
+    met(read_scenario(alloc, text.as_bytes()))
+}
+
+fn flat_told(alloc: Global, text: &str) -> Result<Option<(ScenarioKind, usize)>, NoMemory> {
+    met(read_flat_scenario(alloc, text.as_bytes()))
+}
+
+// The examples of docs/FORMATS.md, "Faults".
+#[test]
+fn faults_are_told(rt: HostRuntime) -> Result<(), Fail> {
+    for (text, want) in [
+        (
+            r#"{"netm":1,"contents":"flat","devices":[{"running":{}}]}"#,
+            None,
+        ),
+        ("{", Some((ScenarioKind::NotJson, 0))),
+        ("{}", Some((ScenarioKind::Missing, 1))),
+        (r#"{"netm":2}"#, Some((ScenarioKind::BadValue, 1))),
+        (
+            r#"{"netm":1,"contents":"flat","devices":[{"running":{},"x":1}]}"#,
+            Some((ScenarioKind::Unknown, 3)),
+        ),
+        (
+            r#"{"netm":1,"contents":"flat","devices":[{"running":{"07":1}}]}"#,
+            Some((ScenarioKind::Content, 3)),
+        ),
+        (
+            r#"{"netm":1,"contents":"yang","modules":["x"]}"#,
+            Some((ScenarioKind::Yang, 2)),
+        ),
+    ] {
+        assert_eq!(rt; told(rt.alloc(), text)?, want, "{text}");
+    }
+    Ok(())
+}
+
+// Where only flat contents are built, YANG contents are told at their word.
+#[test]
+fn unbuilt_contents_are_told(rt: HostRuntime) -> Result<(), Fail> {
+    let yang = r#"{"netm":1,"contents":"yang"}"#;
+    assert_eq!(rt; told(rt.alloc(), yang)?, Some((ScenarioKind::Missing, 1)));
+    assert_eq!(rt;
+        flat_told(rt.alloc(), yang)?,
+        Some((ScenarioKind::NotBuilt, 1))
+    );
+    let flat = r#"{"netm":1,"contents":"flat","devices":[{"running":{}}]}"#;
+    assert_eq!(rt; flat_told(rt.alloc(), flat)?, None);
+    Ok(())
+}
+
+// The laws are functions that do nothing.
+#[test]
+fn laws_do_nothing() {
+    laws::kind_by_its_line();
+    laws::place_is_a_part();
+    laws::limits_kept();
+    laws::order_of_members();
+    laws::members_ascend();
+}
