@@ -1,5 +1,5 @@
 -- What is said without the bytes of the input, and what is said where there were too many.
-use Rattle.std.proofs.Common.{◌≡◌, ℕ, ◌<◌, ◌+◌, List, [], length, Option, Some, None, Result, Ok, Err, IfSome, unwrap_or, replicate, cond, refl, sym, ap, subst, arith, lt-ltb}
+use Rattle.std.proofs.Common.{◌≡◌, ℕ, ◌<◌, ◌+◌, List, [], length, true, false, Option, Some, None, Result, Ok, Err, IfSome, unwrap_or, replicate, cond, refl, sym, ap, subst, arith, lt-ltb}
 use Rattle.std.proofs.lemmas.List.{length-replicate}
 use Rattle.nm_proto.specs.FlatContent.{flat_meaning}
 use Rattle.nm_reading.specs.declared.fault.ScenarioKind.TheVariants.{TooLong}
@@ -8,13 +8,19 @@ use Rattle.nm_reading.specs.Reading.{◌>>=◌, here}
 use Rattle.nm_scenario.specs.declared.scenario.Body.{Body}
 use Rattle.nm_scenario.specs.declared.scenario.Body.TheVariants.{Flat, Yang}
 use Rattle.nm_scenario.specs.declared.scenario.Scenario.{Scenario}
-use Rattle.nm_scenario.specs.Scenario.{ReadsWhole, byte_limit, flat_scenario_of, flat_whole_at, json_of, parsed, whole_of}
+use Rattle.nm_scenario.specs.Scenario.{ReadsBytes, ReadsWhole, byte_limit, flat_scenario_of, flat_whole_at, json_of, parsed, whole_of}
+use Rattle.nm_refusals.specs.Told.{ToldOfBytes}
+use Rattle.nm_refusals.specs.Kept.{ScenarioKeeps}
+use Rattle.nm_refusals.proofs.Sound.{IsSound}
+use Rattle.nm_refusals.proofs.Wholes.{bytes_told, flat_bytes_told}
+use Rattle.nm_refusals.proofs.Good.{IsGood}
+use Rattle.nm_refusals.proofs.KeptWhole.{bytes_keep, flat_bytes_good}
 use Rattle.nm_world.proofs.Safe.{run_is_safe}
 use Rattle.nm_console.specs.declared.status.Status.{Status}
 use Rattle.nm_console.specs.declared.command.Command.{Command}
 use Rattle.nm_console.specs.declared.command.Command.TheVariants.{Check, Replay}
 use Rattle.nm_console.specs.Refusal.{of_whole}
-use Rattle.nm_console.specs.Console.{AreFirst, Tells, Says, IsTold, RunsSafely, RunsSafelyBy, faulted, replayed, usage_told, course_of, plan_of}
+use Rattle.nm_console.specs.Console.{AreFirst, Tells, Says, IsTold, IsKnown, RunsSafely, RunsSafelyBy, faulted, replayed, usage_told, course_of, plan_of}
 use Rattle.nm_console.proofs.Valid.{devices_valid}
 
 held : (left : Option (List ℕ)) (other : List ℕ) → IfSome left (λ told. told ≡ unwrap_or left other)
@@ -33,11 +39,30 @@ pub safe : (bytes : List ℕ) (given : Result Scenario Fault) → flat_scenario_
 safe bytes (Err fault) e = tt
 safe bytes (Ok s) e = safe_by s s.body (devices_valid bytes s e)
 
+known_of : (bytes : List ℕ) (outcome : Result Scenario Fault) → ReadsBytes bytes outcome → IsKnown true bytes outcome
+known_of bytes (Err fault) reads = bytes_told bytes fault reads
+known_of bytes (Ok s) reads = bytes_keep bytes s reads
+
+flat_known : (bytes : List ℕ) (given : Result Scenario Fault) → flat_scenario_of bytes ≡ given → IsKnown false bytes given
+flat_known bytes (Err fault) e = let sound : IsSound (ToldOfBytes false bytes) (flat_scenario_of bytes) = flat_bytes_told bytes in sound.so fault e
+flat_known bytes (Ok s) e = let good : IsGood ScenarioKeeps (flat_scenario_of bytes) = flat_bytes_good bytes in good.so s e
+
+-- what the program says to bytes is safe, and what is read of them is known
+says : (left : Option (List ℕ)) (command : Option Command) (bytes : List ℕ) (status : Status) (text : List ℕ) → IfSome left (λ told. told ≡ bytes) → IsTold command bytes status text → Says left command status text
+says left command bytes status text h tells = record {
+  bytes = bytes;
+  held = h;
+  tells = tells;
+  safe = safe bytes (flat_scenario_of bytes) refl;
+  checked_known = known_of bytes;
+  replayed_known = flat_known bytes (flat_scenario_of bytes) refl;
+}
+
 pub bytes_say : (left : Option (List ℕ)) (command : Command) (bytes : List ℕ) (status : Status) (text : List ℕ) → IfSome left (λ told. told ≡ bytes) → IsTold (Some command) bytes status text → Says left (Some command) status text
-bytes_say left command bytes status text h tells = record { bytes = bytes; held = h; tells = tells; safe = safe bytes (flat_scenario_of bytes) refl }
+bytes_say left command bytes status text h tells = says left (Some command) bytes status text h tells
 
 pub usage_says : (left : Option (List ℕ)) (status : Status) (text : List ℕ) → Tells usage_told status text → Says left None status text
-usage_says left status text tells = record { bytes = unwrap_or left []; held = held left []; tells = tells; safe = safe (unwrap_or left []) (flat_scenario_of (unwrap_or left [])) refl }
+usage_says left status text tells = says left None (unwrap_or left []) status text (held left []) tells
 
 whole_of-too_long : (bytes : List ℕ) → byte_limit < length bytes → whole_of bytes ≡ here TooLong
 unfolding whole_of
@@ -76,11 +101,6 @@ too_long (Some told) h = h
 
 pub too_long_says : (left : Option (List ℕ)) (command : Command) (status : Status) (text : List ℕ) → IfSome left (λ told. byte_limit < length told) → Tells (faulted (of_whole TooLong)) status text → Says left (Some command) status text
 too_long_says left command status text h tells =
-    record {
-      bytes = unwrap_or left more;
-      held = held left more;
-      safe = safe (unwrap_or left more) (flat_scenario_of (unwrap_or left more)) refl;
-      tells = long_told command (unwrap_or left more) status text (too_long left h) tells;
-    }
+    says left (Some command) (unwrap_or left more) status text (held left more) (long_told command (unwrap_or left more) status text (too_long left h) tells)
 
 pub ruleset saying = (usage_says, too_long_says)

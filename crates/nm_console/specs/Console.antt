@@ -1,5 +1,5 @@
 -- What the program says to its words and its input (this project's own), and what the top call tells of it.
-use Rattle.std.specs.Prelude.{◌≡◌, ℕ, codes, List, [], ◌∷◌, length, map, Bool, Option, Some, None, Result, Ok, Err, IfSome, IsTrue}
+use Rattle.std.specs.Prelude.{◌≡◌, ℕ, codes, List, [], ◌∷◌, length, map, Bool, true, false, Option, Some, None, Result, Ok, Err, IfSome, IsTrue}
 use Rattle.std.specs.List.{All}
 use Rattle.std.specs.Io.KnownBytes.{append_known}
 use Rattle.nm_io.specs.Bytes.{Begins}
@@ -16,6 +16,8 @@ use Rattle.nm_scenario.specs.declared.scenario.Body.{Body}
 use Rattle.nm_scenario.specs.declared.scenario.Body.TheVariants.{Flat, Yang}
 use Rattle.nm_scenario.specs.declared.scenario.Scenario.{Scenario}
 use Rattle.nm_scenario.specs.Scenario.{ReadsBytes, flat_scenario_of}
+use Rattle.nm_refusals.specs.Told.{ToldOfBytes}
+use Rattle.nm_refusals.specs.Kept.{ScenarioKeeps}
 use Rattle.nm_world.specs.declared.course.Course.{Course}
 use Rattle.nm_world.specs.World.{WorldState, IsFirst, start, run}
 use Rattle.nm_world.specs.Outcome.{IsSafe}
@@ -145,12 +147,20 @@ abbrev pub RunsSafely : Result Scenario Fault → Type 0
 RunsSafely (Err fault) = Unit {0}
 RunsSafely (Ok s) = RunsSafelyBy s.body s
 
+-- what is known of the scenario that bytes are read as, or of their fault, where YANG contents are built or aren't: the scenario
+-- is within all limits; the place of the fault leads to a part of the text of which its kind is so
+abbrev pub IsKnown : Bool → List ℕ → Result Scenario Fault → Type 0
+IsKnown built bytes (Err fault) = ToldOfBytes built bytes fault
+IsKnown built bytes (Ok s) = ScenarioKeeps s
+
 -- a status and a text that answer some bytes, those that the source told where it tells them
 pub record Says (left : Option (List ℕ)) (command : Option Command) (status : Status) (text : List ℕ) : Type 0 where
   pub bytes : List ℕ
   pub held : IfSome left (λ told. told ≡ bytes)
   pub tells : IsTold command bytes status text
   pub safe : RunsSafely (flat_scenario_of bytes)
+  pub checked_known : (outcome : Result Scenario Fault) → ReadsBytes bytes outcome → IsKnown true bytes outcome
+  pub replayed_known : IsKnown false bytes (flat_scenario_of bytes)
 
 -- the whole answer to some bytes was written, and nothing else
 pub record Answers (left : Option (List ℕ)) (command : Option Command) (before after : Option (List ℕ)) (status : Status) : Type 0 where

@@ -8,8 +8,9 @@ use crate::rows::{cells_of, rows_of};
 use crate::said::{Said, say_fault};
 use crate::status::Status;
 use nm_base::{Label, NoMemory};
+use nm_refusals::read_scenario;
 use nm_report::write_check;
-use nm_scenario::{Body, ReadError, Scenario, read_scenario};
+use nm_scenario::{Body, ReadError, Scenario};
 use std::alloc::Global;
 
 /// The answer of `check` to the bytes of a scenario.
