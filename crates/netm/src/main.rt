@@ -1,6 +1,9 @@
 //! The program `netm`: `console` over the process's own words, standard input and standard output.
 #![tactic(auto)]
 
+#[cfg(test)]
+mod tables;
+
 use nm_base::NoMemory;
 use nm_console::console::console;
 use nm_console::status::Status;

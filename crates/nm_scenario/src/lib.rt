@@ -8,15 +8,11 @@
 #![tactic(auto)]
 
 mod changes;
-#[cfg(test)]
-mod contents_tests;
 mod devices;
 mod flat;
 mod flat_scenario;
 pub mod head;
 mod numbering;
-#[cfg(test)]
-mod operator_tests;
 mod operators;
 mod read;
 mod rest;

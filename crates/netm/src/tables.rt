@@ -1,0 +1,67 @@
+//! Tables of scenarios with what the program writes for them. The lines are worked out by hand from docs/FORMATS.md.
+
+mod changes;
+mod devices;
+mod events;
+mod limits;
+mod members;
+mod modules;
+mod operators;
+mod pointers;
+mod replay;
+mod requests;
+mod whole;
+mod yang;
+
+use nm_console::console::console;
+use nm_io::{MemorySink, MemorySource};
+use std::alloc::Global;
+use std::test::Fail;
+
+/// A name, a part of a scenario, and the line that tells its fault, or what is written of it where it has none.
+struct Row(&'static str, &'static str, &'static str);
+
+/// What stands around the part of a scenario, and around what is written of it where there is no fault.
+struct Frame {
+    command: &'static str,
+    open: &'static str,
+    close: &'static str,
+    head: &'static str,
+    tail: &'static str,
+}
+
+// The status for an input, and what is written.
+fn written(alloc: Global, command: &str, bytes: &[u8]) -> Result<(u8, String), Fail> {
+    let mut words = Vec::new(alloc);
+    words.push(String::from_str(alloc, command)?)?;
+    let bytes = Vec::from_slice(alloc, bytes)?;
+    let mut input = MemorySource::new(bytes, Vec::new(alloc));
+    let mut output = MemorySink::new(alloc, 8192, Vec::new(alloc))?;
+    let status = console(alloc, words.as_slice(), &mut input, &mut output);
+    let text = str::from_utf8(output.taken())?;
+    Ok((status.code(), String::from_str(alloc, text)?))
+}
+
+// Fails where something else is written for a row. A fault has status 3.
+fn answers(alloc: Global, frame: &Frame, row: &Row) -> Result<(), Fail> {
+    let Row(name, part, line) = *row;
+    let text = format!(in alloc; "{}{part}{}", frame.open, frame.close)?;
+    let (status, found) = written(alloc, frame.command, text.as_bytes())?;
+    let (fitting, wanted) = if line.starts_with("scenario ") {
+        (3, format!(in alloc; "{line}\n")?)
+    } else {
+        (0, format!(in alloc; "{}{line}{}", frame.head, frame.tail)?)
+    };
+    if status == fitting && found == wanted {
+        return Ok(());
+    }
+    Err(Fail::new(format_args!("{name}: {status} {found}")))
+}
+
+// Fails where something else is written for one of the rows.
+fn all_answer(alloc: Global, frame: &Frame, rows: &[Row]) -> Result<(), Fail> {
+    for row in rows {
+        answers(alloc, frame, row)?;
+    }
+    Ok(())
+}
