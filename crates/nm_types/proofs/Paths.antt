@@ -1,11 +1,12 @@
 -- The order of paths by their parts.
-use Rattle.std.proofs.Common.{◌≡◌, ℕ, ◌<◌, ◌-◌, List, [], ◌∷◌, length, get_or, take, drop, ◌++◌, refl, sym, arith, Ordering, ◌⊎◌, inl, inr}
+use Rattle.std.proofs.Common.{◌≡◌, ℕ, ◌<◌, ◌-◌, List, [], ◌∷◌, length, get_or, take, drop, ◌++◌, refl, sym, ap, ◌∙◌, arith, Ordering, ◌⊎◌, inl, inr}
 use Rattle.std.proofs.lemmas.List.{take_all}
 use Rattle.std.proofs.lemmas.Bool.Decides.{nat_tests}
 use Rattle.std.specs.Ordering.{ordering_then, nat_cmp}
-use Rattle.std.specs.Cmp.Lexicographic.{slice_cmp}
+use Rattle.std.specs.Cmp.Lexicographic.{slice_cmp, nat_list_cmp_total}
+use Rattle.std.proofs.lemmas.Cmp.{tied_itself}
 use Rattle.std.specs.declared.cmp.Ordering.TheVariants.{Less, Equal, Greater}
-use Rattle.nm_types.specs.Path.{PathStep, at_top, printed_cmp, step_cmp, path_cmp}
+use Rattle.nm_types.specs.Path.{PathStep, at_top, choice_cmp, printed_cmp, step_cmp, path_cmp}
 use Rattle.nm_types.specs.PathLaws.{path_cmp-cons}
 
 shorter : (m n : ℕ) → m < n → nat_cmp m n ≡ Less
@@ -39,6 +40,15 @@ slice_cmp-same_front [] xs ys = refl
 slice_cmp-same_front (n ∷ p) xs ys =
     let e : nat_cmp n n ≡ Equal = grind (arith, nat_tests) in
     rw e (slice_cmp-same_front p xs ys)
+
+-- two steps at the top with one module are in the order of their names, and then of what they choose
+pub printed_cmp-one_module : (s t : PathStep) → s.module ≡ t.module → ordering_then (slice_cmp nat_cmp s.name t.name) (choice_cmp s.chosen t.chosen) ≡ printed_cmp (at_top s) (at_top t)
+unfolding printed_cmp
+printed_cmp-one_module s t e =
+    let names : slice_cmp nat_cmp (s.module ++ 58 ∷ s.name) (t.module ++ 58 ∷ t.name) ≡ slice_cmp nat_cmp s.name t.name =
+    ap (λ m. slice_cmp nat_cmp (s.module ++ 58 ∷ s.name) (m ++ 58 ∷ t.name)) (sym e) ∙ slice_cmp-same_front s.module (58 ∷ s.name) (58 ∷ t.name) in
+    let modules : slice_cmp nat_cmp s.module t.module ≡ Equal = ap (slice_cmp nat_cmp s.module) (sym e) ∙ tied_itself nat_list_cmp_total s.module in
+    λ i. ordering_then (sym names i) (ordering_then (sym modules i) (choice_cmp s.chosen t.chosen))
 
 -- where two orders stand one after the other, the second decides what is equal to the first, and the first the rest
 pub decided_later : (o p q : Ordering) → o ≡ Equal → ordering_then o p ≡ q → p ≡ q

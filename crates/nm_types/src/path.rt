@@ -1,5 +1,5 @@
-ghost use Rattle.std.specs.Prelude.{◌≡◌, ◌↔◌, ◌∷◌, ◌++◌, IsTrue, IfOk, Some, refl};
-ghost use Rattle.std.specs.Ordering.{eq_by_cmp, nat_cmp};
+ghost use Rattle.std.specs.Prelude.{◌≡◌, ◌↔◌, ◌∷◌, ◌++◌, [], IsTrue, IfOk, Some, refl};
+ghost use Rattle.std.specs.Ordering.{eq_by_cmp, nat_cmp, ordering_then};
 ghost use Rattle.std.specs.Cmp.Lexicographic.{slice_cmp};
 ghost use Rattle.std.specs.Cmp;
 ghost use Rattle.nm_types.specs.Path.{choice_rank, choice_cmp, at_top, printed_cmp, step_cmp, path_cmp};
@@ -128,11 +128,23 @@ impl Step {
         self == other
     }
 
+    // The order of two steps to nodes of one module.
+    fn order_in_module(&self, other: &Step) -> Ordering
+        ensures { result ≡ ordering_then (slice_cmp nat_cmp self.now.name other.now.name) (choice_cmp self.now.chosen other.now.chosen) }
+    {
+        self.name
+            .cmp(&other.name)
+            .then_with(|| self.chosen.order(&other.chosen))
+    }
+
     // The order of two steps at the top, where names are printed with their modules.
     #[tactic(auto, unfolding(crate::specs::Path::printed_cmp))]
     fn order_at_top(&self, other: &Step) -> Ordering
         ensures { result ≡ printed_cmp (at_top self.now) (at_top other.now) }
     {
+        if self.module.same(&other.module) {
+            return self.order_in_module(other);
+        }
         order_of_names(&self.module, &self.name, &other.module, &other.name)
             .then_with(|| self.module.cmp(&other.module))
             .then_with(|| self.chosen.order(&other.chosen))
@@ -143,9 +155,6 @@ impl Step {
 fn order_of_names(owner: &Label, name: &Label, other_owner: &Label, other_name: &Label) -> Ordering
     ensures { result ≡ slice_cmp nat_cmp (owner.now ++ 58 ∷ name.now) (other_owner.now ++ 58 ∷ other_name.now) }
 {
-    if owner.same(other_owner) {
-        return name.cmp(other_name);
-    }
     let ours = owner
         .as_str()
         .bytes()
@@ -211,6 +220,18 @@ impl Path {
         for step in &self.steps {
             steps.push(step.copy(alloc)?)?;
         }
+        Ok(Path { steps })
+    }
+
+    /// The path with one step more. It copies no bytes of names and texts.
+    pub fn with_step(&self, alloc: Global, step: Step) -> Result<Path, NoMemory>
+        ensures { IfOk result (λ path. path ≡ self.now ++ step ∷ []) }
+    {
+        let mut steps = Vec::with_capacity(alloc, self.steps.len() + 1)?;
+        for before in &self.steps {
+            steps.push(before.copy(alloc)?)?;
+        }
+        steps.push(step)?;
         Ok(Path { steps })
     }
 

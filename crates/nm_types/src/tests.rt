@@ -298,3 +298,26 @@ fn path_order(rt: HostRuntime) -> Result<(), Fail> {
     }
     Ok(())
 }
+
+// A path, a name more, and the path with a step of that name; the first name is the module's.
+#[test]
+fn longer_paths(rt: HostRuntime) -> Result<(), Fail> {
+    let cases: [(&[&str], &str, &[&str]); 3] = [
+        (&["a"], "c", &["a", "c"]),
+        (&["a", "c"], "b", &["a", "c", "b"]),
+        (&["a", "c", "b"], "c", &["a", "c", "b", "c"]),
+    ];
+    for (names, name, longer) in cases {
+        let step = Step {
+            module: Label::new(rt.alloc(), "a")?,
+            name: Label::new(rt.alloc(), name)?,
+            chosen: Chosen::Whole,
+        };
+        let made = path(rt.alloc(), names, Key::Whole)?.with_step(rt.alloc(), step)?;
+        assert!(rt;
+            made.same(&path(rt.alloc(), longer, Key::Whole)?),
+            "at {name}"
+        );
+    }
+    Ok(())
+}

@@ -133,10 +133,15 @@ impl Ord for Value {
 
     #[tactic(auto, unfolding(crate::specs::Value::value_cmp))]
     fn cmp(&self, other: &Value) -> Ordering {
-        self.rank()
-            .cmp(&other.rank())
-            .then_with(|| self.number().cmp(&other.number()))
-            .then_with(|| self.digits().cmp(&other.digits()))
-            .then_with(|| self.text().cmp(other.text()))
+        match (self, other) {
+            (Value::Text(ours), Value::Text(theirs)) => ours.cmp(theirs),
+            (Value::Int(ours), Value::Int(theirs)) => ours.cmp(theirs),
+            _ => self
+                .rank()
+                .cmp(&other.rank())
+                .then_with(|| self.number().cmp(&other.number()))
+                .then_with(|| self.digits().cmp(&other.digits()))
+                .then_with(|| self.text().cmp(other.text())),
+        }
     }
 }

@@ -1,10 +1,8 @@
-use Rattle.std.proofs.Common.{append_assoc, ◌≡◌, [], ◌∷◌, ◌++◌, refl, sym, subst, ◌∙◌}
+use Rattle.std.proofs.Common.{append_assoc, ◌≡◌, [], ◌∷◌, refl, ◌∙◌}
 use Rattle.std.proofs.lemmas.Iterator.Search.{cmp_from_yields_List}
 use Rattle.std.proofs.lemmas.Iterator.Adapters.{YieldsList-from_bytes}
 use Rattle.std.proofs.lemmas.Iterator.Consumers.{YieldsList-from_chain, YieldsList-at}
 use Rattle.std.specs.Ordering.{nat_cmp}
-use Rattle.std.specs.Cmp.Lexicographic.{slice_cmp}
-use Rattle.nm_types.proofs.Paths.{slice_cmp-same_front}
 use Rattle.nm_types.proofs.path.order_of_names.Goals as goal
 
 pub returns : goal.returns
@@ -23,11 +21,5 @@ returns c =
     c.chain-2.ensures.first_done c.chain-2.ensures.second_done))
     (YieldsList-at c.chain-theirs.ensures.second (YieldsList-from_bytes c.args.other_name.now (c.bytes-6.ensures.rest ∙ c.as_str-4.ensures)))
     c.chain-theirs.ensures.first_done c.chain-theirs.ensures.second_done in
-    let e = cmp_from_yields_List (λ x y. y ≡ x) _ nat_cmp c.cmp-2.result c.cmp-2.ensures.ran ours (λ it same. YieldsList-at same theirs) (λ x y. refl) in
+    let e = cmp_from_yields_List (λ x y. y ≡ x) _ nat_cmp c.cmp.result c.cmp.ensures.ran ours (λ it same. YieldsList-at same theirs) (λ x y. refl) in
     simp append_assoc at e
-
-pub returns-then-same : goal.returns-then-same
-returns-then-same c =
-    let same = c.if-same.ensures.0 refl in
-    let rest = slice_cmp-same_front c.args.owner.now (58 ∷ c.args.name.now) (58 ∷ c.args.other_name.now) in
-    c.cmp.ensures ∙ sym (subst (λ front. slice_cmp nat_cmp (c.args.owner.now ++ 58 ∷ c.args.name.now) (front ++ 58 ∷ c.args.other_name.now) ≡ slice_cmp nat_cmp c.args.name.now c.args.other_name.now) same rest)
