@@ -9,11 +9,12 @@ use Rattle.std.specs.Ordering.{eq_by_cmp, is_lt, is_eq}
 use Rattle.std.specs.Cmp.{IsTotalOrder, eq_by_cmp_equiv}
 use Rattle.std.specs.List.{AllByRecursion}
 use Rattle.std.specs.List.Sorted.{IsStrictlySortedBy}
-use Rattle.std.specs.Map.{lookup, keys_of}
+use Rattle.std.specs.Map.{lookup, keys_of, update, update_all}
 use Rattle.std.specs.BTreeMap.{is_at}
 use Rattle.std.specs.FinMap.{FinMap, IsAntisymmetric, get, insert, remove, get-remove, entries, empty, len, retain_keys, get-retain_keys, entries_sorted, get-entries, get-empty, len-entries, len-empty, empty_of_len, from_entries, from_sorted, same_map, get-from_entries, get-insert, get-from_sorted, entries-from_sorted}
 use Rattle.std.specs.FinMap.Entries.{find, is_sorted, below_all}
 use Rattle.std.specs.Option.{option_or}
+use Rattle.nm_config.specs.Rows.{with_entries}
 use Rattle.std.proofs.lemmas.Map.Entries.{lookup-filter-keys}
 
 both : (a b : Bool) → T a → T b → T (a && b)
@@ -47,11 +48,6 @@ or_none None = refl
 or_none (Some x) = refl
 
 module _ {K X : Type 0} {R : K → K → Ordering} where
-  -- a map with more entries put into it, one after another
-  abbrev pub with_entries : FinMap R X → List (K × X) → FinMap R X
-  with_entries m [] = m
-  with_entries m (e ∷ es) = with_entries (insert m e.0 e.1) es
-
   -- a map is empty exactly where its length is 0
   pub empty_by_len : (m : FinMap R X) (n : ℕ) → n ≡ len m → IsTrue (nat_eq n 0) ↔ (m ≡ empty)
   empty_by_len m n e = (λ h. empty_of_len m (sym e ∙ eqb→eq n 0 (subst T (sym h) tt)), λ h. eq-eqb n 0 (e ∙ ap len h ∙ len-empty R X))
@@ -105,6 +101,16 @@ module _ {K : Type 0} {R : K → K → Ordering} (o : IsTotalOrder R) (exact : I
   get-with_entries (e ∷ es) h m q = get-with_entries es (second (below_all R e.0 es) (is_sorted R es) h) (insert m e.0 e.1) q
       ∙ ap (option_or (find R q es)) (get-insert o m e.0 e.1 q)
       ∙ later (eq_by_cmp R q e.0) e.1 (find R q es) (get m q) (λ t. ap (λ k. find R k es) (exact q e.0 (equal (R q e.0) t)) ∙ find_above R e.0 es (first (below_all R e.0 es) (is_sorted R es) h))
+
+  -- what a map has with more entries, in the words of std
+  get-with_more : (es : List (K × X)) (m : FinMap R X) (f : K → Option X) → ((q : K) → f q ≡ get m q) → (q : K) → update_all (eq_by_cmp R) f es q ≡ get (with_entries m es) q
+  get-with_more [] m f h q = h q
+  get-with_more (e ∷ es) m f h q = get-with_more es (insert m e.0 e.1) (update (eq_by_cmp R) f e.0 (Some e.1))
+      (λ p. ap (λ b. cond b (Some e.1) (f p)) ((eq_by_cmp_equiv o).symm e.0 p) ∙ ap (cond (eq_by_cmp R p e.0) (Some e.1)) (h p) ∙ sym (get-insert o m e.0 e.1 p)) q
+
+  -- the map of entries that std put into the empty map
+  pub collected : (es fs : List (K × X)) → ((q : K) → lookup (is_at (R q)) fs ≡ update_all (eq_by_cmp R) (λ _. None) es q) → from_entries {R = R} fs ≡ with_entries empty es
+  collected es fs h = same_map o exact _ _ (λ q. get_lookup fs q ∙ h q ∙ get-with_more es empty (λ _. None) (λ p. sym (get-empty R p)) q)
 
   -- a map's own entries, put into the empty map, make it
   pub with_own_entries : (m : FinMap R X) → with_entries empty (entries m) ≡ m

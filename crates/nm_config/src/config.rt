@@ -5,7 +5,7 @@ ghost use Rattle.std.specs.List.{list_any};
 ghost use Rattle.std.specs.BTreeMap.{keys, IsOrdered};
 ghost use Rattle.nm_types.specs.Path.{PathStep, path_cmp};
 ghost use Rattle.nm_types.specs.declared.value.Value.{Value as LeafValue};
-ghost use Rattle.nm_config.specs.Rows.{next_path};
+ghost use Rattle.nm_config.specs.Rows.{next_path, with_entries};
 ghost use Rattle.nm_config.specs.Under.{is_under as under_node, rows_under, rows_outside, has_under, under, without_rows, without_under};
 
 use crate::under::is_under;
@@ -46,6 +46,17 @@ impl Config {
             alloc,
             tree: BTreeMap::new(alloc),
         }
+    }
+
+    /// The configuration of some rows, in any order. Where rows have one path, the last of them stands.
+    pub fn of_rows(alloc: Global, rows: Vec<(Path, Value)>) -> Result<Config, NoMemory>
+        ensures { IfOk result (λ config. config ≡ with_entries map.empty rows.items) }
+    {
+        if falls(&rows) {
+            return put_all(alloc, rows);
+        }
+        let tree = BTreeMap::from_iter(alloc, rows)?;
+        Ok(Config { alloc, tree })
     }
 
     /// How many rows there are.
@@ -137,6 +148,25 @@ impl Config {
         }
         Ok(copied)
     }
+}
+
+// Whether the last of some rows stands before the first.
+fn falls(rows: &[(Path, Value)]) -> bool {
+    match (rows.first(), rows.last()) {
+        (Some((first, _)), Some((last, _))) => last < first,
+        _ => false,
+    }
+}
+
+// The configuration of some rows, which are put into it one after another.
+fn put_all(alloc: Global, rows: Vec<(Path, Value)>) -> Result<Config, NoMemory>
+    ensures { IfOk result (λ config. config ≡ with_entries map.empty rows.items) }
+{
+    let mut config = Config::new(alloc);
+    for (path, value) in rows {
+        config.put(path, value)?;
+    }
+    Ok(config)
 }
 
 // Whether a row is at or below a node: the first at or after it would be.

@@ -97,6 +97,33 @@ fn rows(rt: HostRuntime) -> Result<(), Fail> {
     Ok(())
 }
 
+// Rows by their places in the table, each with its place among these as its value, and the values in path order.
+#[test]
+fn of_rows(rt: HostRuntime) -> Result<(), Fail> {
+    let alloc = rt.alloc();
+    let cases: &[(&[usize], &[i128])] = &[
+        (&[], &[]),
+        (&[0, 1, 2, 3], &[1, 2, 3, 4]),
+        (&[3, 2, 1, 0], &[4, 3, 2, 1]),
+        (&[2, 0, 3, 1], &[2, 4, 1, 3]),
+        (&[0, 1, 0, 2], &[3, 2, 4]),
+        (&[5, 4, 5, 1], &[4, 2, 3]),
+    ];
+    for (places, expected) in cases {
+        let mut rows = Vec::new(alloc);
+        let mut count = 0i128;
+        for place in *places {
+            count = count.saturating_add(1);
+            if let Some(row) = ROWS.get(*place) {
+                rows.push((path(alloc, row)?, Value::Int(count)))?;
+            }
+        }
+        let config = Config::of_rows(alloc, rows)?;
+        assert_eq!(rt; numbers(alloc, &config)?.as_slice(), *expected);
+    }
+    Ok(())
+}
+
 // What is at or below a node, and what of all rows is left without it.
 #[test]
 fn below(rt: HostRuntime) -> Result<(), Fail> {

@@ -1,7 +1,8 @@
 use Rattle.std.proofs.Common.{ap, ◌∙◌}
 use Rattle.std.specs.FinMap as map
 use Rattle.nm_types.specs.PathLaws.{paths_total, path_cmp-IsAntisymmetric}
-use Rattle.nm_config.proofs.Maps.{with_entries, with_own_entries}
+use Rattle.nm_config.specs.Rows.{with_entries}
+use Rattle.nm_config.proofs.Maps.{with_own_entries}
 use Rattle.nm_config.proofs.config.Config.copy.Goals as goal
 
 pub loop-path-init : goal.loop-path-init

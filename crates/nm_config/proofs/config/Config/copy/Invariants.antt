@@ -1,5 +1,5 @@
 use Rattle.std.proofs.Common.{◌≡◌}
-use Rattle.nm_config.proofs.Maps.{with_entries}
+use Rattle.nm_config.specs.Rows.{with_entries}
 use Rattle.nm_config.proofs.config.Config.copy.Given as goal
 
 abbrev pub invariant-loop-path : goal.invariant-loop-path
