@@ -229,12 +229,12 @@ tied_least f g fs gs s one other =
     tied f g (upto_among f g gs other.among (all_shuffled (IsUpto f) s one.least)) (upto_among g f gs (among_shuffled f s one.among) other.least)
 
 -- two least faults of such lists
-abbrev AreTied : Option Fault → Option Fault → Type 0
+abbrev pub AreTied : Option Fault → Option Fault → Type 0
 AreTied None None = Unit {0}
 AreTied (Some f) (Some g) = fault_cmp f g ≡ Equal
 AreTied _ _ = ⊥
 
-tied_at : (fs gs : List Fault) (x y : Option Fault) → Shuffled fs gs → Shuffled gs fs → least_of fs ≡ x → least_of gs ≡ y → AreTied x y
+pub tied_at : (fs gs : List Fault) (x y : Option Fault) → Shuffled fs gs → Shuffled gs fs → least_of fs ≡ x → least_of gs ≡ y → AreTied x y
 tied_at fs gs None None s r a b = tt
 tied_at fs gs (Some f) (Some g) s r a b = tied_least f g fs gs s (least_is fs f a) (least_is gs g b)
 tied_at fs gs None (Some g) s r a b =
@@ -246,7 +246,7 @@ tied_at fs gs (Some f) None s r a b =
     let nothing : least_of fs ≡ None = ap least_of none in
     cc
 
-same_answer : (t : SchemaTree) (x y : Option Fault) (m n : Rows) → AreTied x y → (x ≡ None → m ≡ n) → answered t x m ≡ answered t y n
+pub same_answer : (t : SchemaTree) (x y : Option Fault) (m n : Rows) → AreTied x y → (x ≡ None → m ≡ n) → answered t x m ≡ answered t y n
 same_answer t None None m n h e = ap (answered t None) (e refl)
 same_answer t (Some f) (Some g) m n h e =
     let kind = same_kind f g h in

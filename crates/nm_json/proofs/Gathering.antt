@@ -12,8 +12,7 @@ use Rattle.nm_types.specs.declared.value.Value.{Value as LeafValue}
 use Rattle.nm_types.specs.declared.value.Value.TheVariants.{Present}
 use Rattle.nm_tree.specs.Nodes.{SchemaTree, is_key}
 use Rattle.nm_json.specs.declared.fault.Fault.{Fault}
-use Rattle.nm_json.specs.declared.gathered.Gathered.{Gathered}
-use Rattle.nm_json.specs.Noted.{noted, gathered}
+use Rattle.nm_json.specs.Noted.{Gathered, noted, gathered}
 use Rattle.nm_json.specs.Findings.{Finding, row, Spot, bare, step_below, Wanted, ignored, container, list_item, wanted, wanted_of, presence_found, entry_path, key_read, found, items_found, members_found, named_found, name_found, node_named, is_twice, values_of, faults_of}
 
 pub gathered-none : (g : Gathered) → gathered g [] ≡ g

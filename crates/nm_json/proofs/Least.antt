@@ -1,4 +1,4 @@
--- The least of faults, and what noting findings one after another gives.
+-- The least of faults.
 use Rattle.std.proofs.Common.{◌≡◌, ℕ, ◌≤◌, List, [], ◌∷◌, fold, nat_lt, Bool, true, false, if◌then◌else◌, Option, Some, None, is_some, Result, Ok, Err, Ordering, Less, Equal, Greater, refl, sym, ap, subst, ◌∙◌, arith, ◌↔◌, ◌⊎◌, inl, inr}
 use Rattle.std.proofs.lemmas.Bool.Decides.{nat_tests}
 use Rattle.std.proofs.lemmas.Cmp.{on_total, then_total, nat_cmp_total, lists_total, tied_itself}
@@ -16,34 +16,10 @@ use Rattle.nm_json.specs.declared.fault.JsonKind.TheVariants.{Repeated}
 use Rattle.nm_json.specs.declared.fault.JsonFault.{JsonFault}
 use Rattle.nm_json.specs.declared.fault.JsonFault.TheVariants.{Bad, TooManyRows}
 use Rattle.nm_json.specs.declared.fault.Fault.{Fault}
-use Rattle.nm_json.specs.declared.gathered.Gathered.{Gathered}
 use Rattle.nm_json.specs.Places.{fault_cmp, place_steps, kind_rank, lesser, place_text}
 use Rattle.nm_json.specs.Findings.{Finding, row, bad, fault_at, whole_found}
-use Rattle.nm_json.specs.Noted.{noted, nothing, gathered}
 use Rattle.nm_json.specs.Whole.{rows_of, if_repeated, faults_found, least_of, answered, config_read, row_limit}
 use Rattle.nm_json.specs.Laws.{all_faults, IsAmong, IsUpto, IsLeast, HasLeast, HasRows}
-
--- ---- noting
-
-fold_repeated : (b : Bool) (least : Option Fault) (path : List PathStep) (fs : List Fault)
-    → fold lesser (if b then lesser least (fault_at path Repeated) else least) fs ≡ fold lesser least (if_repeated b path fs)
-fold_repeated true least path fs = refl
-fold_repeated false least path fs = refl
-
-abbrev pub Both : Rows → Option Fault → Gathered
-Both rows least = record { config = rows; least = least }
-
--- findings that are noted one after another: their rows, and the least of their faults
-pub gathered_is : (g : Gathered) (fs : List Finding) → gathered g fs ≡ Both (rows_of g.config fs) (fold lesser g.least (faults_found g.config fs))
-unfolding gathered
-gathered_is g [] = refl
-gathered_is g (row path value ∷ fs) =
-    gathered_is (noted g (row path value)) fs
-    ∙ ap (Both (rows_of (insert g.config path value) fs)) (fold_repeated (is_some (get g.config path)) g.least path (faults_found (insert g.config path value) fs))
-gathered_is g (bad fault ∷ fs) = gathered_is (noted g (bad fault)) fs
-
-pub whole_is : (t : SchemaTree) (d : Data) (g : Gathered) → g ≡ gathered nothing (whole_found t d) → answered t g.least g.config ≡ config_read t d
-whole_is t d g e = ap (λ h. answered t h.least h.config) (e ∙ gathered_is nothing (whole_found t d))
 
 -- ---- the order of faults
 

@@ -8,6 +8,7 @@ pub mod Shuffled
 pub mod Reordering
 pub mod FaultTexts
 pub mod AnyOrder
+pub mod Noting
 pub mod WrittenValues
 pub mod Tidy
 pub mod Nodes

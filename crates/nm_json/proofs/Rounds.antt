@@ -24,9 +24,9 @@ use Rattle.nm_path.specs.declared.place.Place.{Place}
 use Rattle.nm_path.specs.declared.place.Place.TheVariants.{Top}
 use Rattle.nm_path.specs.Spelling.{found_of, below, node_from, node_of}
 use Rattle.nm_path.specs.Sound.{IsSound}
-use Rattle.nm_config.specs.Rows.{Rows}
+use Rattle.nm_config.specs.Rows.{Rows, with_entries}
 use Rattle.nm_config.proofs.Contiguous.{one_step}
-use Rattle.nm_config.proofs.Maps.{with_entries, with_own_entries}
+use Rattle.nm_config.proofs.Maps.{with_own_entries}
 use Rattle.nm_json.specs.Findings.{Finding, row, whole_found}
 use Rattle.nm_json.specs.Whole.{rows_of, if_repeated, faults_found, config_read, from_json, text_read}
 use Rattle.nm_json.specs.Writing.{put_row, config_data}

@@ -38,7 +38,7 @@ before_all us (further ys s t) = further (ys ++ us) (before_all us s) (before_al
 pub joined : {A : Type 0} {xs ys us vs : List A} → Shuffled xs ys → Shuffled us vs → Shuffled (xs ++ us) (ys ++ vs)
 joined {ys = ys} {us = us} s t = further (ys ++ us) (before_all us s) (after_all ys t)
 
-later : {A : Type 0} (x : A) (us vs : List A) → Shuffled (x ∷ (us ++ vs)) (us ++ x ∷ vs)
+pub later : {A : Type 0} (x : A) (us vs : List A) → Shuffled (x ∷ (us ++ vs)) (us ++ x ∷ vs)
 later x [] vs = as_before
 later x (u ∷ us) vs = further (u ∷ x ∷ (us ++ vs)) neighbours (behind (later x us vs))
 

@@ -1,5 +1,5 @@
 -- Spots as values.
-use Rattle.nm_json.specs.declared.walk.Spot.{Spot as Held}
+use Rattle.nm_json.specs.declared.spot.Spot.{Spot as Held}
 use Rattle.nm_json.specs.Findings.{Spot}
 
 -- the spot, without where its parts lie

@@ -1,22 +1,24 @@
 //! Reading configurations.
 
-ghost use Rattle.std.specs.Prelude.{◌≡◌, ◌∷◌, ◌++◌, [], IfOk, OnOk};
+ghost use Rattle.std.specs.Prelude.{◌≡◌, ◌∷◌, ◌++◌, [], fold, IfOk, OnOk};
 ghost use Rattle.serde_json.specs.View.{view};
 ghost use Rattle.nm_json.specs.Findings.{whole_found};
-ghost use Rattle.nm_json.specs.Places.{place_text};
+ghost use Rattle.std.specs.FinMap.{empty};
+ghost use Rattle.nm_config.specs.Rows.{with_entries};
+ghost use Rattle.nm_json.specs.Places.{place_text, lesser};
 ghost use Rattle.nm_json.specs.Noted as noted;
 ghost use Rattle.nm_json.specs.Whole as spec;
 ghost use Rattle.nm_path.specs.Sound.{HaveHeldBounds};
 ghost use Rattle.nm_json.specs.Configs.{IsConfigOf};
 
-use crate::fault::{JsonFault, JsonKind, Place};
-use crate::gathered::Gathered;
+use crate::fault::{Fault, JsonFault, JsonKind, Place};
+use crate::gathered::{Gathered, put_row};
 use crate::walk::{note_at, read_members};
 use nm_base::{Label, NoMemory};
 use nm_config::Config;
 use nm_path::write_path;
 use nm_tree::Schema;
-use nm_types::Path;
+use nm_types::{Path, Value};
 use serde_json::Value as Json;
 use std::alloc::Global;
 
@@ -71,20 +73,50 @@ fn read_whole(
     }
 }
 
-// The configuration, or its least fault.
-fn answer(alloc: Global, schema: &Schema, gathered: Gathered) -> Result<Config, JsonFault>
-    ensures { spec.Gives result (spec.answered schema.now gathered.least gathered.config) }
+// What is found in a whole configuration, from nothing.
+fn gather(alloc: Global, schema: &Schema, whole: &Json) -> Result<Gathered, NoMemory>
+    ensures { IfOk result (λ gathered. gathered ≡ noted.gathered noted.nothing (whole_found schema.now (view whole.now))) }
 {
-    if let Some(fault) = &gathered.least {
+    let mut gathered = Gathered::new(alloc);
+    read_whole(alloc, schema, &mut gathered, whole)?;
+    Ok(gathered)
+}
+
+// The configuration of some rows, and the least fault with those that are repeated.
+fn put_rows(
+    alloc: Global,
+    least: &mut Option<Fault>,
+    rows: Vec<(Path, Value)>,
+) -> Result<Config, NoMemory>
+    ensures rows { IfOk result (λ config. config ≡ with_entries empty rows.items) }
+    ensures least { OnOk result (least.new ≡ fold lesser least.old (noted.repeated empty rows.items)) }
+{
+    let mut config = Config::new(alloc);
+    for (path, value) in rows {
+        put_row(alloc, &mut config, least, path, value)?;
+    }
+    Ok(config)
+}
+
+// The configuration, or its least fault.
+fn answer(
+    alloc: Global,
+    schema: &Schema,
+    least: &Option<Fault>,
+    config: Config,
+) -> Result<Config, JsonFault>
+    ensures { spec.Gives result (spec.answered schema.now least.now config) }
+{
+    if let Some(fault) = least {
         return Err(JsonFault::Bad {
             kind: fault.kind,
             path: place_label(alloc, schema, &fault.place)?,
         });
     }
-    if gathered.config.len() > ROW_LIMIT {
+    if config.len() > ROW_LIMIT {
         return Err(JsonFault::TooManyRows);
     }
-    Ok(gathered.config)
+    Ok(config)
 }
 
 /// The configuration that a JSON value holds by a schema, or the least of its faults (RFC 7951 sections 4 to 6).
@@ -95,9 +127,16 @@ pub fn config_of(alloc: Global, schema: &Schema, value: &Json) -> Result<Config,
     ensures given { spec.Gives result (spec.config_read schema.now (view value.now)) }
     ensures configuration { IfOk result (λ rows. HaveHeldBounds schema.now.nodes → IsConfigOf schema.now rows) }
 {
-    let mut gathered = Gathered::new(alloc);
-    read_whole(alloc, schema, &mut gathered, value)?;
-    answer(alloc, schema, gathered)
+    let Gathered { rows, least } = gather(alloc, schema, value)?;
+    let count = rows.len();
+    let config = Config::of_rows(alloc, rows)?;
+    if config.len() == count {
+        return answer(alloc, schema, &least, config);
+    }
+    // A row is repeated, which is seldom: the rows are gathered again and looked at one by one.
+    let Gathered { rows, mut least } = gather(alloc, schema, value)?;
+    let config = put_rows(alloc, &mut least, rows)?;
+    answer(alloc, schema, &least, config)
 }
 
 /// The configuration of a JSON text (RFC 8259), nested at most 127 deep. Of a member that comes twice in one object the

@@ -1,8 +1,9 @@
 //! The rows and the least fault that were found so far.
 
-ghost use Rattle.std.specs.Prelude.{◌≡◌, ◌∷◌, ◌++◌, IfOk, OnOk};
+ghost use Rattle.std.specs.Prelude.{◌≡◌, ◌∷◌, ◌++◌, IfOk, OnOk, string_bytes};
+ghost use Rattle.std.specs.FinMap.{insert};
 ghost use Rattle.nm_json.specs.Noted as spec;
-ghost use Rattle.nm_json.specs.Places.{fault_cmp, kind_rank, printed, printed_at_top, place_steps};
+ghost use Rattle.nm_json.specs.Places.{fault_cmp, kind_rank, lesser, printed, printed_at_top, place_steps};
 ghost use Rattle.nm_json.specs.Findings.{row, bad, fault_at};
 
 use crate::fault::{Fault, JsonKind, Place};
@@ -11,21 +12,40 @@ use nm_config::Config;
 use nm_types::{Chosen, Path, Step, Value};
 use std::alloc::Global;
 use std::cmp::Ordering;
+use std::marker::Model;
 
-/// The rows, and the least of the faults.
+/// The rows in the order in which they were found, and the least of the faults but for repeated rows.
 #[derive(Drop)]
 pub struct Gathered {
-    pub config: Config,
+    pub rows: Vec<(Path, Value)>,
     pub least: Option<Fault>,
 }
 
-// A name with its module's name before it.
+impl Model for Gathered {
+    ghost use Rattle.nm_json.specs.Noted as spec;
+
+    ghost Value = { spec.Gathered };
+
+    ghost view = { λ gathered. record { rows = gathered.rows.items; least = gathered.least } };
+}
+
+/// The text of a name with its module's name before it.
+pub fn long_name(alloc: Global, module: &Label, name: &Label) -> Result<String, NoMemory>
+    ensures { IfOk result (λ text. string_bytes text ≡ «module».now ++ 58 ∷ name.now) }
+{
+    let length = module.as_str().len() + 1 + name.as_str().len();
+    let mut text = String::with_capacity(alloc, length)?;
+    text.push_str(module.as_str())?;
+    text.push(':')?;
+    text.push_str(name.as_str())?;
+    Ok(text)
+}
+
+/// A name with its module's name before it.
 pub fn with_module(alloc: Global, module: &Label, name: &Label) -> Result<Label, NoMemory>
     ensures { IfOk result (λ label. label ≡ «module».now ++ 58 ∷ name.now) }
 {
-    let mut text = String::from_str(alloc, module.as_str())?;
-    text.push(':')?;
-    text.push_str(name.as_str())?;
+    let text = long_name(alloc, module, name)?;
     Label::new(alloc, text.as_str())
 }
 
@@ -94,13 +114,27 @@ fn order(alloc: Global, one: &Fault, other: &Fault) -> Result<Ordering, NoMemory
     Ok(places.then(rank(one.kind).cmp(&rank(other.kind))))
 }
 
+// The least of a fault and those that were found.
+fn note_lesser(alloc: Global, least: &mut Option<Fault>, fault: Fault) -> Result<(), NoMemory>
+    ensures { OnOk result (least.new ≡ lesser least.old fault) }
+{
+    let Some(before) = least else {
+        *least = Some(fault);
+        return Ok(());
+    };
+    if order(alloc, &fault, before)?.is_lt() {
+        *least = Some(fault);
+    }
+    Ok(())
+}
+
 impl Gathered {
     /// No rows and no fault.
     pub fn new(alloc: Global) -> Gathered
         ensures { result ≡ spec.nothing }
     {
         Gathered {
-            config: Config::new(alloc),
+            rows: Vec::new(alloc),
             least: None,
         }
     }
@@ -109,34 +143,42 @@ impl Gathered {
     pub fn note_fault(&mut self, alloc: Global, fault: Fault) -> Result<(), NoMemory>
         ensures { OnOk result (self.new ≡ spec.noted self.old (bad fault)) }
     {
-        let Some(least) = &self.least else {
-            self.least = Some(fault);
-            return Ok(());
-        };
-        if order(alloc, &fault, least)?.is_lt() {
-            self.least = Some(fault);
-            return Ok(());
-        }
-        Ok(())
+        note_lesser(alloc, &mut self.least, fault)
     }
 
     /// A row more.
-    pub fn note_row(&mut self, alloc: Global, path: Path, value: Value) -> Result<(), NoMemory>
+    pub fn note_row(&mut self, path: Path, value: Value) -> Result<(), NoMemory>
         ensures { OnOk result (self.new ≡ spec.noted self.old (row path value)) }
     {
-        let place = Place {
-            path: path.copy(alloc)?,
-            below: None,
-        };
-        if self.config.put(path, value)?.is_none() {
-            return Ok(());
-        }
-        self.note_fault(
-            alloc,
-            Fault {
-                kind: JsonKind::Repeated,
-                place,
-            },
-        )
+        self.rows.push((path, value))?;
+        Ok(())
     }
+}
+
+/// A row more in a configuration, which is a fault where there is one with its path.
+pub fn put_row(
+    alloc: Global,
+    config: &mut Config,
+    least: &mut Option<Fault>,
+    path: Path,
+    value: Value,
+) -> Result<(), NoMemory>
+    ensures rows { OnOk result (config.new ≡ insert config.old path value) }
+    ensures least { OnOk result (least.new ≡ spec.with_row config.old least.old path) }
+{
+    let place = Place {
+        path: path.copy(alloc)?,
+        below: None,
+    };
+    if config.put(path, value)?.is_none() {
+        return Ok(());
+    }
+    note_lesser(
+        alloc,
+        least,
+        Fault {
+            kind: JsonKind::Repeated,
+            place,
+        },
+    )
 }

@@ -8,14 +8,16 @@ ghost use Rattle.nm_tree.specs.Nodes.{type_of};
 ghost use Rattle.nm_json.specs.Values.{IsValue};
 ghost use Rattle.nm_json.specs.Noted.{gathered as all_noted};
 ghost use Rattle.nm_json.specs.Findings as spec;
+ghost use Rattle.nm_json.specs.Spots.{spot_of};
 
 use crate::fault::{Fault, JsonKind, Place, Refusal, Stop};
-use crate::gathered::{Gathered, with_module};
+use crate::gathered::{Gathered, long_name};
 use crate::leafs::leaf_value;
 use crate::names::member;
+use crate::spot::{Spot, step_below};
 use nm_base::{Label, NoMemory};
 use nm_tree::{Node, Schema};
-use nm_types::{Path, Value};
+use nm_types::{Chosen, Path, Value};
 use serde_json::{Map, Value as Json};
 use std::alloc::Global;
 
@@ -50,11 +52,18 @@ fn key_value(
     }
 }
 
-// The fault of a key: where it lacks it is at the list, and else at the name of the key.
-fn key_fault(alloc: Global, path: &Path, name: &Label, kind: JsonKind) -> Result<Fault, NoMemory>
-    ensures { IfOk result (λ fault. fault ≡ spec.key_fault path.now name.now kind) }
+// The path of a list without a choice of an entry.
+fn bare(alloc: Global, list: &Spot) -> Result<Path, NoMemory>
+    ensures { IfOk result (λ path. path ≡ spec.bare (spot_of list.now)) }
 {
-    let path = path.copy(alloc)?;
+    step_below(alloc, list.above, list.node, Chosen::Whole)
+}
+
+// The fault of a key: where it lacks it is at the list, and else at the name of the key.
+fn key_fault(alloc: Global, list: &Spot, name: &Label, kind: JsonKind) -> Result<Fault, NoMemory>
+    ensures { IfOk result (λ fault. fault ≡ spec.key_fault (spec.bare (spot_of list.now)) name.now kind) }
+{
+    let path = bare(alloc, list)?;
     let below = match kind {
         JsonKind::MissingKey => None,
         _ => Some(name.copy()?),
@@ -70,7 +79,7 @@ fn named_value(alloc: Global, node: &Node, members: &Map<String, Json>) -> Resul
     ensures { IsValue result (spec.key_value (type_of node.now.kind) (get_member node.now.name (members_view members.now.entries))
         (get_member (node.now.«module» ++ 58 ∷ node.now.name) (members_view members.now.entries))) }
 {
-    let long = with_module(alloc, &node.module, &node.name)?;
+    let long = long_name(alloc, &node.module, &node.name)?;
     key_value(
         alloc,
         node,
@@ -82,15 +91,15 @@ fn named_value(alloc: Global, node: &Node, members: &Map<String, Json>) -> Resul
 // The value of a key of a node, or its fault.
 fn node_key(
     alloc: Global,
-    path: &Path,
+    list: &Spot,
     node: &Node,
     members: &Map<String, Json>,
 ) -> Result<Value, Stop>
-    ensures { spec.IsKeyRead result (spec.key_from path.now (members_view members.now.entries) (Some node.now)) }
+    ensures { spec.IsKeyRead result (spec.key_from (spec.bare (spot_of list.now)) (members_view members.now.entries) (Some node.now)) }
 {
     match named_value(alloc, node, members) {
         Ok(value) => Ok(value),
-        Err(Refusal::Bad(kind)) => Err(Stop::Bad(key_fault(alloc, path, &node.name, kind)?)),
+        Err(Refusal::Bad(kind)) => Err(Stop::Bad(key_fault(alloc, list, &node.name, kind)?)),
         Err(Refusal::NoMemory) => Err(Stop::NoMemory),
     }
 }
@@ -100,21 +109,21 @@ fn node_key(
 fn read_key(
     alloc: Global,
     schema: &Schema,
-    path: &Path,
+    list: &Spot,
     members: &Map<String, Json>,
     key: usize,
 ) -> Result<Value, Stop>
-    ensures { spec.IsKeyRead result (spec.key_read schema.now path.now (members_view members.now.entries) key) }
+    ensures { spec.IsKeyRead result (spec.key_read schema.now (spec.bare (spot_of list.now)) (members_view members.now.entries) key) }
 {
     match schema.node(key) {
         None => Err(Stop::Bad(Fault {
             kind: JsonKind::MissingKey,
             place: Place {
-                path: path.copy(alloc)?,
+                path: bare(alloc, list)?,
                 below: None,
             },
         })),
-        Some(node) => node_key(alloc, path, node, members),
+        Some(node) => node_key(alloc, list, node, members),
     }
 }
 
@@ -124,15 +133,15 @@ fn keep_key(
     alloc: Global,
     schema: &Schema,
     gathered: &mut Gathered,
-    path: &Path,
+    list: &Spot,
     members: &Map<String, Json>,
     key: usize,
     values: &mut Vec<Value>,
 ) -> Result<(), NoMemory>
-    ensures values { OnOk result (values.new.items ≡ values.old.items ++ spec.values_of (spec.key_read schema.now path.now (members_view members.now.entries) key ∷ [])) }
-    ensures faults { OnOk result (gathered.new ≡ all_noted gathered.old (spec.faults_of (spec.key_read schema.now path.now (members_view members.now.entries) key ∷ []))) }
+    ensures values { OnOk result (values.new.items ≡ values.old.items ++ spec.values_of (spec.key_read schema.now (spec.bare (spot_of list.now)) (members_view members.now.entries) key ∷ [])) }
+    ensures faults { OnOk result (gathered.new ≡ all_noted gathered.old (spec.faults_of (spec.key_read schema.now (spec.bare (spot_of list.now)) (members_view members.now.entries) key ∷ []))) }
 {
-    match read_key(alloc, schema, path, members, key) {
+    match read_key(alloc, schema, list, members, key) {
         Ok(value) => {
             values.push(value)?;
             Ok(())
@@ -147,16 +156,16 @@ pub fn read_keys(
     alloc: Global,
     schema: &Schema,
     gathered: &mut Gathered,
-    path: &Path,
+    list: &Spot,
     members: &Map<String, Json>,
     keys: &[usize],
 ) -> Result<Vec<Value>, NoMemory>
-    ensures values { IfOk result (λ values. values.items ≡ spec.values_of (map (spec.key_read schema.now path.now (members_view members.now.entries)) keys.now)) }
-    ensures faults { OnOk result (gathered.new ≡ all_noted gathered.old (spec.faults_of (map (spec.key_read schema.now path.now (members_view members.now.entries)) keys.now))) }
+    ensures values { IfOk result (λ values. values.items ≡ spec.values_of (map (spec.key_read schema.now (spec.bare (spot_of list.now)) (members_view members.now.entries)) keys.now)) }
+    ensures faults { OnOk result (gathered.new ≡ all_noted gathered.old (spec.faults_of (map (spec.key_read schema.now (spec.bare (spot_of list.now)) (members_view members.now.entries)) keys.now))) }
 {
     let mut values = Vec::with_capacity(alloc, keys.len())?;
     for key in keys {
-        keep_key(alloc, schema, gathered, path, members, *key, &mut values)?;
+        keep_key(alloc, schema, gathered, list, members, *key, &mut values)?;
     }
     Ok(values)
 }

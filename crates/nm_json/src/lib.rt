@@ -15,6 +15,7 @@ mod leafs;
 mod names;
 mod put;
 mod spelled;
+mod spot;
 mod walk;
 pub mod write;
 

@@ -366,3 +366,42 @@ fn rows_are_counted(rt: HostRuntime) -> Result<(), Fail> {
     assert_eq!(rt; ROW_LIMIT, 20_000);
     Ok(())
 }
+
+// As many interfaces as the limit lets stand, of three rows each, as they are written. bench/data times the tests below.
+const INTERFACES: usize = 6_666;
+
+fn interfaces(alloc: Global) -> Result<String, NoMemory> {
+    let mut text = String::from_str(alloc, r#"{"ex:sys":{"iface":["#)?;
+    for number in 0..INTERFACES {
+        if number > 0 {
+            text.push(',')?;
+        }
+        let (high, low, mtu) = (number / 256, number % 256, 1000 + number % 8000);
+        let one = format!(in alloc;
+            "{{\"address\":\"10.0.{high}.{low}\",\"mtu\":{mtu},\"name\":\"eth{number:05}\"}}"
+        )?;
+        text.push_str(one.as_str())?;
+    }
+    text.push_str("]}}")?;
+    Ok(text)
+}
+
+#[test]
+fn many_rows_are_read(rt: HostRuntime) -> Result<(), Fail> {
+    let alloc = rt.alloc();
+    let schema = sample(alloc)?;
+    let text = interfaces(alloc)?;
+    let rows = count_text(alloc, &schema, text.as_str())?;
+    assert_eq!(rt; rows.as_str(), "19998 rows");
+    Ok(())
+}
+
+#[test]
+fn many_rows_are_written(rt: HostRuntime) -> Result<(), Fail> {
+    let alloc = rt.alloc();
+    let schema = sample(alloc)?;
+    let text = interfaces(alloc)?;
+    let again = written(alloc, &schema, text.as_bytes())?;
+    assert!(rt; again.as_str() == text.as_str());
+    Ok(())
+}

@@ -16,32 +16,12 @@ use crate::gathered::Gathered;
 use crate::keys::read_keys;
 use crate::leafs::leaf_value;
 use crate::names::{is_twice, node_named};
+use crate::spot::{Spot, step_below};
 use nm_base::{Label, NoMemory};
 use nm_tree::{Node, NodeKind, Schema};
-use nm_types::{Chosen, LeafType, Path, Step, Value};
+use nm_types::{Chosen, LeafType, Path, Value};
 use serde_json::{Map, Value as Json};
 use std::alloc::Global;
-
-/// A node with its number, and the path that it is looked for below.
-#[derive(Drop)]
-pub struct Spot<'a> {
-    pub above: &'a Path,
-    pub number: usize,
-    pub node: &'a Node,
-}
-
-// A path with one step more, which leads to a node.
-fn step_below(alloc: Global, above: &Path, node: &Node, chosen: Chosen) -> Result<Path, NoMemory>
-    ensures { IfOk result (λ path. path ≡ spec.step_below above.now node.now (choice_of chosen)) }
-{
-    let mut path = above.copy(alloc)?;
-    path.steps.push(Step {
-        module: node.module.copy()?,
-        name: node.name.copy()?,
-        chosen,
-    })?;
-    Ok(path)
-}
 
 /// Notes a fault at a path.
 pub fn note_at(
@@ -108,7 +88,7 @@ fn read_leaf(
     match leaf_value(alloc, leaf_type, part) {
         Ok(value) => {
             let path = step_below(alloc, spot.above, spot.node, Chosen::Whole)?;
-            gathered.note_row(alloc, path, value)
+            gathered.note_row(path, value)
         }
         Err(Refusal::Bad(kind)) => note_bare(alloc, gathered, spot, kind),
         Err(Refusal::NoMemory) => Err(NoMemory),
@@ -130,7 +110,7 @@ fn read_item(
         Ok(value) => {
             let chosen = Chosen::Entry(value.copy()?);
             let path = step_below(alloc, spot.above, spot.node, chosen)?;
-            gathered.note_row(alloc, path, value)
+            gathered.note_row(path, value)
         }
         Err(Refusal::Bad(kind)) => note_bare(alloc, gathered, spot, kind),
         Err(Refusal::NoMemory) => Err(NoMemory),
@@ -227,7 +207,7 @@ fn note_presence(
         return Ok(());
     }
     let path = step_below(alloc, spot.above, spot.node, Chosen::Whole)?;
-    gathered.note_row(alloc, path, Value::Present)
+    gathered.note_row(path, Value::Present)
 }
 
 /// The members of an object, of a node or at the top.
@@ -382,13 +362,12 @@ fn read_entry(
 {
     match part {
         Json::Object(members) => {
-            let bare = step_below(alloc, spot.above, spot.node, Chosen::Whole)?;
-            let values = read_keys(alloc, schema, gathered, &bare, members, keys)?;
+            let values = read_keys(alloc, schema, gathered, spot, members, keys)?;
             if values.len() != keys.len() {
                 return Ok(());
             }
             let path = step_below(alloc, spot.above, spot.node, Chosen::Keys(values))?;
-            gathered.note_row(alloc, path.copy(alloc)?, Value::Present)?;
+            gathered.note_row(path.copy(alloc)?, Value::Present)?;
             read_members(alloc, schema, gathered, &path, Some(spot.number), members)
         }
         _ => note_misfit(alloc, gathered, spot),

@@ -1,17 +1,37 @@
-use Rattle.std.proofs.Common.{subst, ap, ◌∙◌}
+use Rattle.std.proofs.Common.{◌≡◌, ◌∙◌, length, fold, rules, ap, sym, subst}
+use Rattle.std.specs.FinMap.{empty}
 use Rattle.serde_json.specs.View.{view}
-use Rattle.nm_json.specs.Findings.{whole_found}
-use Rattle.nm_json.specs.Noted.{gathered}
-use Rattle.nm_json.specs.Whole.{Gives}
-use Rattle.nm_json.proofs.Least.{whole_is}
+use Rattle.nm_json.specs.Places.{lesser}
+use Rattle.nm_json.specs.Noted.{repeated}
+use Rattle.nm_json.specs.Whole.{Gives, answered, config_read}
+use Rattle.nm_json.proofs.Noting.{whole_is, none_repeated}
 use Rattle.nm_json.proofs.Only.{given_law}
 use Rattle.nm_json.proofs.config.config_of.Goals as goal
 
+pub returns-then-len-count-clause-given : goal.returns-then-len-count-clause-given
+returns-then-len-count-clause-given c =
+    let t = c.args.schema.now in
+    let rows = c.rows.inside.rows.items in
+    let least = c.rows.inside.least in
+    let held : c.len-count.result ≡ length rows = search rules in
+    let none = none_repeated rows c.in_ok-config.config c.in_ok-config.ensures (sym c.len.ensures ∙ c.if-len-count.true ∙ held) in
+    let is : answered t least c.in_ok-config.config ≡ config_read t (view c.args.value.now) =
+    ap (λ fs. answered t (fold lesser least fs) c.in_ok-config.config) (sym none)
+    ∙ ap (answered t (fold lesser least (repeated empty rows))) c.in_ok-config.ensures
+    ∙ whole_is t (view c.args.value.now) rows least (c.rows.view_is ∙ c.in_ok-rows.ensures) in
+    subst (Gives c.answer.result) is c.answer.ensures
+
+pub returns-then-len-count-clause-configuration : goal.returns-then-len-count-clause-configuration
+returns-then-len-count-clause-configuration c = given_law c.answer.result c.args.schema.now (view c.args.value.now) (returns-then-len-count-clause-given c)
+
 pub returns-clause-given : goal.returns-clause-given
 returns-clause-given c =
-    let found = whole_found c.args.schema.now (view c.args.value.now) in
-    let all = c.in_ok-read_whole.ensures ∙ ap (λ g. gathered g found) c.new-gathered.ensures in
-    subst (Gives c.answer.result) (whole_is c.args.schema.now (view c.args.value.now) c.read_whole.new.gathered all) c.answer.ensures
+    let t = c.args.schema.now in
+    let rows = c.rows-2.inside.rows.items in
+    let is : answered t c.put_rows.new.least c.in_ok-config-2.config ≡ config_read t (view c.args.value.now) =
+    (λ i. answered t (c.in_ok-config-2.ensures.least i) (c.in_ok-config-2.ensures.rows i))
+    ∙ whole_is t (view c.args.value.now) rows c.rows-2.inside.least (c.rows-2.view_is ∙ c.in_ok-rows-2.ensures) in
+    subst (Gives c.answer-2.result) is c.answer-2.ensures
 
 pub returns-clause-configuration : goal.returns-clause-configuration
-returns-clause-configuration c = given_law c.answer.result c.args.schema.now (view c.args.value.now) (returns-clause-given c)
+returns-clause-configuration c = given_law c.answer-2.result c.args.schema.now (view c.args.value.now) (returns-clause-given c)

@@ -1,7 +1,7 @@
-use Rattle.std.proofs.Common.{◌≡◌, length, rules, OnOk, subst, sym, ap, ◌∙◌}
+use Rattle.std.proofs.Common.{◌≡◌, length, rules, OnOk, refl, subst, sym, ap, ◌∙◌}
 use Rattle.serde_json.specs.View.{view, members_view}
 use Rattle.serde_json.proofs.Views.{view-Object}
-use Rattle.nm_json.specs.Findings.{list_item, row}
+use Rattle.nm_json.specs.Findings.{bare, list_item, row}
 use Rattle.nm_json.specs.Noted.{noted}
 use Rattle.nm_types.specs.declared.value.Value.TheVariants.{Present}
 use Rattle.nm_json.specs.Spots.{spot_of}
@@ -32,7 +32,7 @@ read_entry-returns-in_ok-note_row-in-Object t c =
     let count = sym held ∙ c.if-len-keys.false in
     let noted_row = c.in_ok-note_row-in-Object.ensures ∙ ap (λ q. noted c.read_keys.new.gathered (row q Present)) c.in_ok-copy-in-Object.ensures in
     let whole = entry_whole c.args.schema.now (spot_of c.args.spot.now) c.args.keys.now (view c.args.part.now) (members_view c.in-Object.members.entries) c.args.gathered.now c.read_keys.new.gathered
-    c.note_row.new.self c.in_ok-bare-in-Object.bare c.in_ok-path-in-Object.path c.in_ok-values-in-Object.values.items is c.in_ok-bare-in-Object.ensures keys.values keys.faults count
+    c.note_row.new.self (bare (spot_of c.args.spot.now)) c.in_ok-path-in-Object.path c.in_ok-values-in-Object.values.items is refl keys.values keys.faults count
     c.in_ok-path-in-Object.ensures noted_row in
     subst (λ u. OnOk c.read_members.result (c.read_members.new.gathered ≡ u)) whole c.read_members.ensures
 
