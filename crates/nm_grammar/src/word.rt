@@ -86,8 +86,8 @@ impl Word {
         }
     }
 
-    // Words are told apart by these numbers.
-    fn number(self) -> u8
+    /// A number that tells a word from the others.
+    pub fn number(self) -> u8
         ensures { result ≡ spec.word_number self }
     {
         match self {

@@ -4,7 +4,7 @@ ghost use Rattle.std.specs.Prelude.{◌≡◌, MatchOption, IfSome, IfNone, None
 ghost use Rattle.nm_grammar.specs.Word as word_spec;
 ghost use Rattle.nm_names.specs.Named as spec;
 
-use nm_grammar::{Row, Word};
+use nm_grammar::Row;
 
 /// What a name is looked for in.
 #[derive(Clone, Copy)]
@@ -26,47 +26,6 @@ pub struct Key<'a> {
     pub name: &'a str,
 }
 
-/// A number that tells a word from the others.
-pub fn word_number(word: Word) -> u8
-    ensures { result ≡ word_spec.word_number word }
-{
-    match word {
-        Word::Module => 0,
-        Word::YangVersion => 1,
-        Word::Namespace => 2,
-        Word::Prefix => 3,
-        Word::Import => 4,
-        Word::Container => 5,
-        Word::Presence => 6,
-        Word::Leaf => 7,
-        Word::LeafList => 8,
-        Word::List => 9,
-        Word::Key => 10,
-        Word::Unique => 11,
-        Word::Type => 12,
-        Word::Range => 13,
-        Word::Length => 14,
-        Word::Enum => 15,
-        Word::Value => 16,
-        Word::Bit => 17,
-        Word::Position => 18,
-        Word::FractionDigits => 19,
-        Word::Path => 20,
-        Word::Typedef => 21,
-        Word::Grouping => 22,
-        Word::Uses => 23,
-        Word::Default => 24,
-        Word::Mandatory => 25,
-        Word::MinElements => 26,
-        Word::MaxElements => 27,
-        Word::Config => 28,
-        Word::OrderedBy => 29,
-        Word::Skipped => 30,
-        Word::Unsupported => 31,
-        Word::Unknown => 32,
-    }
-}
-
 fn space_of(reach: Reach, row: &Row) -> Option<usize>
     ensures { result ≡ spec.space_of reach row.now }
 {
@@ -85,7 +44,7 @@ pub fn key_of<'a>(reach: Reach, row: &'a Row) -> Option<Key<'a>>
         None => None,
         Some(argument) => Some(Key {
             space: space_of(reach, row),
-            number: word_number(row.word),
+            number: row.word.number(),
             name: argument.as_str(),
         }),
     }

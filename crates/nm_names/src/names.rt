@@ -3,7 +3,7 @@
 ghost use Rattle.std.specs.Prelude.{◌≡◌, IfOk, Some};
 ghost use Rattle.nm_names.specs.Named as spec;
 
-use crate::key::{Key, Reach, word_number};
+use crate::key::{Key, Reach};
 use crate::modules::modules_of;
 use crate::table::{Table, table_of};
 use indexmap::IndexMap;
@@ -75,7 +75,7 @@ impl<'a> Names<'a> {
     {
         self.beside.get(&Key {
             space: parent,
-            number: word_number(word),
+            number: word.number(),
             name,
         })
     }
@@ -87,7 +87,7 @@ impl<'a> Names<'a> {
     {
         self.within.get(&Key {
             space: Some(owner),
-            number: word_number(word),
+            number: word.number(),
             name,
         })
     }
