@@ -8,3 +8,4 @@ pub mod Scanning
 pub mod Depths
 pub mod Indexing
 pub mod Tables
+pub mod Single

@@ -8,6 +8,7 @@ mod expansion;
 mod grow;
 mod index;
 mod instance;
+pub mod laws;
 mod limits;
 mod numbers;
 mod table;
