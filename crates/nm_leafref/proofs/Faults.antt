@@ -23,7 +23,7 @@ pub record IsFaultOf (typedefs : List (Option ℕ)) (t : Expanded) (x : ℕ) (f 
 nothing_there : (i : ℕ) → Contains [] i → ⊥
 nothing_there i c = omega (arith, c.1)
 
-leads_nowhere : (next : ℕ → List ℕ) (i j : ℕ) → next i ≡ [] → LeadsBy next i j → ⊥
+pub leads_nowhere : (next : ℕ → List ℕ) (i j : ℕ) → next i ≡ [] → LeadsBy next i j → ⊥
 leads_nowhere next i j e (one c) = nothing_there j (rw e at c)
 leads_nowhere next i j e (further k c l) = nothing_there k (rw e at c)
 
@@ -45,7 +45,7 @@ node_missing y e = grind arith
 false_true : false ≡ true → ⊥
 false_true e = grind arith
 
-no_target : (typedefs : List (Option ℕ)) (t : Expanded) (x : ℕ) (found : Option Led) → led_to typedefs t x ≡ found → target_in found ≡ [] → targets typedefs t x ≡ []
+pub no_target : (typedefs : List (Option ℕ)) (t : Expanded) (x : ℕ) (found : Option Led) → led_to typedefs t x ≡ found → target_in found ≡ [] → targets typedefs t x ≡ []
 unfolding targets
 no_target typedefs t x found e none = ap target_in e ∙ none
 

@@ -4,3 +4,4 @@ pub mod Walks
 pub mod Targets
 pub mod Typings
 pub mod Faults
+pub mod Ones

@@ -76,7 +76,8 @@ pub fn faults<'a: 'b, 'b>(
     requires leds { (x : ℕ) → slice_index_or leds.now x None ≡ led_to scene.now.typedefs scene.now.tree x }
     requires circular { Marks (IsCircular scene.now.typedefs scene.now.tree) circular.now }
     requires leds_size { length leds.now ≡ length scene.now.tree.nodes }
-    ensures { IfOk result (λ faults. (p : ℕ) → p < length scene.now.tree.rows → spec.HasFault scene.now.typedefs scene.now.tree p (slice_index_or faults.items p None)) }
+    ensures size { IfOk result (λ faults. length faults.items ≡ length scene.now.tree.rows) }
+    ensures faults { IfOk result (λ faults. (p : ℕ) → p < length scene.now.tree.rows → spec.HasFault scene.now.typedefs scene.now.tree p (slice_index_or faults.items p None)) }
 {
     let mut faults = no_faults(alloc, scene.tree().rows().len())?;
     for node in 0..leds.len() {

@@ -1,6 +1,6 @@
 //! What leafrefs of a tree are.
 
-ghost use Rattle.std.specs.Prelude.{◌≡◌, IfOk, MatchOption, Some, None, slice_get, slice_index_or, false};
+ghost use Rattle.std.specs.Prelude.{◌≡◌, IfOk, MatchOption, Some, None, length, slice_get, slice_index_or, false};
 ghost use Rattle.nm_typing.specs.Flaws.{AreMeanings};
 ghost use Rattle.nm_leafref.specs.Known as spec;
 ghost use Rattle.nm_grammar.specs.Flaw as grammar;
@@ -118,7 +118,8 @@ impl Leafrefs {
 
 // What is known of the nodes of a tree.
 fn known_of<'a: 'b, 'b>(alloc: Global, scene: &Scene<'_, 'a, 'b>) -> Result<Leafrefs, NoMemory>
-    ensures { IfOk result (spec.AreLeafrefs scene.now.typedefs scene.now.tree) }
+    ensures leafrefs { IfOk result (spec.AreLeafrefs scene.now.typedefs scene.now.tree) }
+    ensures size { IfOk result (λ leafrefs. length leafrefs.faults ≡ length scene.now.tree.rows) }
 {
     let leds = leds(alloc, scene)?;
     let ups = ups(alloc, scene)?;
@@ -155,7 +156,8 @@ pub fn leafrefs_of<'a: 'b, 'b>(
     requires rows { shape.now.rows ≡ expansion.now.rows }
     requires groupings { shape.now.groupings ≡ expansion.now.groupings }
     requires meanings { AreMeanings expansion.now.rows typedefs.now types.now.meanings }
-    ensures { IfOk result (spec.AreLeafrefs typedefs.now expansion.now) }
+    ensures leafrefs { IfOk result (spec.AreLeafrefs typedefs.now expansion.now) }
+    ensures size { IfOk result (λ leafrefs. length leafrefs.faults ≡ length expansion.now.rows) }
 {
     let tree = tree_of(alloc, names, shape, expansion)?;
     let scene = Scene::new(tree, paths, types, typedefs);

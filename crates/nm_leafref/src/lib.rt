@@ -6,6 +6,7 @@
 
 mod fault;
 mod graph;
+pub mod laws;
 mod leafrefs;
 mod led;
 mod leds;

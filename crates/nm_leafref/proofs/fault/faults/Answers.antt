@@ -11,8 +11,8 @@ loop-node-preserved c =
     noted-all c.args.scene.now.typedefs c.args.scene.now.tree c.loop-node.node c.loop-node.faults.items c.note.new.faults.items c.path_row-row.result c.fault_of-fault.result (sym c.path_row-row.ensures)
     (subst (λ (found : Option PathFault). IsFaultOf c.args.scene.now.typedefs c.args.scene.now.tree c.loop-node.node found) (sym f) fault) c.loop-node.invariant c.note.ensures.size c.note.ensures.noted
 
-pub returns : goal.returns
-returns c =
+pub returns-clause-faults : goal.returns-clause-faults
+returns-clause-faults c =
     let all : c.loop-node.node ≡ length c.args.scene.now.tree.nodes = omega (arith, c.requires.leds_size) in
     λ p lt. fault-all c.args.scene.now.typedefs c.args.scene.now.tree p (slice_index_or c.loop-node.faults.items p None)
     (subst (λ n. HasFaultBelow c.args.scene.now.typedefs c.args.scene.now.tree n p (slice_index_or c.loop-node.faults.items p None)) all (c.loop-node.invariant.each p lt))

@@ -21,8 +21,8 @@ faults-requires-clause-circular c =
     let marks : Marks (LeadsBack c.in_ok-graph.graph.items) c.in_ok-circular.circular.items = subst (λ (g : Graph). Marks (LeadsBack g) c.in_ok-circular.circular.items) c.deref-3.ensures.value c.in_ok-circular.ensures.marks in
     subst (λ (m : List Bool). Marks (IsCircular c.args.scene.now.typedefs c.args.scene.now.tree) m) (sym c.deref-8.ensures.value) (circular-marks c.args.scene.now.typedefs c.args.scene.now.tree c.in_ok-graph.graph.items c.in_ok-circular.circular.items draws marks)
 
-pub returns : goal.returns
-returns c =
+pub returns-clause-leafrefs : goal.returns-clause-leafrefs
+returns-clause-leafrefs c =
     let are : AreLeds c.args.scene.now.typedefs c.args.scene.now.tree c.deref.result.now = subst (λ (l : List (Option Led)). AreLeds c.args.scene.now.typedefs c.args.scene.now.tree l) (sym c.deref.ensures.value) c.in_ok-leds.ensures.exact in
     let draws = draws-targets c.args.scene.now.typedefs c.args.scene.now.tree c.deref.result.now c.in_ok-graph.graph.items are (ap (λ (l : List (Option Led)). length l) c.deref.ensures.value ∙ c.in_ok-leds.ensures.size) c.in_ok-graph.ensures.draws in
     let marks : Marks (LeadsBack c.in_ok-graph.graph.items) c.in_ok-circular.circular.items = subst (λ (g : Graph). Marks (LeadsBack g) c.in_ok-circular.circular.items) c.deref-3.ensures.value c.in_ok-circular.ensures.marks in
@@ -33,5 +33,5 @@ returns c =
       up = c.in_ok-ups.ensures;
       circular = circular-marks c.args.scene.now.typedefs c.args.scene.now.tree c.in_ok-graph.graph.items c.in_ok-circular.circular.items draws marks;
       leaf_type = types-are c.args.scene.now.typedefs c.args.scene.now.tree c.in_ok-graph.graph.items c.in_ok-types.types.items draws holds;
-      fault = c.in_ok-faults.ensures;
+      fault = c.in_ok-faults.ensures.faults;
     }
