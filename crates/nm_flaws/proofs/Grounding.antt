@@ -1,5 +1,5 @@
 -- What is known, put together.
-use Rattle.std.proofs.Common.{◌≡◌, ◌∙◌, ℕ, List, Bool, false, Option, None, is_some, slice_index_or, ap, subst}
+use Rattle.std.proofs.Common.{◌≡◌, ◌∙◌, ℕ, List, length, Bool, false, Option, None, is_some, slice_index_or, ap, subst}
 use Rattle.nm_grammar.specs.declared.row.Row.{Row}
 use Rattle.nm_shape.specs.Outline.{Outline, outline}
 use Rattle.nm_shape.specs.Config.{Marks, IsConfiguration, IsInState}
@@ -25,8 +25,9 @@ pub are_grounds : (rows : List Row) (named : List (Option ℕ)) (shape : Outline
     → ((s : Standing) → IsStanding shape.rows shape.groupings s → (i : ℕ) → slice_index_or flawed i false ≡ is_some (unique_flaw shape.rows shape.groupings s i))
     → Marks (IsConfiguration shape.rows shape.groupings) configured → Marks (IsInState shape.rows shape.groupings) in_state
     → IsCycle rows cycle → IsExpansion expansion.rows expansion.groupings expansion.nodes
+    → length configured ≡ length shape.rows → length in_state ≡ length shape.rows → length is_key ≡ length shape.rows → length known.faults ≡ length expansion.rows
     → AreGrounds rows (facts_of cycle configured in_state is_key expansion.nodes known.faults) named shape expansion types judgements texts known keys flawed
-are_grounds rows named shape expansion types judgements texts known keys cycle configured in_state is_key flawed named_is shape_by rows_is groupings_is meanings judged texts_are leafrefs keys_are marks flaws config state cycle_is nodes =
+are_grounds rows named shape expansion types judgements texts known keys cycle configured in_state is_key flawed named_is shape_by rows_is groupings_is meanings judged texts_are leafrefs keys_are marks flaws config state cycle_is nodes configured_size state_size key_size faults_size =
     let facts : Facts = facts_of cycle configured in_state is_key expansion.nodes known.faults in
     let defs : List (Option ℕ) = definitions rows in
     let shape_is : shape ≡ outline rows defs = subst (λ (n : List (Option ℕ)). shape ≡ outline rows n) named_is shape_by in
@@ -37,6 +38,7 @@ are_grounds rows named shape expansion types judgements texts known keys cycle c
     let stands : IsStanding rows defs (standing facts) = marks-standing rows defs facts config_is state_is in
     let leafrefs_are : AreLeafrefs defs (tree rows facts) known =
     subst (λ (t : Expanded). AreLeafrefs defs t known) tree_is (subst (λ (n : List (Option ℕ)). AreLeafrefs n expansion known) named_is leafrefs) in
+    let shape_rows : length shape.rows ≡ length rows = ap (λ (o : Outline). length o.rows) shape_is in
     record {
       named_are = named_is;
       shape_is = shape_is;
@@ -50,9 +52,13 @@ are_grounds rows named shape expansion types judgements texts known keys cycle c
       facts_are = record {
         cycle = cycle_is;
         configured = config_is;
+        configured_size = configured_size ∙ shape_rows;
         in_state = state_is;
+        in_state_size = state_size ∙ shape_rows;
         keys = by_standing (λ r g s. Marks (IsKey r g s) is_key) rows defs (standing facts) shape shape_is stands marks;
+        keys_size = key_size ∙ shape_rows;
         nodes = subst (λ (t : Expanded). IsExpansion t.rows t.groupings t.nodes) tree_is nodes;
         paths = leafrefs_are.fault;
+        paths_size = faults_size ∙ ap length rows_is;
       };
     }

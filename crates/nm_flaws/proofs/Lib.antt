@@ -5,3 +5,4 @@ pub mod Marking
 pub mod Defining
 pub mod Listing
 pub mod Grounding
+pub mod Single

@@ -1,5 +1,5 @@
 -- What is so in the rows of modules, and is found by search.
-use Rattle.std.specs.Prelude.{ℕ, ◌<◌, List, length, map, Bool, false, Option, None, IfSome, IfNone, slice_index_or}
+use Rattle.std.specs.Prelude.{◌≡◌, ℕ, ◌<◌, List, length, map, Bool, false, Option, None, IfSome, IfNone, slice_index_or}
 use Rattle.std.specs.List.{range_with_len}
 use Rattle.nm_grammar.specs.declared.row.Row.{Row}
 use Rattle.nm_graph.specs.Graph.{Graph}
@@ -51,11 +51,15 @@ pub record IsCycle (rows : List Row) (cycle : Option ℕ) : Type 0 where
   pub least : IfSome cycle (IsLeastCycle graph)
   pub none : IfNone cycle (IsAcyclic graph)
 
--- these are so
+-- these are so, and each list has as many items as there are rows
 pub record AreFacts (rows : List Row) (facts : Facts) : Type 0 where
   pub cycle : IsCycle rows facts.cycle
   pub configured : Marks (IsConfiguration rows (definitions rows)) facts.configured
+  pub configured_size : length facts.configured ≡ length rows
   pub in_state : Marks (IsInState rows (definitions rows)) facts.in_state
+  pub in_state_size : length facts.in_state ≡ length rows
   pub keys : Marks (IsKey rows (definitions rows) (standing facts)) facts.keys
+  pub keys_size : length facts.keys ≡ length rows
   pub nodes : IsExpansion rows (definitions rows) facts.nodes
   pub paths : (p : ℕ) → p < length rows → HasFault (definitions rows) (tree rows facts) p (slice_index_or facts.paths p None)
+  pub paths_size : length facts.paths ≡ length rows

@@ -15,4 +15,5 @@ invariant_of-result c =
     (subst (λ (r : List Row). AreMeanings r named c.in_ok-types.types.meanings) c.rows-rows.ensures c.in_ok-types.ensures.meanings)
     (subst (λ (r : List Row). AreJudgements r named c.in_ok-judgements.judgements.items) c.rows-rows.ensures c.in_ok-judgements.ensures.exact)
     (subst (λ (r : List Row). (i : ℕ) → joined (slice_index_or c.in_ok-defaults.defaults i None) ≡ default_of r named i) c.rows-rows.ensures c.in_ok-defaults.ensures.exact)
-    c.in_ok-leafrefs.ensures c.in_ok-keys.ensures c.in_ok-is_key.ensures.marks c.in_ok-flawed_uniques.ensures.marks c.configured.ensures.marks c.in_state.ensures.marks c.in_ok-cycle.ensures c.laws.ensures
+    c.in_ok-leafrefs.ensures.leafrefs c.in_ok-keys.ensures c.in_ok-is_key.ensures.marks c.in_ok-flawed_uniques.ensures.marks c.configured.ensures.marks c.in_state.ensures.marks c.in_ok-cycle.ensures c.laws.ensures
+    c.configured.ensures.size c.in_state.ensures.size c.in_ok-is_key.ensures.size c.in_ok-leafrefs.ensures.size

@@ -1,0 +1,86 @@
+-- What is so in rows is one: two of it are the same.
+use Rattle.std.proofs.Common.{◌≡◌, ◌↔◌, ℕ, zero, suc, ◌<◌, ◌≤◌, List, [], ◌∷◌, length, get_or, Bool, true, false, nat_lt, Option, Some, None, IfSome, IfNone, Contains, refl, sym, ap, subst, ◌∙◌, arith}
+use Rattle.std.proofs.lemmas.Bool.Decides.{nat_tests}
+use Rattle.std.proofs.lemmas.List.{ext_get_or}
+use Rattle.nm_grammar.specs.declared.row.Row.{Row}
+use Rattle.nm_graph.specs.Graph.{Graph, successors_of, Leads, one, further}
+use Rattle.nm_graph.specs.Order.{IsLeastCycle, IsAcyclic}
+use Rattle.nm_names.specs.Graph.{IsGraphOf}
+use Rattle.nm_shape.specs.Config.{Marks}
+use Rattle.nm_keys.specs.Keys.{IsKey}
+use Rattle.nm_expansion.specs.Expansion.{expanded}
+use Rattle.nm_expansion.proofs.Single.{single}
+use Rattle.nm_leafref.specs.Fault.{HasFault}
+use Rattle.nm_leafref.proofs.Ones.{one-fault}
+use Rattle.nm_flaws.specs.Facts.{Facts, AreFacts, IsCycle, definitions, is_marked, standing, tree}
+
+-- ---- cycles
+
+-- a node past the end of a graph leads nowhere
+past : (g : Graph) (i : ℕ) → length g ≤ i → successors_of g i ≡ []
+unfolding successors_of
+past [] i h = refl
+past (row ∷ rows) zero h = absurd (omega (arith, h))
+past (row ∷ rows) (suc i) h = past rows i (omega (arith, h))
+
+-- two graphs of the same rows lead alike
+alike : (rows : List Row) (g h : Graph) → IsGraphOf rows g → IsGraphOf rows h → (i : ℕ) (b : Bool) → nat_lt i (length rows) ≡ b → successors_of g i ≡ successors_of h i
+alike rows g h a c i true e = a.leads i (grind (arith, nat_tests, e)) ∙ sym (c.leads i (grind (arith, nat_tests, e)))
+alike rows g h a c i false e =
+    let from : length rows ≤ i = grind (arith, nat_tests, e) in
+    past g i (omega (arith, a.size, from)) ∙ sym (past h i (omega (arith, c.size, from)))
+
+leads_alike : (g h : Graph) → ((i : ℕ) → successors_of g i ≡ successors_of h i) → {i j : ℕ} → Leads g i j → Leads h i j
+leads_alike g h same (one {i} {j} c) = one (subst (λ ns. Contains ns j) (same i) c)
+leads_alike g h same (further {i} {j} k c l) = further k (subst (λ ns. Contains ns k) (same i) c) (leads_alike g h same l)
+
+between_by : (x y : ℕ) (a b : Bool) → nat_lt x y ≡ a → nat_lt y x ≡ b → (x < y → ⊥) → (y < x → ⊥) → x ≡ y
+between_by x y true b e f never nor = absurd (never (grind (arith, nat_tests, e)))
+between_by x y false true e f never nor = absurd (nor (grind (arith, nat_tests, f)))
+between_by x y false false e f never nor = grind (arith, nat_tests, e, f)
+
+-- numbers of which neither is below the other
+between : (x y : ℕ) → (x < y → ⊥) → (y < x → ⊥) → x ≡ y
+between x y never nor = between_by x y _ _ refl refl never nor
+
+one_least : (g h : Graph) → ((i : ℕ) → successors_of g i ≡ successors_of h i) → (x y : Option ℕ) → IfSome x (IsLeastCycle g) → IfNone x (IsAcyclic g) → IfSome y (IsLeastCycle h) → IfNone y (IsAcyclic h) → x ≡ y
+one_least g h same None None a b c d = refl
+one_least g h same (Some x) None a b c d = absurd (d x (leads_alike g h same a.leads))
+one_least g h same None (Some y) a b c d = absurd (b y (leads_alike h g (λ i. sym (same i)) c.leads))
+one_least g h same (Some x) (Some y) a b c d =
+    let never : x < y → ⊥ = λ before. c.least x before (leads_alike g h same a.leads) in
+    let nor : y < x → ⊥ = λ before. a.least y before (leads_alike h g (λ i. sym (same i)) c.leads) in
+    ap Some (between x y never nor)
+
+one_cycle : (rows : List Row) (x y : Option ℕ) → IsCycle rows x → IsCycle rows y → x ≡ y
+one_cycle rows x y a b = one_least a.graph b.graph (λ i. alike rows a.graph b.graph a.graph_is b.graph_is i _ refl) x y a.least a.none b.least b.none
+
+-- ---- marks
+
+no_truth : false ≡ true → ⊥
+no_truth e = cc
+
+one_mark : (P : Type 0) (a b : Bool) → (a ≡ true) ↔ P → (b ≡ true) ↔ P → a ≡ b
+one_mark P true true f g = refl
+one_mark P false false f g = refl
+one_mark P true false f g = absurd (no_truth (g.1 (f.0 refl)))
+one_mark P false true f g = absurd (no_truth (f.1 (g.0 refl)))
+
+-- as many marks of the same are the same marks
+one_marking : (P : ℕ → Type 0) (xs ys : List Bool) → Marks P xs → Marks P ys → length xs ≡ length ys → xs ≡ ys
+one_marking P xs ys a b size = ext_get_or false xs ys size (λ i within. one_mark (P i) _ _ (a i) (b i))
+
+-- ---- all of it
+
+pub one_truth : (rows : List Row) (facts others : Facts) → AreFacts rows facts → AreFacts rows others → facts ≡ others
+one_truth rows f g a b =
+    let configured : f.configured ≡ g.configured = one_marking _ _ _ a.configured b.configured (a.configured_size ∙ sym b.configured_size) in
+    let in_state : f.in_state ≡ g.in_state = one_marking _ _ _ a.in_state b.in_state (a.in_state_size ∙ sym b.in_state_size) in
+    let stands : standing f ≡ standing g = λ i. record { configured = is_marked (configured i); in_state = is_marked (in_state i) } in
+    let keys : f.keys ≡ g.keys = one_marking _ _ _ (subst (λ s. Marks (IsKey rows (definitions rows) s) f.keys) stands a.keys) b.keys (a.keys_size ∙ sym b.keys_size) in
+    let nodes : f.nodes ≡ g.nodes = single rows (definitions rows) f.nodes g.nodes a.nodes b.nodes in
+    let trees : tree rows f ≡ tree rows g = ap (λ ns. expanded rows (definitions rows) ns) nodes in
+    let paths : f.paths ≡ g.paths = ext_get_or None f.paths g.paths (a.paths_size ∙ sym b.paths_size) (λ p within.
+    let inside : p < length rows = subst (λ n. p < n) a.paths_size within in
+    one-fault (definitions rows) (tree rows g) p _ _ (subst (λ t. HasFault (definitions rows) t p (get_or f.paths p None)) trees (a.paths p inside)) (b.paths p inside)) in
+    λ i. record { cycle = one_cycle rows f.cycle g.cycle a.cycle b.cycle i; configured = configured i; in_state = in_state i; keys = keys i; nodes = nodes i; paths = paths i }
