@@ -12,3 +12,4 @@ pub mod Shapes
 pub mod Keys
 pub mod Nodes
 pub mod Sound
+pub mod Single

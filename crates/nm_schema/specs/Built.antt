@@ -1,5 +1,5 @@
 -- The schema tree of modules.
-use Rattle.std.specs.Prelude.{◌≡◌, ℕ, List, [], ◌∷◌, ◌++◌, length, Bool, not, Option, Some, None, is_some, Result, Ok, Err}
+use Rattle.std.specs.Prelude.{◌≡◌, ℕ, List, [], ◌++◌, length, Bool, not, Option, Some, None, is_some, Result, Ok, Err}
 use Rattle.std.specs.List.{find, range_with_len}
 use Rattle.nm_yang.specs.Tree.{Tree}
 use Rattle.nm_grammar.specs.declared.row.Row.{Row}

@@ -1,13 +1,19 @@
 //! Laws of the trees that modules give. Each function does nothing: its contract is the law.
 
-ghost use Rattle.std.specs.Prelude.{List, Ok};
+ghost use Rattle.std.specs.Prelude.{◌≡◌, List, Result, Ok};
 ghost use Rattle.nm_yang.specs.Tree.{Tree};
 ghost use Rattle.nm_tree.specs.Nodes.{SchemaTree};
 ghost use Rattle.nm_path.specs.Sound.{IsSound};
+ghost use Rattle.nm_flaws.specs.declared.fault.Fault.{Fault};
 ghost use Rattle.nm_schema.specs.Built as spec;
 
 /// The nodes of a tree that modules give: their names are identifiers and tell them apart, each stands in an earlier container or
 /// list of its module or at the top, each list has keys, which are leafs in it, and the types are those of YANG.
 pub fn sound_nodes()
     ensures { (modules : List Tree) (t : SchemaTree) → spec.Builds modules (Ok t) → IsSound t.nodes }
+{}
+
+/// Modules give one tree or one fault: two that they give are the same.
+pub fn one_answer()
+    ensures { (modules : List Tree) (given other : Result SchemaTree Fault) → spec.Builds modules given → spec.Builds modules other → given ≡ other }
 {}
