@@ -12,6 +12,7 @@ mod devices;
 mod flat;
 mod flat_scenario;
 pub mod head;
+pub mod laws;
 mod numbering;
 mod operators;
 mod read;
