@@ -98,7 +98,7 @@ array_tidy (Some items) is = is
 object_tidy : (members : Option Members) → IfMembers members → IfTidy (option_map object members)
 unfolding IsTidy
 object_tidy None is = tt
-object_tidy (Some members) is = is
+object_tidy (Some all) is = is
 
 item_tidy : (first : Option Data) (rest : Option Items) → IfTidy first → IfItems rest → IfItems (option_and_then (λ d. option_map (item d) rest) first)
 unfolding IsTidy
@@ -161,7 +161,7 @@ step_tidy (Item n) null tidy = tt
 step_tidy (Item n) (boolean b) tidy = tt
 step_tidy (Item n) (number m) tidy = tt
 step_tidy (Item n) (string text) tidy = tt
-step_tidy (Item n) (object members) tidy = tt
+step_tidy (Item n) (object all) tidy = tt
 
 walk_tidy : (place : List Step) (part : Data) → IsTidy part → IfTidy (walked place part)
 walk_tidy [] part tidy = tidy
@@ -171,14 +171,14 @@ walk_tidy (step ∷ place) part tidy = further (stepped step part) (step_tidy st
     further None is later = tt
     further (Some child) is later = later child is
 
-object_ascends : (part : Data) (members : Members) → as_object part ≡ Some members → IsTidy part → Ascending members
+object_ascends : (part : Data) (all : Members) → as_object part ≡ Some all → IsTidy part → Ascending all
 unfolding IsTidy
-object_ascends (object m) members e tidy = let same : m ≡ members = cc in subst Ascending same tidy.0
-object_ascends null members e tidy = cc
-object_ascends (boolean b) members e tidy = cc
-object_ascends (number n) members e tidy = cc
-object_ascends (string text) members e tidy = cc
-object_ascends (array items) members e tidy = cc
+object_ascends (object m) all e tidy = let same : m ≡ all = cc in subst Ascending same tidy.0
+object_ascends null all e tidy = cc
+object_ascends (boolean b) all e tidy = cc
+object_ascends (number n) all e tidy = cc
+object_ascends (string text) all e tidy = cc
+object_ascends (array items) all e tidy = cc
 
 spelled_tidy : (value : Option json.Json) → IfTidy (option_and_then of_json value)
 spelled_tidy None = tt
