@@ -1,5 +1,5 @@
 -- What is said without the bytes of the input, and what is said where there were too many.
-use Rattle.std.proofs.Common.{◌≡◌, ℕ, ◌<◌, ◌+◌, List, [], length, true, false, Option, Some, None, Result, Ok, Err, IfSome, unwrap_or, replicate, cond, refl, sym, ap, subst, arith, lt-ltb}
+use Rattle.std.proofs.Common.{◌≡◌, ℕ, ◌<◌, ◌+◌, List, [], length, true, false, Option, Some, None, Result, Ok, Err, IfSome, unwrap_or, replicate, cond, refl, sym, ap, ◌∙◌, subst, arith, lt-ltb}
 use Rattle.std.proofs.lemmas.List.{length-replicate}
 use Rattle.nm_proto.specs.FlatContent.{flat_meaning}
 use Rattle.nm_reading.specs.declared.fault.ScenarioKind.TheVariants.{TooLong}
@@ -9,6 +9,7 @@ use Rattle.nm_scenario.specs.declared.scenario.Body.{Body}
 use Rattle.nm_scenario.specs.declared.scenario.Body.TheVariants.{Flat, Yang}
 use Rattle.nm_scenario.specs.declared.scenario.Scenario.{Scenario}
 use Rattle.nm_scenario.specs.Scenario.{ReadsBytes, ReadsWhole, byte_limit, flat_scenario_of, flat_whole_at, json_of, parsed, whole_of}
+use Rattle.nm_scenario.proofs.Single.{one_of_bytes}
 use Rattle.nm_refusals.specs.Told.{ToldOfBytes}
 use Rattle.nm_refusals.specs.Kept.{ScenarioKeeps}
 use Rattle.nm_refusals.proofs.Sound.{IsSound}
@@ -20,7 +21,7 @@ use Rattle.nm_console.specs.declared.status.Status.{Status}
 use Rattle.nm_console.specs.declared.command.Command.{Command}
 use Rattle.nm_console.specs.declared.command.Command.TheVariants.{Check, Replay}
 use Rattle.nm_console.specs.Refusal.{of_whole}
-use Rattle.nm_console.specs.Console.{AreFirst, Tells, Says, IsTold, IsKnown, RunsSafely, RunsSafelyBy, faulted, replayed, usage_told, course_of, plan_of}
+use Rattle.nm_console.specs.Console.{Answer, AreFirst, Tells, Says, IsTold, IsOnly, IsKnown, RunsSafely, RunsSafelyBy, faulted, checked, replayed, usage_told, course_of, plan_of}
 use Rattle.nm_console.proofs.Valid.{devices_valid}
 
 held : (left : Option (List ℕ)) (other : List ℕ) → IfSome left (λ told. told ≡ unwrap_or left other)
@@ -47,12 +48,23 @@ flat_known : (bytes : List ℕ) (given : Result Scenario Fault) → flat_scenari
 flat_known bytes (Err fault) e = let sound : IsSound (ToldOfBytes false bytes) (flat_scenario_of bytes) = flat_bytes_told bytes in sound.so fault e
 flat_known bytes (Ok s) e = let good : IsGood ScenarioKeeps (flat_scenario_of bytes) = flat_bytes_good bytes in good.so s e
 
--- what the program says to bytes is safe, and what is read of them is known
+tells_one : (given : Answer) (status other : Status) (text words : List ℕ) → Tells given status text → Tells given other words → (other ≡ status) × (words ≡ text)
+tells_one given status other text words a b = (sym b.status_is ∙ a.status_is, sym b.text_is ∙ a.text_is)
+
+-- what bytes read as is one, and so is what is told of it
+only : (command : Option Command) (bytes : List ℕ) (status : Status) (text : List ℕ) → IsTold command bytes status text → IsOnly command bytes status text
+only None bytes status text a other words b = tells_one usage_told status other text words a b
+only (Some Check) bytes status text a other words b =
+    tells_one (checked a.outcome) status other text words a.tells (subst (λ outcome. Tells (checked outcome) other words) (one_of_bytes bytes b.outcome a.outcome b.reads a.reads) b.tells)
+only (Some Replay) bytes status text a other words b = tells_one (replayed (flat_scenario_of bytes)) status other text words a b
+
+-- what the program says to bytes is safe, no other answer is told of them, and what is read of them is known
 says : (left : Option (List ℕ)) (command : Option Command) (bytes : List ℕ) (status : Status) (text : List ℕ) → IfSome left (λ told. told ≡ bytes) → IsTold command bytes status text → Says left command status text
 says left command bytes status text h tells = record {
   bytes = bytes;
   held = h;
   tells = tells;
+  only = only command bytes status text tells;
   safe = safe bytes (flat_scenario_of bytes) refl;
   checked_known = known_of bytes;
   replayed_known = flat_known bytes (flat_scenario_of bytes) refl;

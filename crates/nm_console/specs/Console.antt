@@ -116,7 +116,7 @@ abbrev pub checked : Result Scenario Fault → Answer
 checked (Err fault) = faulted fault
 checked (Ok s) = holding s
 
--- what check tells of bytes. What they read as is a relation, so this is one too
+-- what check tells of bytes, by what they read as
 pub record IsToldOfCheck (bytes : List ℕ) (status : Status) (text : List ℕ) : Type 0 where
   pub outcome : Result Scenario Fault
   pub reads : ReadsBytes bytes outcome
@@ -153,11 +153,16 @@ abbrev pub IsKnown : Bool → List ℕ → Result Scenario Fault → Type 0
 IsKnown built bytes (Err fault) = ToldOfBytes built bytes fault
 IsKnown built bytes (Ok s) = ScenarioKeeps s
 
--- a status and a text that answer some bytes, those that the source told where it tells them
+-- a status and a text are the only ones that are told to a command and an input
+abbrev pub IsOnly : Option Command → List ℕ → Status → List ℕ → Type 0
+IsOnly command bytes status text = (other : Status) (words : List ℕ) → IsTold command bytes other words → (other ≡ status) × (words ≡ text)
+
+-- a status and a text that answer some bytes, those that the source told where it tells them, and no others do
 pub record Says (left : Option (List ℕ)) (command : Option Command) (status : Status) (text : List ℕ) : Type 0 where
   pub bytes : List ℕ
   pub held : IfSome left (λ told. told ≡ bytes)
   pub tells : IsTold command bytes status text
+  pub only : IsOnly command bytes status text
   pub safe : RunsSafely (flat_scenario_of bytes)
   pub checked_known : (outcome : Result Scenario Fault) → ReadsBytes bytes outcome → IsKnown true bytes outcome
   pub replayed_known : IsKnown false bytes (flat_scenario_of bytes)
