@@ -1,3 +1,6 @@
+pub mod Words
+pub mod Count
+pub mod Numbers
 pub mod Mask
 pub mod Tag
 pub mod Decimal

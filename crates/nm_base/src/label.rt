@@ -4,7 +4,7 @@ ghost use Rattle.std.specs.Ordering.{nat_cmp};
 ghost use Rattle.std.specs.Cmp;
 
 use crate::fault::NoMemory;
-use std::alloc::Global;
+use std::alloc::{AllocError, Global};
 use std::cmp::Ordering;
 use std::fmt;
 use std::marker::Model;
@@ -46,9 +46,7 @@ impl Label {
     pub fn copy(&self) -> Result<Label, NoMemory>
         ensures { IfOk result (λ label. label ≡ self.now) }
     {
-        Ok(Label {
-            text: self.text.clone()?,
-        })
+        Ok(self.clone()?)
     }
 
     /// Whether the two have the same bytes.
@@ -56,6 +54,17 @@ impl Label {
         ensures { IsTrue result ↔ (self.now ≡ other.now) }
     {
         self.as_str() == other.as_str()
+    }
+}
+
+// A clone is equal and shares the bytes.
+impl Clone for Label {
+    ghost is_clone = { λ label cloned. cloned ≡ label };
+
+    fn clone(&self) -> Result<Label, AllocError> {
+        Ok(Label {
+            text: self.text.clone()?,
+        })
     }
 }
 

@@ -19,7 +19,7 @@ pub enum Tag {
 }
 
 impl Tag {
-    ghost use Rattle.nm_base.specs.Tag.{tag_number, tag_text};
+    ghost use Rattle.nm_base.specs.Tag.{tag_number, tag_of, tag_text};
 
     /// The number of the tag, from 1 in the order of the variants.
     pub fn number(self) -> u8
@@ -42,6 +42,7 @@ impl Tag {
 
     /// The tag of a number, and None outside 1 to 11.
     pub fn from_number(number: u8) -> Option<Tag>
+        ensures tag { result ≡ tag_of number }
         ensures value { IfSome result (λ tag. tag_number tag ≡ number) }
         ensures none { IfNone result ((tag : Tag) → tag_number tag ≢ number) }
     {

@@ -102,6 +102,32 @@ fn tags_have_their_texts(rt: HostRuntime) {
 }
 
 #[test]
+fn numbers_are_listed(rt: HostRuntime) -> Result<(), Fail> {
+    let mut numbers = Numbers::new(rt.alloc());
+    assert!(rt; numbers.is_empty());
+    for number in [7, 3, 7] {
+        numbers.push(number)?;
+    }
+    assert_eq!(rt; numbers.as_slice(), [7, 3, 7].as_slice());
+    assert_eq!(rt; numbers.len(), 3);
+    assert!(rt; numbers.contains(3));
+    assert!(rt; !numbers.contains(4));
+    let mut groups = Groups::new(rt.alloc());
+    groups.push(numbers)?;
+    assert_eq!(rt; groups.as_slice().len(), 1);
+    Ok(())
+}
+
+#[test]
+fn counts_stay_at_the_greatest(rt: HostRuntime) {
+    for (count, want) in [(0, 1), (u64::MAX, u64::MAX)] {
+        let mut faults = count;
+        assert_eq!(rt; count_fault(&mut faults), Failed);
+        assert_eq!(rt; faults, want);
+    }
+}
+
+#[test]
 fn labels_and_tokens(rt: HostRuntime) -> Result<(), Fail> {
     let alloc = rt.alloc();
     let label = Label::new(alloc, "é/eth0")?;

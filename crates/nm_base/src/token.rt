@@ -1,4 +1,5 @@
-ghost use Rattle.std.specs.Prelude.{◌≡◌, ℕ, ◌<◌, ◌^◌, true, IfOk};
+ghost use Rattle.std.specs.Prelude.{◌≡◌, ℕ, ◌<◌, ◌^◌, ◌==◌, true, IfOk};
+ghost use Rattle.std.specs.Str.{bytes_eq};
 ghost use Rattle.nm_base.specs.Token.{is_reserved, token_of};
 
 use crate::fault::NoMemory;
@@ -22,8 +23,9 @@ pub fn token_of(alloc: Global, change: ChangeNo) -> Result<Label, NoMemory>
     Label::new(alloc, text.as_str())
 }
 
-/// A change set's token is the manager's, and is that of no other change set.
+/// A change set's token is the manager's, and is that of no other change set, as comparing the bytes tells.
 pub fn tokens_are_told_apart()
     ensures reserved { (c : ℕ) → is_reserved (token_of c) ≡ true }
     ensures its_own { (c d : ℕ) → c < 2 ^ 32 → d < 2 ^ 32 → token_of c ≡ token_of d → c ≡ d }
+    ensures told { (c d : ℕ) → c < 2 ^ 32 → d < 2 ^ 32 → bytes_eq (token_of c) (token_of d) ≡ (c == d) }
 {}

@@ -2,7 +2,7 @@
 use Rattle.std.proofs.Common.{◌≡◌, ℕ, ◌<◌, ◌+◌, List, [], length, true, false, Option, Some, None, Result, Ok, Err, IfSome, unwrap_or, replicate, cond, refl, sym, ap, ◌∙◌, subst, arith, lt-ltb}
 use Rattle.std.proofs.lemmas.List.{length-replicate}
 use Rattle.nm_proto.specs.FlatContent.{flat_meaning}
-use Rattle.nm_reading.specs.declared.fault.ScenarioKind.TheVariants.{TooLong}
+use Rattle.nm_proto.specs.declared.kind.ScenarioKind.TheVariants.{TooLong}
 use Rattle.nm_reading.specs.declared.fault.Fault.{Fault}
 use Rattle.nm_reading.specs.Reading.{◌>>=◌, here}
 use Rattle.nm_scenario.specs.declared.scenario.Body.{Body}
@@ -21,7 +21,7 @@ use Rattle.nm_console.specs.declared.status.Status.{Status}
 use Rattle.nm_console.specs.declared.command.Command.{Command}
 use Rattle.nm_console.specs.declared.command.Command.TheVariants.{Check, Replay}
 use Rattle.nm_console.specs.Refusal.{of_whole}
-use Rattle.nm_console.specs.Console.{Answer, AreFirst, Tells, Says, IsTold, IsOnly, IsKnown, RunsSafely, RunsSafelyBy, faulted, checked, replayed, usage_told, course_of, plan_of}
+use Rattle.nm_console.specs.Console.{Answer, AreFirst, Tells, Says, IsTold, IsOnly, IsKnown, RunsSafely, RunsSafelyBy, faulted, checked, replayed, usage_told, course_of, plan_of, tables_of}
 use Rattle.nm_console.proofs.Valid.{devices_valid}
 
 held : (left : Option (List ℕ)) (other : List ℕ) → IfSome left (λ told. told ≡ unwrap_or left other)
@@ -32,7 +32,7 @@ held (Some told) other = refl
 safe_by : (s : Scenario) (body : Body) → AreFirst body → RunsSafelyBy body s
 safe_by s (Flat devices edits) valid = record {
   valid = valid;
-  safe = run_is_safe flat_meaning edits (course_of (plan_of s.changes)) devices (plan_of s.changes).edits (length s.operators) s.events;
+  safe = run_is_safe flat_meaning (tables_of edits) (course_of (plan_of s.changes)) devices (plan_of s.changes).edits (length s.operators) s.events;
 }
 safe_by s (Yang modules schema devices) valid = tt
 

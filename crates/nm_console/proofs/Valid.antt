@@ -11,7 +11,7 @@ use Rattle.nm_proto.specs.FlatContent.{flat_meaning}
 use Rattle.nm_reading.specs.declared.fault.Fault.{Fault}
 use Rattle.nm_reading.specs.declared.fault.Step.{Step}
 use Rattle.nm_reading.specs.declared.fault.Step.TheVariants.{Item}
-use Rattle.nm_reading.specs.declared.fault.ScenarioKind.TheVariants.{BadValue}
+use Rattle.nm_proto.specs.declared.kind.ScenarioKind.TheVariants.{BadValue}
 use Rattle.nm_reading.specs.Reading.{◌>>=◌, here, under, required_from, required, optional, object_at, only_known, items_after, within, list_at, some_of, empty_list_at}
 use Rattle.nm_events.specs.Limits.{device_limit}
 use Rattle.nm_scenario.specs.declared.scenario.Scenario.{Scenario}

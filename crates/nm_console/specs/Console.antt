@@ -4,12 +4,15 @@ use Rattle.std.specs.List.{All}
 use Rattle.std.specs.Io.KnownBytes.{append_known}
 use Rattle.nm_io.specs.Bytes.{Begins}
 use Rattle.nm_base.specs.Token.{token_of}
+use Rattle.nm_base.specs.Words.{manager, default_timeout}
+use Rattle.nm_proto.specs.Content.{TablesState}
+use Rattle.nm_proto.specs.Plan.{devices_in}
 use Rattle.nm_proto.specs.declared.plan.ChangePlan.{ChangePlan}
 use Rattle.nm_proto.specs.declared.plan.Event.{Event}
 use Rattle.nm_proto.specs.declared.flat.FlatEdit.{FlatEdit}
 use Rattle.nm_proto.specs.Flat.{FlatState, flat_text}
 use Rattle.nm_proto.specs.FlatContent.{flat_meaning}
-use Rattle.nm_reading.specs.declared.fault.ScenarioKind.TheVariants.{NotBuilt}
+use Rattle.nm_proto.specs.declared.kind.ScenarioKind.TheVariants.{NotBuilt}
 use Rattle.nm_reading.specs.declared.fault.Fault.{Fault}
 use Rattle.nm_reading.specs.declared.fault.Step.TheVariants.{Name}
 use Rattle.nm_scenario.specs.declared.scenario.Body.{Body}
@@ -42,19 +45,23 @@ faulted fault = record { status = status.Scenario; text = fault_text fault }
 
 -- the course of change set 1
 abbrev pub course_of : ChangePlan → Course
-course_of plan = record { change = 1; timeout = plan.timeout; user = codes "netm"; token = token_of 1 }
+course_of plan = record { change = 1; devices = record { 0 = devices_in plan.edits }; timeout = plan.timeout; user = manager; token = token_of 1 }
 
 -- without a change set nothing is planned: its course is over no device, and no event names it
 abbrev pub no_plan : ChangePlan
-no_plan = record { timeout = 600; edits = [] }
+no_plan = record { timeout = default_timeout; edits = [] }
 
 abbrev pub plan_of : List ChangePlan → ChangePlan
 plan_of [] = no_plan
 plan_of (plan ∷ plans) = plan
 
+-- what requests name by number: edits, and no selections
+abbrev pub tables_of : List FlatEdit → TablesState FlatEdit
+tables_of edits = record { edits = edits; selects = [] }
+
 -- the world of flat contents that the events of a scenario with so many operators lead to
 abbrev pub world_from : List FlatState → List FlatEdit → ChangePlan → ℕ → List Event → WorldState FlatState
-world_from devices edits plan operators events = run flat_meaning edits (course_of plan) (start devices plan.edits operators) events
+world_from devices edits plan operators events = run flat_meaning (tables_of edits) (course_of plan) (start devices plan.edits operators) events
 
 -- the world's text and status, where there is a change set
 abbrev pub world_told : Bool → Course → WorldState FlatState → Answer
@@ -136,7 +143,7 @@ AreFirst (Yang modules schema devices) = Unit {0}
 -- the world that a scenario of these devices and edits leads to is safe, and its devices begin with valid configurations
 pub record IsSafeRun (devices : List FlatState) (edits : List FlatEdit) (s : Scenario) : Type 0 where
   pub valid : All (IsFirst flat_meaning) devices
-  pub safe : IsSafe flat_meaning edits (course_of (plan_of s.changes)) devices (length s.operators) (world_from devices edits (plan_of s.changes) (length s.operators) s.events)
+  pub safe : IsSafe flat_meaning (tables_of edits) (course_of (plan_of s.changes)) devices (length s.operators) (world_from devices edits (plan_of s.changes) (length s.operators) s.events)
 
 -- the same by the contents, of which flat ones alone are run
 abbrev pub RunsSafelyBy : Body → Scenario → Type 0

@@ -1,8 +1,9 @@
 -- What the program says where its words or its input are refused (this project's own): one line, with a newline.
 use Rattle.std.specs.Prelude.{ℕ, List, [], ◌++◌, codes}
-use Rattle.nm_reading.specs.declared.fault.ScenarioKind.{ScenarioKind}
+use Rattle.nm_proto.specs.declared.kind.ScenarioKind.{ScenarioKind}
 use Rattle.nm_reading.specs.declared.fault.Fault.{Fault}
-use Rattle.nm_reading.specs.Pointer.{kind_word, pointer_of}
+use Rattle.nm_proto.specs.Kind.{kind_word}
+use Rattle.nm_reading.specs.Pointer.{pointer_of}
 
 -- what the words of the program are
 abbrev pub usage_text : List ℕ

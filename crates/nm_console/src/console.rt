@@ -1,5 +1,5 @@
 ghost use Rattle.std.specs.Prelude.{◌≡◌, IfOk, IsErrOf, Some, IsTrue, IsSome};
-ghost use Rattle.nm_io.specs.Count.{Rose};
+ghost use Rattle.nm_base.specs.Count.{Rose};
 ghost use Rattle.nm_console.specs.Words.{command_of, texts_of};
 ghost use Rattle.nm_console.specs.Status.{is_whole};
 ghost use Rattle.nm_console.specs.Console.{Answers, CutOff, IsTold, Says, Tells, usage_told};

@@ -5,14 +5,13 @@ ghost use Rattle.std.specs.List.{All};
 ghost use Rattle.nm_proto.specs.FlatContent.{flat_meaning};
 ghost use Rattle.nm_scenario.specs.Scenario.{flat_scenario_of};
 ghost use Rattle.nm_world.specs.World.{IsFirst, run, start};
-ghost use Rattle.nm_console.specs.Console.{AreFirst, Tells, course_of, devices_told, faulted, no_plan, not_replayed, replayed, told, told_with, world_told};
+ghost use Rattle.nm_console.specs.Console.{AreFirst, Tells, course_of, devices_told, faulted, no_plan, not_replayed, replayed, tables_of, told, told_with, world_told};
 
 use crate::said::{Said, say_fault};
 use crate::status::{Status, status_for};
 use nm_base::token::token_of;
-use nm_base::{ChangeNo, Label, NoMemory};
-use nm_device::MANAGER;
-use nm_proto::{ChangePlan, Event, FlatConfig, FlatContent, FlatEdit, Listed};
+use nm_base::{ChangeNo, DEFAULT_TIMEOUT, Label, MANAGER, NoMemory};
+use nm_proto::{ChangePlan, Event, FlatConfig, FlatContent, FlatEdit, Listed, Tables};
 use nm_refusals::read_flat_scenario;
 use nm_report::{differing, reports_of, unsettled, write_devices, write_world};
 use nm_scenario::{Body, Fault, ReadError, Scenario, ScenarioKind, Step};
@@ -101,7 +100,7 @@ fn no_plan(alloc: Global) -> ChangePlan
     ensures { result ≡ no_plan }
 {
     ChangePlan {
-        timeout: 600,
+        timeout: DEFAULT_TIMEOUT,
         edits: Listed::new(alloc),
     }
 }
@@ -113,6 +112,7 @@ fn course_of(alloc: Global, plan: &ChangePlan) -> Result<Course, NoMemory>
     let change = ChangeNo::new(1).unwrap();
     Ok(Course {
         change,
+        devices: plan.devices(),
         timeout: plan.timeout,
         user: Label::new(alloc, MANAGER)?,
         token: token_of(alloc, change)?,
@@ -130,14 +130,15 @@ fn world_of(
 ) -> Result<World<FlatContent>, NoMemory>
     requires { All (IsFirst flat_meaning) devices }
     ensures course { IfOk result (λ w. w.course ≡ course_of plan.now) }
-    ensures state { IfOk result (λ w. w.state ≡ run flat_meaning edits (course_of plan.now) (start devices plan.now.edits operators) events.now) }
+    ensures state { IfOk result (λ w. w.state ≡ run flat_meaning (tables_of edits) (course_of plan.now) (start devices plan.now.edits operators) events.now) }
 {
     let content = FlatContent::new(alloc);
+    let tables = Tables::new(edits, Listed::new(alloc));
     let course = course_of(alloc, plan)?;
     let mut world = World::new(
         alloc,
         content,
-        edits,
+        tables,
         devices,
         course,
         plan.edits.as_slice(),
@@ -159,7 +160,7 @@ fn say_world(alloc: Global, trace: bool, world: &World<FlatContent>) -> Result<S
     let status = status_for(unsettled.as_slice(), differing.as_slice());
     let text = write_world(
         alloc,
-        &FlatContent::new(alloc),
+        world.content(),
         trace,
         world,
         reports.as_slice(),
@@ -175,7 +176,7 @@ fn say_devices(alloc: Global, trace: bool, world: &World<FlatContent>) -> Result
 {
     let text = write_devices(
         alloc,
-        &FlatContent::new(alloc),
+        world.content(),
         trace,
         world.trail(),
         world.devices(),

@@ -7,7 +7,7 @@ use Rattle.nm_proto.specs.declared.message.Store.{Store}
 use Rattle.nm_proto.specs.declared.message.Store.TheVariants.{Running, Candidate}
 use Rattle.nm_proto.specs.declared.message.Request.{Request}
 use Rattle.nm_proto.specs.declared.message.Request.TheVariants.{OpenSession, Lock, Unlock, PartialLock, PartialUnlock, Edit, Validate, Commit, CancelCommit, Discard, HasMark, GetConfig, Kill, CloseSession}
-use Rattle.nm_proto.specs.Content.{Meaning, Refusal}
+use Rattle.nm_proto.specs.Content.{Meaning, Refusal, TablesState}
 use Rattle.nm_sessions.specs.Sessions.{next_id}
 use Rattle.nm_locks.specs.Locks.{owner_of, is_owner, with_owner}
 use Rattle.nm_stores.specs.Stores.{candidate_of, is_modified, discarded}
@@ -63,14 +63,14 @@ module _ {Config : Type 0} (s : DeviceState Config) where
   pub ended_stays : (session : ℕ) → (ended s session).stores.running ≡ s.stores.running
   ended_stays session = cond_both (is_owner (owner_of s.locks Candidate) session) (discarded s.stores) s.stores (λ stores. stores.running ≡ s.stores.running) (λ _. refl) (λ _. refl)
 
-module _ {Config TheEdit Node : Type 0} (m : Meaning Config TheEdit Node) (edits : List TheEdit) (s : DeviceState Config) where
-  edit_at_stays : (edit : Option TheEdit) (operation : _) (marks : _) → Stays s (edit_at m edits s edit operation marks)
+module _ {Config TheEdit Node : Type 0} (m : Meaning Config TheEdit Node) (tables : TablesState TheEdit) (s : DeviceState Config) where
+  edit_at_stays : (edit : Option TheEdit) (operation : _) (marks : _) → Stays s (edit_at m tables s edit operation marks)
   edit_at_stays None operation marks = refl
   edit_at_stays (Some edit) operation marks = edit_stays s (m.edited (candidate_of s.stores) edit operation marks)
 
-  edit_by_stays : (session number : ℕ) (operation : _) (marks : _) → Stays s (edit_by m edits s session number operation marks)
-  edit_by_stays session number operation marks = cond_both (is_held_by_other s Candidate session) (refuse s InUse) (edit_at m edits s (slice_get edits number) operation marks) (Stays s)
-      (λ _. refl) (λ _. edit_at_stays (slice_get edits number) operation marks)
+  edit_by_stays : (session number : ℕ) (operation : _) (marks : _) → Stays s (edit_by m tables s session number operation marks)
+  edit_by_stays session number operation marks = cond_both (is_held_by_other s Candidate session) (refuse s InUse) (edit_at m tables s (slice_get tables.edits number) operation marks) (Stays s)
+      (λ _. refl) (λ _. edit_at_stays (slice_get tables.edits number) operation marks)
 
   -- a commit that was done makes running what candidate was, and no other changes it
   abbrev Commits : Stepped Config → Type 0
@@ -85,7 +85,7 @@ module _ {Config TheEdit Node : Type 0} (m : Meaning Config TheEdit Node) (edits
   commit_from_commits session None confirmed persist = commit_unless_commits session (violation_of m s.stores.candidate) confirmed persist
 
   -- what a request does to running
-  pub running_moves : (session : ℕ) (request : Request) → let stepped = device_step m edits s session request in
+  pub running_moves : (session : ℕ) (request : Request) → let stepped = device_step m tables s session request in
       stepped.after.stores.running ≡ (if is_commit request && is_done stepped.reply then candidate_of s.stores else s.stores.running)
   running_moves session (Lock store) = locked_stays s session store
   running_moves session (Unlock store) = unlocked_stays s session store
@@ -121,7 +121,7 @@ module _ {Config TheEdit Node : Type 0} (m : Meaning Config TheEdit Node) (edits
   commit_from_valid session None confirmed persist valid = commit_unless_valid session (violation_of m s.stores.candidate) confirmed persist refl valid
 
   -- running stays valid
-  pub step_valid : (session : ℕ) (request : Request) → IsValid s → IsValid (device_step m edits s session request).after
+  pub step_valid : (session : ℕ) (request : Request) → IsValid s → IsValid (device_step m tables s session request).after
   step_valid session (Commit confirmed timeout persist persist_id) valid =
       commit_from_valid session (commit_refusal s session (record { confirmed = confirmed; timeout = timeout; persist = persist; persist_id = persist_id })) confirmed persist valid
   step_valid session (Lock store) valid = ap m.violation (locked_stays s session store) ∙ valid

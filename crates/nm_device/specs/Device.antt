@@ -1,8 +1,9 @@
 -- A device as a plain value, and what a request answers and leaves (RFC 6241 sections 7 and 8). The code keeps slabs,
 -- and moves configurations.
-use Rattle.std.specs.Prelude.{◌≡◌, ℕ, codes, List, Bool, false, Option, Some, None, Result, Ok, Err}
+use Rattle.std.specs.Prelude.{◌≡◌, ℕ, List, Bool, false, Option, Some, None, Result, Ok, Err}
 use Rattle.std.specs.Str.{bytes_eq}
 use Rattle.nm_base.specs.declared.fault.NoMemory.{NoMemory}
+use Rattle.nm_base.specs.Words.{manager}
 use Rattle.nm_base.specs.declared.tag.Tag.{Tag}
 use Rattle.nm_base.specs.declared.tag.Tag.TheVariants.{InUse, InvalidValue, LockDenied, AccessDenied, DataExists, DataMissing, OperationFailed, ResourceDenied, UnknownElement, BadAttribute, MissingElement}
 use Rattle.nm_proto.specs.declared.message.Store.{Store}
@@ -60,10 +61,6 @@ path_of ResourceDenied path = None
 path_of UnknownElement path = Some path
 path_of BadAttribute path = Some path
 path_of MissingElement path = Some path
-
--- the user that is the manager alone (this project's own)
-abbrev pub manager : List ℕ
-manager = codes "netm"
 
 abbrev pub is_manager : Option (List ℕ) → Bool
 is_manager None = false

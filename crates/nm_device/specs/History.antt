@@ -5,7 +5,7 @@ use Rattle.std.specs.Prelude.{◌≡◌, ℕ, List, [], ◌∷◌, ◌++◌, Boo
 use Rattle.nm_proto.specs.declared.message.Request.{Request}
 use Rattle.nm_proto.specs.declared.message.Request.TheVariants.{OpenSession, Lock, Unlock, PartialLock, PartialUnlock, Edit, Validate, Commit, CancelCommit, Discard, HasMark, GetConfig, Kill, CloseSession}
 use Rattle.nm_proto.specs.declared.message.Reply.{Reply}
-use Rattle.nm_proto.specs.Content.{Meaning}
+use Rattle.nm_proto.specs.Content.{Meaning, TablesState}
 use Rattle.nm_sessions.specs.Sessions.{is_open}
 use Rattle.nm_stores.specs.Stores.{candidate_of}
 use Rattle.nm_device.specs.declared.event.DeviceEvent.{DeviceEvent}
@@ -97,12 +97,12 @@ is_done_commit entry = is_commit_event entry.event && is_done_reply entry.reply
 abbrev pub running_after : {Config : Type 0} → DeviceState Config → Noted → Config
 running_after s entry = if is_done_commit entry then candidate_of s.stores else s.stores.running
 
-module _ {Config TheEdit Node : Type 0} (m : Meaning Config TheEdit Node) (edits : List TheEdit) where
+module _ {Config TheEdit Node : Type 0} (m : Meaning Config TheEdit Node) (tables : TablesState TheEdit) where
   -- what an event does, None where it can't happen: a request or a loss wants an open session. Time and restarts
   -- aren't built yet
   abbrev pub device_event : DeviceState Config → DeviceEvent → Option (Happened Config)
   device_event s (Entered user) = Some (answered (opened s user))
-  device_event s (Asked session request) = happened_if (is_open s.sessions session && not (is_opening request)) (answered (device_step m edits s session request))
+  device_event s (Asked session request) = happened_if (is_open s.sessions session && not (is_opening request)) (answered (device_step m tables s session request))
   device_event s (Lost session) = happened_if (is_open s.sessions session) (silent (ended s session))
   device_event s (Advanced seconds) = None
   device_event s Restarted = None
@@ -164,11 +164,11 @@ module _ {Config : Type 0} where
   abbrev pub lost : RecordedState Config → ℕ → Option (RecordedState Config)
   lost r session = if is_open r.device.sessions session then Some (recorded_if r (Lost session) (Some (silent (ended r.device session)))) else None
 
-module _ {Config TheEdit Node : Type 0} (m : Meaning Config TheEdit Node) (edits : List TheEdit) where
+module _ {Config TheEdit Node : Type 0} (m : Meaning Config TheEdit Node) (tables : TablesState TheEdit) where
   -- a request on a session, where it is open
   abbrev pub served_on : RecordedState Config → Option ℕ → Request → Option (Served Config)
   served_on r None request = None
-  served_on r (Some session) request = served_if (is_open r.device.sessions session) (served_by r (Asked session request) (device_step m edits r.device session request))
+  served_on r (Some session) request = served_if (is_open r.device.sessions session) (served_by r (Asked session request) (device_step m tables r.device session request))
 
   abbrev pub served_to : RecordedState Config → Option ℕ → Request → Option (List ℕ) → Option (Served Config)
   served_to r session request (Some user) = Some (served_by r (Entered user) (opened r.device user))

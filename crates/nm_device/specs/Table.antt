@@ -10,7 +10,7 @@ use Rattle.nm_proto.specs.declared.message.Request.{Request}
 use Rattle.nm_proto.specs.declared.message.Request.TheVariants.{OpenSession, Lock, Unlock, PartialLock, PartialUnlock, Edit, Validate, Commit, CancelCommit, Discard, HasMark, GetConfig, Kill, CloseSession}
 use Rattle.nm_proto.specs.declared.message.Reply.{Reply}
 use Rattle.nm_proto.specs.declared.message.Reply.TheVariants.{Done, Opened, LockId, Mark, Rows, Error}
-use Rattle.nm_proto.specs.Content.{Meaning, Refusal, counted_rows}
+use Rattle.nm_proto.specs.Content.{Meaning, Refusal, counted_rows, TablesState}
 use Rattle.nm_sessions.specs.Sessions.{next_id, entered, left}
 use Rattle.nm_locks.specs.Locks.{owner_of, with_owner, is_owner, without_session}
 use Rattle.nm_stores.specs.Stores.{StoresState, candidate_of, is_modified, with_candidate, discarded}
@@ -83,7 +83,7 @@ module _ {Config : Type 0} where
     stores = stores_left s.stores (is_owner (owner_of s.locks Candidate) session);
   }
 
-module _ {Config TheEdit Node : Type 0} (m : Meaning Config TheEdit Node) (edits : List TheEdit) where
+module _ {Config TheEdit Node : Type 0} (m : Meaning Config TheEdit Node) (tables : TablesState TheEdit) where
   -- an edit of a number that the tables lack is refused
   abbrev pub edit_at : DeviceState Config → Option TheEdit → DefaultOperation → Option Marks → Stepped Config
   edit_at s None operation marks = refuse s OperationFailed
@@ -92,7 +92,7 @@ module _ {Config TheEdit Node : Type 0} (m : Meaning Config TheEdit Node) (edits
   -- another's lock of candidate keeps everybody else out (RFC 6241 section 7.5)
   abbrev pub edit_by : DeviceState Config → ℕ → ℕ → DefaultOperation → Option Marks → Stepped Config
   edit_by s session number operation marks =
-      if is_held_by_other s Candidate session then refuse s InUse else edit_at s (slice_get edits number) operation marks
+      if is_held_by_other s Candidate session then refuse s InUse else edit_at s (slice_get tables.edits number) operation marks
 
   -- a request of an open session. The requests that aren't built yet are refused
   abbrev pub device_step : DeviceState Config → ℕ → Request → Stepped Config

@@ -4,11 +4,11 @@ ghost use Rattle.nm_device.specs.Table.{is_done, is_error};
 ghost use Rattle.nm_proto.specs.Content.{Checks};
 ghost use Rattle.nm_device.specs.Commit.{names_reserved};
 
-use crate::device::{Device, MANAGER, refuse};
+use crate::device::{Device, refuse};
 use crate::edits::refuse_at;
 use crate::pending::{Pending, pending_refusal};
 use nm_base::token::is_reserved;
-use nm_base::{Label, NoMemory, SessionId, Tag};
+use nm_base::{Label, MANAGER, NoMemory, SessionId, Tag};
 use nm_proto::{CheckFault, Content, Reply, Store};
 
 // Commits of candidate to running.

@@ -6,14 +6,11 @@ ghost use Rattle.nm_device.specs.Table.{is_commit, is_done, is_error, takes_no_m
 use crate::pending::Pending;
 use nm_base::{Label, NoMemory, SessionId, Tag};
 use nm_locks::GlobalLocks;
-use nm_proto::{Content, Reply, Request, Store};
+use nm_proto::{Content, Reply, Request, Store, Tables};
 use nm_sessions::{EnterFault, Sessions};
 use nm_stores::Stores;
 use std::alloc::Global;
 use std::marker::Model;
-
-/// The user that is the manager alone. No operator may have this name.
-pub const MANAGER: &str = "netm";
 
 /// A device: its datastores, sessions, global locks and pending confirmed commit (RFC 6241 sections 7 and 8).
 pub struct Device<C: Content> {
@@ -129,15 +126,15 @@ impl<C: Content> Device<C> {
     pub fn step(
         &mut self,
         content: &C,
-        edits: &[C::Edit],
+        tables: &Tables<C>,
         session: SessionId,
         request: &Request,
     ) -> Result<Reply, NoMemory>
         requires sound { IsSound (C.meaning content.now) self.old }
-        requires edits_belong { All (C.meaning content.now).edit_belongs edits.now }
+        requires edits_belong { All (C.meaning content.now).edit_belongs tables.now.edits }
         requires open { is_open self.old.sessions session ≡ true }
         requires asks { is_opening request.now ≡ false }
-        ensures stepped { Does result self.old self.new (device_step (C.meaning content.now) edits.now self.old session request.now) }
+        ensures stepped { Does result self.old self.new (device_step (C.meaning content.now) tables.now self.old session request.now) }
         ensures no_memory { takes_no_memory request.now ≡ true → IsOk result }
         ensures unchanged { OnErr result (self.new ≡ self.old) }
         ensures error_changes_nothing { IfOk result (λ reply. is_error reply ≡ true → self.new ≡ self.old) }
@@ -153,7 +150,7 @@ impl<C: Content> Device<C> {
                 edit,
                 default_operation,
                 marks,
-            } => self.edit(content, edits, session, *edit, *default_operation, *marks),
+            } => self.edit(content, tables, session, *edit, *default_operation, *marks),
             Request::Validate => self.validate(content),
             Request::Commit {
                 confirmed,

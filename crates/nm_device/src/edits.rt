@@ -4,7 +4,7 @@ ghost use Rattle.nm_device.specs.Device.{path_of};
 
 use crate::device::{Device, refuse};
 use nm_base::{EditNo, Label, NoMemory, SessionId, Tag};
-use nm_proto::{ApplyFault, CheckFault, Content, DefaultOperation, Marks, Reply, Store};
+use nm_proto::{ApplyFault, CheckFault, Content, DefaultOperation, Marks, Reply, Store, Tables};
 
 // Edits of candidate and its validation.
 impl<C: Content> Device<C> {
@@ -16,22 +16,22 @@ impl<C: Content> Device<C> {
     pub(crate) fn edit(
         &mut self,
         content: &C,
-        edits: &[C::Edit],
+        tables: &Tables<C>,
         session: SessionId,
         number: EditNo,
         default_operation: DefaultOperation,
         marks: Option<Marks>,
     ) -> Result<Reply, NoMemory>
         requires sound { IsSound (C.meaning content.now) self.old }
-        requires edits_belong { All (C.meaning content.now).edit_belongs edits.now }
-        ensures stepped { Does result self.old self.new (edit_by (C.meaning content.now) edits.now self.old session number.0 default_operation marks) }
+        requires edits_belong { All (C.meaning content.now).edit_belongs tables.now.edits }
+        ensures stepped { Does result self.old self.new (edit_by (C.meaning content.now) tables.now self.old session number.0 default_operation marks) }
         ensures sound { IsSound (C.meaning content.now) self.new }
         ensures running { self.new.stores.running ≡ self.old.stores.running }
     {
         if self.is_held_by_other(Store::Candidate, session) {
             return Ok(refuse(Tag::InUse));
         }
-        match edits.get(number.0 as usize) {
+        match tables.edit(number) {
             Some(edit) => self.apply(content, edit, default_operation, marks),
             None => Ok(refuse(Tag::OperationFailed)),
         }

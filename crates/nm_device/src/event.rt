@@ -4,7 +4,7 @@ use nm_base::{Label, NoMemory, SessionId};
 use nm_proto::{Reply, Request};
 
 /// One thing that happens at a device.
-#[derive(Drop)]
+#[derive(Clone, PartialEq, Drop)]
 pub enum DeviceEvent {
     /// A user asks for a session (RFC 6241 section 8.1).
     Entered {
@@ -32,42 +32,14 @@ impl DeviceEvent {
     pub fn copy(&self) -> Result<DeviceEvent, NoMemory>
         ensures { IfOk result (λ event. event ≡ self.now) }
     {
-        match self {
-            DeviceEvent::Entered { user } => Ok(DeviceEvent::Entered { user: user.copy()? }),
-            DeviceEvent::Asked { session, request } => Ok(DeviceEvent::Asked {
-                session: *session,
-                request: request.copy()?,
-            }),
-            DeviceEvent::Lost { session } => Ok(DeviceEvent::Lost { session: *session }),
-            DeviceEvent::Advanced { seconds } => Ok(DeviceEvent::Advanced { seconds: *seconds }),
-            DeviceEvent::Restarted => Ok(DeviceEvent::Restarted),
-        }
+        Ok(self.clone()?)
     }
 
     /// Whether the two are equal.
     pub fn same(&self, other: &DeviceEvent) -> bool
         ensures { IsTrue result ↔ (self.now ≡ other.now) }
     {
-        match (self, other) {
-            (DeviceEvent::Entered { user }, DeviceEvent::Entered { user: other }) => {
-                user.same(other)
-            }
-            (
-                DeviceEvent::Asked { session, request },
-                DeviceEvent::Asked {
-                    session: other_session,
-                    request: other_request,
-                },
-            ) => session.get() == other_session.get() && request.same(other_request),
-            (DeviceEvent::Lost { session }, DeviceEvent::Lost { session: other }) => {
-                session.get() == other.get()
-            }
-            (DeviceEvent::Advanced { seconds }, DeviceEvent::Advanced { seconds: other }) => {
-                *seconds == *other
-            }
-            (DeviceEvent::Restarted, DeviceEvent::Restarted) => true,
-            _ => false,
-        }
+        *self == *other
     }
 }
 

@@ -1,4 +1,5 @@
 ghost use Rattle.std.specs.Prelude.{◌≡◌, List, None};
+ghost use Rattle.nm_proto.specs.Content.{TablesState};
 ghost use Rattle.nm_device.specs.declared.event.DeviceEvent.{DeviceEvent};
 ghost use Rattle.nm_device.specs.Device.{fresh_device};
 ghost use Rattle.nm_device.specs.History.{recorded, recorded_run, Leads};
@@ -9,6 +10,6 @@ use nm_proto::Content;
 /// that does one thing after another, and each running configuration is valid and changes only by a commit answered
 /// Done, to candidate as it stood just before (RFC 6241 section 8.3).
 pub fn every_history_is_whole<C: Content>(content: &C)
-    ensures { (edits : List C.Edit) (running : C.Config) (events : List DeviceEvent) → (C.meaning content.now).violation running ≡ None
-        → Leads (C.meaning content.now) edits (fresh_device running) (recorded_run (C.meaning content.now) edits (recorded running) events) }
+    ensures { (tables : TablesState C.Edit) (running : C.Config) (events : List DeviceEvent) → (C.meaning content.now).violation running ≡ None
+        → Leads (C.meaning content.now) tables (fresh_device running) (recorded_run (C.meaning content.now) tables (recorded running) events) }
 {}

@@ -16,7 +16,7 @@ mod sessions;
 #[cfg(test)]
 mod tests;
 
-pub use device::{Device, MANAGER};
+pub use device::Device;
 pub use event::{DeviceEvent, Noted};
 pub use pending::Pending;
 pub use recorded::{Recorded, Told};

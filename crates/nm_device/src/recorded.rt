@@ -7,7 +7,7 @@ ghost use Rattle.nm_device.specs.History.{opening_user};
 use crate::device::Device;
 use crate::event::{DeviceEvent, Noted};
 use nm_base::{Label, NoMemory, SessionId};
-use nm_proto::{Content, Reply, Request};
+use nm_proto::{Content, Reply, Request, Tables};
 use std::alloc::Global;
 use std::marker::Model;
 
@@ -77,13 +77,13 @@ impl<C: Content> Recorded<C> {
     pub fn serve(
         &mut self,
         content: &C,
-        edits: &[C::Edit],
+        tables: &Tables<C>,
         session: Option<SessionId>,
         request: &Request,
     ) -> Result<Option<Told>, NoMemory>
         requires sound { IsSound (C.meaning content.now) self.old.device }
-        requires edits_belong { All (C.meaning content.now).edit_belongs edits.now }
-        ensures served { IfOk result (λ told. Serves told self.old self.new (served (C.meaning content.now) edits.now self.old session request.now)) }
+        requires edits_belong { All (C.meaning content.now).edit_belongs tables.now.edits }
+        ensures served { IfOk result (λ told. Serves told self.old self.new (served (C.meaning content.now) tables.now self.old session request.now)) }
         ensures unchanged { OnErr result (self.new ≡ self.old) }
         ensures sound { IsSound (C.meaning content.now) self.new.device }
     {
@@ -92,7 +92,7 @@ impl<C: Content> Recorded<C> {
             return Ok(Some(told));
         }
         match session {
-            Some(session) => self.serve_on(content, edits, session, request),
+            Some(session) => self.serve_on(content, tables, session, request),
             None => Ok(None),
         }
     }
@@ -147,21 +147,21 @@ impl<C: Content> Recorded<C> {
     fn serve_on(
         &mut self,
         content: &C,
-        edits: &[C::Edit],
+        tables: &Tables<C>,
         session: SessionId,
         request: &Request,
     ) -> Result<Option<Told>, NoMemory>
         requires sound { IsSound (C.meaning content.now) self.old.device }
-        requires edits_belong { All (C.meaning content.now).edit_belongs edits.now }
+        requires edits_belong { All (C.meaning content.now).edit_belongs tables.now.edits }
         requires asks { is_opening request.now ≡ false }
-        ensures served { IfOk result (λ told. Serves told self.old self.new (served_on (C.meaning content.now) edits.now self.old (Some session) request.now)) }
+        ensures served { IfOk result (λ told. Serves told self.old self.new (served_on (C.meaning content.now) tables.now self.old (Some session) request.now)) }
         ensures unchanged { OnErr result (self.new ≡ self.old) }
         ensures sound { IsSound (C.meaning content.now) self.new.device }
     {
         if !self.device.has_session(session) {
             return Ok(None);
         }
-        match self.serve_open(content, edits, session, request) {
+        match self.serve_open(content, tables, session, request) {
             Ok(told) => Ok(Some(told)),
             Err(fault) => Err(fault),
         }
@@ -171,21 +171,21 @@ impl<C: Content> Recorded<C> {
     fn serve_open(
         &mut self,
         content: &C,
-        edits: &[C::Edit],
+        tables: &Tables<C>,
         session: SessionId,
         request: &Request,
     ) -> Result<Told, NoMemory>
         requires sound { IsSound (C.meaning content.now) self.old.device }
-        requires edits_belong { All (C.meaning content.now).edit_belongs edits.now }
+        requires edits_belong { All (C.meaning content.now).edit_belongs tables.now.edits }
         requires open { is_open self.old.device.sessions session ≡ true }
         requires asks { is_opening request.now ≡ false }
-        ensures served { IfOk result (λ told. Serves (Some told) self.old self.new (Some (served_by self.old (DeviceEvent.Asked session request.now) (device_step (C.meaning content.now) edits.now self.old.device session request.now)))) }
+        ensures served { IfOk result (λ told. Serves (Some told) self.old self.new (Some (served_by self.old (DeviceEvent.Asked session request.now) (device_step (C.meaning content.now) tables.now self.old.device session request.now)))) }
         ensures unchanged { OnErr result (self.new ≡ self.old) }
         ensures sound { IsSound (C.meaning content.now) self.new.device }
     {
         self.history.reserve(1)?;
         let asked = request.copy()?;
-        let reply = self.device.step(content, edits, session, request)?;
+        let reply = self.device.step(content, tables, session, request)?;
         let Copies { kept, told } = copies_of(reply)?;
         self.history.push_reserved(Noted {
             event: DeviceEvent::Asked {

@@ -3,10 +3,10 @@ ghost use Rattle.nm_proto.specs.FlatContent.{flat_meaning};
 ghost use Rattle.nm_device.specs.Device.{IsSound};
 
 use super::*;
-use nm_base::{ChangeMask, ChangeNo, EditNo, Label, NoMemory, SessionId, Tag};
+use nm_base::{ChangeMask, ChangeNo, EditNo, Label, MANAGER, NoMemory, SessionId, Tag};
 use nm_proto::{
-    Content, DefaultOperation, FlatConfig, FlatContent, FlatEdit, Marks, NumberMap, Reply, Request,
-    Store,
+    Content, DefaultOperation, FlatConfig, FlatContent, FlatEdit, Listed, Marks, NumberMap, Reply,
+    Request, Store, Tables,
 };
 use std::alloc::Global;
 use std::test::Fail;
@@ -25,14 +25,14 @@ fn device_of(alloc: Global) -> Result<Recorded<FlatContent>, Fail>
 }
 
 // Edit 0 sets cell 7 to 5, edit 1 to a value that isn't valid, and edit 2 names a cell that isn't there.
-fn edits_of(alloc: Global) -> Result<Vec<FlatEdit>, NoMemory> {
-    let mut edits = Vec::new(alloc);
+fn tables_of(alloc: Global) -> Result<Tables<FlatContent>, NoMemory> {
+    let mut edits = Listed::new(alloc);
     for (key, value) in [(7, 5), (7, 1_000_001), (8, 1)] {
         let mut changes = NumberMap::new(alloc);
         changes.insert(key, Some(value))?;
         edits.push(FlatEdit { changes })?;
     }
-    Ok(edits)
+    Ok(Tables::new(edits, Listed::new(alloc)))
 }
 
 // Whether the session with this number, opened before, is answered so.
@@ -49,9 +49,9 @@ fn answers(
     let Some(session) = SessionId::new(session) else {
         return Ok(false);
     };
-    let edits = edits_of(alloc)?;
+    let tables = tables_of(alloc)?;
     let content = FlatContent::new(alloc);
-    match device.serve(&content, edits.as_slice(), Some(session), request)? {
+    match device.serve(&content, &tables, Some(session), request)? {
         Some(told) => Ok(told.reply.same(want) && told.again.same(want) && !told.undone),
         None => Ok(false),
     }
@@ -69,7 +69,8 @@ fn enters(
     let request = Request::OpenSession {
         user: Label::new(alloc, user)?,
     };
-    device.serve(&FlatContent::new(alloc), &[], None, &request)
+    let tables = Tables::new(Listed::new(alloc), Listed::new(alloc));
+    device.serve(&FlatContent::new(alloc), &tables, None, &request)
 }
 
 // Whether a user gets the session with this number.

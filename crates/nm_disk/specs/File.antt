@@ -1,6 +1,6 @@
 -- A file as a disk.
 use Rattle.std.specs.Prelude.{ℕ, Bool, List, if◌then◌else◌}
-use Rattle.nm_disk.specs.Count.{raised}
+use Rattle.nm_base.specs.Count.{raised}
 
 -- the path of the file, and how many of its calls failed (this project's own)
 pub record FileState : Type 0 where

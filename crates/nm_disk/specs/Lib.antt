@@ -1,7 +1,7 @@
-pub mod Count
 pub mod Image
 pub mod ImageLaws
 pub mod Moments
+pub mod Keeps
 pub mod Memory
 pub mod MemoryLaws
 pub mod File

@@ -1,7 +1,7 @@
 -- A disk in memory: the record of its calls, its bytes and its crash images.
 use Rattle.std.specs.Prelude.{◌≡◌, ◌⊎◌, ◌≤◌, ◌+◌, ◌||◌, ℕ, Bool, nat_lt, nat_le, nat_eq, List, [], ◌∷◌, ◌++◌, length, take, drop, replicate, if◌then◌else◌}
 use Rattle.std.specs.List.{list_any}
-use Rattle.nm_disk.specs.Count.{raised}
+use Rattle.nm_base.specs.Count.{raised}
 use Rattle.nm_disk.specs.Image.{with_piece, IsTorn, IsCut, IsPerhapsCut}
 use Rattle.nm_disk.specs.declared.memory.Call.{Call}
 use Rattle.nm_disk.specs.declared.memory.Call.TheVariants.{Asked, Wrote, Tore, Cut, PerhapsCut, Synced}

@@ -1,5 +1,5 @@
 ghost use Rattle.std.specs.Prelude.{◌≡◌, ◌≤◌, ◌+◌, List, Option, ℕ, Some, length, take, drop, IfOk, OnOk, OnErr, IfSome, IsSome};
-ghost use Rattle.nm_disk.specs.Count.{Rose};
+ghost use Rattle.nm_base.specs.Count.{Rose};
 ghost use Rattle.nm_disk.specs.Image.{told_with_piece, told_cut, IsTorn, IsCut, IsPerhapsCut, ToldStep, ImageStep, NoNewImage, LeavesOnly, GoesOn};
 
 use nm_base::Failed;

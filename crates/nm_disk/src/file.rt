@@ -1,9 +1,8 @@
 ghost use Rattle.std.specs.Prelude.{◌≡◌, ◌≤◌, ◌-◌, ◌<◌, length, None, IfOk, is_ok};
 ghost use Rattle.nm_disk.specs.File.{after_call};
 
-use crate::count::count_fault;
 use crate::disk::Disk;
-use nm_base::{Failed, Label};
+use nm_base::{Failed, Label, count_fault};
 use std::fs::{Files, OpenFile, OpenOptions};
 use std::io;
 use std::io::{Read, Seek, SeekFrom, Write};

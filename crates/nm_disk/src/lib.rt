@@ -5,7 +5,6 @@
 #![tactic(auto)]
 
 mod any;
-mod count;
 pub mod disk;
 pub mod file;
 mod lent;

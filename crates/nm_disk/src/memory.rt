@@ -1,10 +1,9 @@
 ghost use Rattle.std.specs.Prelude.{◌≡◌, ◌≤◌, ◌+◌, ◌^◌, ◌<◌, ◌↔◌, [], ◌++◌, length, take, drop, Some, IfOk, OnOk, OnErr, IsErr, IsTrue, vec_capacity, if◌then◌else◌, replicate};
 ghost use Rattle.nm_disk.specs.Image.{with_piece, ImageStep, IsTorn, IsPerhapsCut};
-ghost use Rattle.nm_disk.specs.Count.{raised};
+ghost use Rattle.nm_base.specs.Count.{raised};
 
-use crate::count::count_fault;
 use crate::disk::Disk;
-use nm_base::{Failed, NoMemory};
+use nm_base::{Failed, NoMemory, count_fault};
 use std::alloc::Global;
 use std::marker::Model;
 

@@ -5,7 +5,7 @@ use Rattle.std.specs.Prelude.{ℕ, ◌+◌, ◌-◌, ◌*◌, ◌^◌, List, [],
 use Rattle.serde_json.specs.Data.{Data, null, boolean, number, string, array, object, Items, no_items, item}
 use Rattle.serde_json.specs.Find.{at}
 use Rattle.nm_proto.specs.declared.plan.Event.TheVariants.{Submit, Turn, Deliver, Answer, Leave, Round}
-use Rattle.nm_reading.specs.declared.fault.ScenarioKind.TheVariants.{NotBuilt, BadValue, TooMany}
+use Rattle.nm_proto.specs.declared.kind.ScenarioKind.TheVariants.{NotBuilt, BadValue, TooMany}
 use Rattle.nm_reading.specs.declared.fault.Step.TheVariants.{Item}
 use Rattle.nm_reading.specs.declared.fault.Fault.{Fault}
 use Rattle.nm_reading.specs.Reading.{◌>>=◌, here, there, items_after}

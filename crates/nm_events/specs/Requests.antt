@@ -11,7 +11,10 @@ use Rattle.nm_proto.specs.declared.message.Store.{Store}
 use Rattle.nm_proto.specs.declared.message.Store.TheVariants.{Running, Candidate}
 use Rattle.nm_proto.specs.declared.message.Request.{Request}
 use Rattle.nm_proto.specs.declared.message.Request.TheVariants.{OpenSession, Lock, Unlock, Validate, Commit, Discard, HasMark, GetConfig, CloseSession}
-use Rattle.nm_reading.specs.declared.fault.ScenarioKind.TheVariants.{NotBuilt, BadValue}
+use Rattle.nm_proto.specs.declared.message.RequestWord.{RequestWord}
+use Rattle.nm_proto.specs.declared.message.RequestWord.TheVariants as word
+use Rattle.nm_proto.specs.Message.{word_text}
+use Rattle.nm_proto.specs.declared.kind.ScenarioKind.TheVariants.{NotBuilt, BadValue}
 use Rattle.nm_reading.specs.declared.fault.Step.TheVariants.{Item}
 use Rattle.nm_reading.specs.declared.fault.Fault.{Fault}
 use Rattle.nm_events.specs.declared.event.ReadRequest.{ReadRequest}
@@ -23,7 +26,7 @@ use Rattle.nm_events.specs.Limits.{change_limit}
 -- the default operation merge is built (RFC 6241 section 7.2)
 abbrev pub default_of : Option (List ℕ) → Result DefaultOperation Fault
 default_of None = here BadValue
-default_of (Some word) = if bytes_eq word (codes "merge") then Ok Merge else (if bytes_eq word (codes "replace") || bytes_eq word (codes "none") then here NotBuilt else here BadValue)
+default_of (Some text) = if bytes_eq text (codes "merge") then Ok Merge else (if bytes_eq text (codes "replace") || bytes_eq text (codes "none") then here NotBuilt else here BadValue)
 
 unfoldable pub default_at : Data → Result DefaultOperation Fault
 default_at part = default_of (as_str part)
@@ -31,10 +34,14 @@ default_at part = default_of (as_str part)
 -- a datastore by its name (RFC 6241 sections 7.5 and 8.3)
 abbrev pub store_of : Option (List ℕ) → Result Store Fault
 store_of None = here BadValue
-store_of (Some word) = if bytes_eq word (codes "running") then Ok Running else (if bytes_eq word (codes "candidate") then Ok Candidate else here BadValue)
+store_of (Some text) = if bytes_eq text (codes "running") then Ok Running else (if bytes_eq text (codes "candidate") then Ok Candidate else here BadValue)
 
 unfoldable pub store_at : Data → Result Store Fault
 store_at part = store_of (as_str part)
+
+-- a request begins with this word
+abbrev pub asks : RequestWord → Data → Bool
+asks request whole = is_word whole (word_text request)
 
 -- a request that is its word alone
 unfoldable pub alone : {E : Type 0} → Request → Data → Result (ReadRequest E) Fault
@@ -90,16 +97,16 @@ commit_at whole = if item_count whole == 1 then Ok (Known plain_commit) else (if
 -- a request by its word, asked by an operator of this name
 unfoldable pub request_by_word : {E : Type 0} → (Data → Result E Fault) → List ℕ → Data → Result (ReadRequest E) Fault
 request_by_word read user whole =
-    if is_word whole (codes "open") then alone (OpenSession user) whole
-    else (if is_word whole (codes "lock") then lock_at whole
-    else (if is_word whole (codes "unlock") then unlock_at whole
-    else (if is_word whole (codes "edit") then edit_request_at read whole
-    else (if is_word whole (codes "validate") then alone Validate whole
-    else (if is_word whole (codes "commit") then commit_at whole
-    else (if is_word whole (codes "discard") then alone Discard whole
-    else (if is_word whole (codes "has-mark") then has_mark_at whole
-    else (if is_word whole (codes "get-config") then alone GetConfig whole
-    else (if is_word whole (codes "close-session") then alone CloseSession whole
+    if asks word.Open whole then alone (OpenSession user) whole
+    else (if asks word.Lock whole then lock_at whole
+    else (if asks word.Unlock whole then unlock_at whole
+    else (if asks word.Edit whole then edit_request_at read whole
+    else (if asks word.Validate whole then alone Validate whole
+    else (if asks word.Commit whole then commit_at whole
+    else (if asks word.Discard whole then alone Discard whole
+    else (if asks word.HasMark whole then has_mark_at whole
+    else (if asks word.GetConfig whole then alone GetConfig whole
+    else (if asks word.CloseSession whole then alone CloseSession whole
     else there BadValue (Item 0))))))))))
 
 -- a request of an operator of this name; one without a word is no request
@@ -120,5 +127,6 @@ is_object (Some (array items)) = false
 
 -- requests that aren't built: partial locks (RFC 5717), kills, cancels, and commits with an argument
 abbrev pub is_unbuilt_request : Data → Bool
-is_unbuilt_request whole = is_word whole (codes "partial-lock") || is_word whole (codes "partial-unlock") || is_word whole (codes "kill") || is_word whole (codes "cancel-commit")
-    || (is_word whole (codes "commit") && is_object (at 1 whole))
+is_unbuilt_request whole =
+    asks word.PartialLock whole || asks word.PartialUnlock whole || asks word.Kill whole || asks word.CancelCommit whole
+    || (asks word.Commit whole && is_object (at 1 whole))

@@ -3,13 +3,13 @@ ghost use Rattle.serde_json.specs.View.{view};
 ghost use Rattle.serde_json.specs.Find.{at};
 ghost use Rattle.nm_reading.specs.Reading.{Gives};
 ghost use Rattle.nm_events.specs.Limits.{change_limit};
-ghost use Rattle.nm_events.specs.Requests.{store_at, alone, lock_at, unlock_at, knows_asked_edit, asked_edit_at, edit_request_at, has_mark_at, plain_commit, commit_at, request_by_word, request_at, is_object, is_unbuilt_request};
+ghost use Rattle.nm_events.specs.Requests.{asks, store_at, alone, lock_at, unlock_at, knows_asked_edit, asked_edit_at, edit_request_at, has_mark_at, plain_commit, commit_at, request_by_word, request_at, is_object, is_unbuilt_request};
 
 use crate::event::ReadRequest;
 use crate::limits::CHANGE_LIMIT;
 use crate::operation::Operation;
 use nm_base::{ChangeNo, Label};
-use nm_proto::{DefaultOperation, Request, Store};
+use nm_proto::{DefaultOperation, Request, RequestWord, Store};
 use nm_reading::reader::{
     Names, Reader, fault_at, fault_here, optional_member, read_object, read_only_known,
     required_member,
@@ -43,6 +43,13 @@ impl Reader for StoreName {
             }
         }
     }
+}
+
+// Whether a request begins with this word.
+fn asks(whole: &Value, word: RequestWord) -> bool
+    ensures { result ≡ asks word (view whole.now) }
+{
+    is_word(whole, word.text())
 }
 
 // A request that is its word alone.
@@ -170,34 +177,34 @@ impl<'a, R: Reader> RequestOf<'a, R> {
     fn by_word(&self, alloc: Global, whole: &Value) -> Result<ReadRequest<R::Out>, ReadError>
         ensures { Gives result (request_by_word (R.reads self.now.edits.now) self.now.user.now (view whole.now)) }
     {
-        if is_word(whole, "open") {
+        if asks(whole, RequestWord::Open) {
             return self.open_session(alloc, whole);
         }
-        if is_word(whole, "lock") {
+        if asks(whole, RequestWord::Lock) {
             return lock(alloc, whole);
         }
-        if is_word(whole, "unlock") {
+        if asks(whole, RequestWord::Unlock) {
             return unlock(alloc, whole);
         }
-        if is_word(whole, "edit") {
+        if asks(whole, RequestWord::Edit) {
             return self.edit(alloc, whole);
         }
-        if is_word(whole, "validate") {
+        if asks(whole, RequestWord::Validate) {
             return alone(alloc, whole, Request::Validate);
         }
-        if is_word(whole, "commit") {
+        if asks(whole, RequestWord::Commit) {
             return commit(alloc, whole);
         }
-        if is_word(whole, "discard") {
+        if asks(whole, RequestWord::Discard) {
             return alone(alloc, whole, Request::Discard);
         }
-        if is_word(whole, "has-mark") {
+        if asks(whole, RequestWord::HasMark) {
             return has_mark(alloc, whole);
         }
-        if is_word(whole, "get-config") {
+        if asks(whole, RequestWord::GetConfig) {
             return alone(alloc, whole, Request::GetConfig);
         }
-        if is_word(whole, "close-session") {
+        if asks(whole, RequestWord::CloseSession) {
             return alone(alloc, whole, Request::CloseSession);
         }
         fault_at(alloc, ScenarioKind::BadValue, Step::Item(0))
@@ -233,9 +240,9 @@ fn is_object(whole: &Value, place: usize) -> bool
 pub fn is_unbuilt_request(whole: &Value) -> bool
     ensures { result ≡ is_unbuilt_request (view whole.now) }
 {
-    is_word(whole, "partial-lock")
-        || is_word(whole, "partial-unlock")
-        || is_word(whole, "kill")
-        || is_word(whole, "cancel-commit")
-        || is_word(whole, "commit") && is_object(whole, 1)
+    asks(whole, RequestWord::PartialLock)
+        || asks(whole, RequestWord::PartialUnlock)
+        || asks(whole, RequestWord::Kill)
+        || asks(whole, RequestWord::CancelCommit)
+        || asks(whole, RequestWord::Commit) && is_object(whole, 1)
 }

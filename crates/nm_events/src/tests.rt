@@ -3,9 +3,9 @@ use nm_base::{EditNo, Label, NoMemory};
 use nm_proto::{DefaultOperation, Event, Listed, Request};
 use nm_reading::reader::Reader;
 use nm_reading::values::{NumberWithin, Unbuilt};
-use nm_reading::{Fault, ReadError, ScenarioKind, Step};
+use nm_reading::{Fault, ReadError, write_place};
 use serde_json::Value;
-use std::alloc::{AllocError, Global};
+use std::alloc::Global;
 use std::test::Fail;
 
 fn parsed(alloc: Global, text: &str) -> Result<Value, Fail> {
@@ -15,33 +15,11 @@ fn parsed(alloc: Global, text: &str) -> Result<Value, Fail> {
     }
 }
 
-fn word_of(kind: ScenarioKind) -> &'static str {
-    match kind {
-        ScenarioKind::NotBuilt => "not-built ",
-        ScenarioKind::Missing => "missing ",
-        ScenarioKind::Unknown => "unknown ",
-        ScenarioKind::BadValue => "bad-value ",
-        ScenarioKind::TooMany => "too-many ",
-        _ => "other ",
-    }
-}
-
-fn step_text(alloc: Global, step: &Step) -> Result<String, AllocError> {
-    match step {
-        Step::Name(name) => format!(in alloc; "/{}", name.as_str()),
-        Step::Item(place) => format!(in alloc; "/{}", *place),
-    }
-}
-
 // A fault as `bad-value /1/0`; the place of the whole is `/`.
-fn fault_text(alloc: Global, fault: &Fault) -> Result<String, AllocError> {
-    let mut text = String::from_str(alloc, word_of(fault.kind))?;
-    if fault.place.len() == 0 {
-        text.push_str("/")?;
-    }
-    for step in fault.place.as_slice() {
-        text.push_str(step_text(alloc, step)?.as_str())?;
-    }
+fn fault_text(alloc: Global, fault: &Fault) -> Result<Vec<u8>, NoMemory> {
+    let mut text = Vec::from_slice(alloc, fault.kind.word().as_bytes())?;
+    text.push(b' ')?;
+    write_place(alloc, &mut text, fault.place.as_slice())?;
     Ok(text)
 }
 
@@ -63,9 +41,9 @@ fn read_events(
 }
 
 // `read`, or the first fault.
-fn told(alloc: Global, text: &str) -> Result<String, Fail> {
+fn told(alloc: Global, text: &str) -> Result<Vec<u8>, Fail> {
     match read_events(alloc, text)? {
-        Ok(_) => Ok(String::from_str(alloc, "read")?),
+        Ok(_) => Ok(Vec::from_slice(alloc, b"read")?),
         Err(ReadError::Bad(fault)) => Ok(fault_text(alloc, &fault)?),
         Err(ReadError::NoMemory) => Err(Fail::new("memory ran out")),
     }
@@ -101,7 +79,7 @@ fn events_are_told(rt: HostRuntime) -> Result<(), Fail> {
         (r#"[["leave",1,3]]"#, "bad-value /0/2"),
     ] {
         let told = told(rt.alloc(), text)?;
-        assert_eq!(rt; told.as_str(), want, "{text}");
+        assert_eq!(rt; told.as_slice(), want.as_bytes(), "{text}");
     }
     Ok(())
 }
@@ -122,23 +100,23 @@ fn unbuilt_edits_are_told(rt: HostRuntime) -> Result<(), Fail> {
         return Err(Fail::new("read"));
     };
     let told = fault_text(rt.alloc(), &fault)?;
-    assert_eq!(rt; told.as_str(), "not-built /0/3/1/edit");
+    assert_eq!(rt; told.as_slice(), b"not-built /0/3/1/edit".as_slice());
     Ok(())
 }
 
 #[test]
 fn default_operations_are_told(rt: HostRuntime) -> Result<(), Fail> {
     for (text, want) in [
-        (r#""replace""#, "not-built "),
-        (r#""none""#, "not-built "),
-        (r#""create""#, "bad-value "),
-        ("7", "bad-value "),
+        (r#""replace""#, "not-built"),
+        (r#""none""#, "not-built"),
+        (r#""create""#, "bad-value"),
+        ("7", "bad-value"),
     ] {
         let Err(ReadError::Bad(fault)) = Operation.read(rt.alloc(), &parsed(rt.alloc(), text)?)
         else {
             return Err(Fail::new("read"));
         };
-        assert_eq!(rt; word_of(fault.kind), want, "{text}");
+        assert_eq!(rt; fault.kind.word(), want, "{text}");
     }
     let Ok(merge) = Operation.read(rt.alloc(), &parsed(rt.alloc(), r#""merge""#)?) else {
         return Err(Fail::new("refused"));

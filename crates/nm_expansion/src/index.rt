@@ -4,8 +4,7 @@ ghost use Rattle.std.specs.Prelude.{◌≡◌, ◌<◌, [], length, IfOk, OnOk, 
 ghost use Rattle.nm_expansion.specs.Index as spec;
 
 use crate::instance::Instance;
-use crate::numbers::Numbers;
-use nm_base::NoMemory;
+use nm_base::{NoMemory, Numbers};
 use std::alloc::Global;
 
 /// The nodes in each node, and those at the top of each module.

@@ -10,7 +10,6 @@ mod index;
 mod instance;
 pub mod laws;
 mod limits;
-mod numbers;
 mod table;
 
 pub use expansion::{Expansion, expand};

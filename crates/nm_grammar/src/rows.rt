@@ -6,47 +6,10 @@ ghost use Rattle.nm_grammar.specs.Rows as spec;
 
 use crate::row::Row;
 use crate::word::{Word, word_of};
-use nm_base::{Label, NoMemory};
+use nm_base::{Label, NoMemory, Numbers};
 use nm_yang::Statement;
 use std::alloc::Global;
 use std::marker::Model;
-
-/// Numbers of rows, ascending.
-#[derive(Drop)]
-struct Numbers {
-    all: Vec<usize>,
-}
-
-impl Model for Numbers {
-    ghost use Rattle.std.specs.Prelude.{List, ℕ};
-
-    ghost Value = { List ℕ };
-
-    ghost view = { λ n. n.all.items };
-}
-
-impl Numbers {
-    fn new(alloc: Global) -> Numbers
-        ensures { result ≡ [] }
-    {
-        Numbers {
-            all: Vec::new(alloc),
-        }
-    }
-
-    fn push(&mut self, number: usize) -> Result<(), NoMemory>
-        ensures { OnOk result (self.new ≡ self.old ++ number ∷ []) }
-    {
-        self.all.push(number)?;
-        Ok(())
-    }
-
-    fn as_slice(&self) -> &[usize]
-        ensures { result.now ≡ self.now }
-    {
-        self.all.as_slice()
-    }
-}
 
 /// The rows of modules. They are seen as their list.
 #[derive(Drop)]

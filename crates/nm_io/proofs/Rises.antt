@@ -1,6 +1,6 @@
 -- What a count's rise in one call says of the calls around it.
 use Rattle.std.proofs.Common.{ℕ, ◌≤◌, arith}
-use Rattle.nm_io.specs.Count.{Rose}
+use Rattle.nm_base.specs.Count.{Rose}
 
 -- a count that rose in a later call rose since the beginning
 pub Rose-later : (before middle now : ℕ) → before ≤ middle → Rose middle now → Rose before now

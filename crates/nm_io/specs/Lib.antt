@@ -1,4 +1,3 @@
-pub mod Count
 pub mod Bytes
 pub mod Memory
 pub mod Adapter

@@ -1,6 +1,6 @@
 -- Sources and sinks in memory, and which of their calls fail.
 use Rattle.std.specs.Prelude.{◌≤◌, ◌<◌, ◌⊎◌, ℕ, List, Contains, length}
-use Rattle.nm_io.specs.Count.{raised}
+use Rattle.nm_base.specs.Count.{raised}
 
 -- how many calls were made, the numbers of those that are to fail, from 1, and how many failed (this project's own)
 pub record Calls : Type 0 where

@@ -1,8 +1,7 @@
 ghost use Rattle.std.specs.Prelude.{◌≡◌, ◌↔◌, ◌≤◌, OnOk, OnErr, IsErr};
 ghost use Rattle.nm_io.specs.Memory.{called, faulted, Fails};
 
-use crate::count::count_fault;
-use nm_base::Failed;
+use nm_base::{Failed, count_fault};
 use std::marker::Model;
 
 // The calls of a source or a sink in memory, and which of them are to fail.

@@ -5,7 +5,6 @@
 #![tactic(auto)]
 
 mod calls;
-mod count;
 pub mod memory;
 pub mod reading;
 pub mod sink;

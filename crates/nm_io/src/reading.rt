@@ -1,6 +1,6 @@
 ghost use Rattle.std.specs.Prelude.{◌≡◌, ◌≤◌, ◌<◌, List, ℕ, IsErr, length, IfOk, OnOk, IfSome, IsErrOf, vec_capacity, []};
 ghost use Rattle.std.specs.Io.KnownBytes.{IsAtEnd};
-ghost use Rattle.nm_io.specs.Count.{Rose};
+ghost use Rattle.nm_base.specs.Count.{Rose};
 ghost use Rattle.nm_io.specs.Bytes.{ReadsFront};
 ghost use Rattle.nm_io.specs.declared.reading.ReadAllFault.TheVariants.{NoMemory};
 

@@ -1,12 +1,11 @@
 ghost use Rattle.std.specs.Prelude.{◌≡◌, ◌≤◌, ◌<◌, length, None, IfOk, is_ok, if◌then◌else◌};
 ghost use Rattle.std.specs.Io.KnownBytes.{ReadConsumes, WriteAppends};
 ghost use Rattle.nm_io.specs.Adapter.{fresh};
-ghost use Rattle.nm_io.specs.Count.{raised};
+ghost use Rattle.nm_base.specs.Count.{raised};
 
-use crate::count::count_fault;
 use crate::sink::Sink;
 use crate::source::Source;
-use nm_base::Failed;
+use nm_base::{Failed, count_fault};
 use std::io::{Read, Write};
 use std::marker::Model;
 

@@ -1,6 +1,6 @@
 ghost use Rattle.std.specs.Prelude.{◌≡◌, ◌≤◌, OnOk, OnErr};
 ghost use Rattle.std.specs.Io.KnownBytes.{append_known};
-ghost use Rattle.nm_io.specs.Count.{Rose};
+ghost use Rattle.nm_base.specs.Count.{Rose};
 ghost use Rattle.nm_io.specs.Bytes.{Begins};
 
 use crate::sink::Sink;

@@ -1,14 +1,16 @@
 -- The disk at each step of an appending.
-use Rattle.std.proofs.Common.{◌≡◌, ℕ, ◌+◌, ◌*◌, ◌≤◌, Option, Some, None, Result, Ok, Err, List, [], ◌∷◌, ◌++◌, length, refl, sym, ◌∙◌, ap, subst, arith}
+use Rattle.std.proofs.Common.{◌≡◌, ℕ, ◌+◌, ◌*◌, ◌≤◌, Option, Some, None, Result, Ok, Err, List, [], ◌∷◌, ◌++◌, length, take, drop, refl, sym, ◌∙◌, ap, subst, arith, append_assoc, length-append, length-drop, length-take}
+use Rattle.std.proofs.lemmas.List.{take-append-le, drop_at}
 use Rattle.std.specs.Option.{IsSome, IfSome}
 use Rattle.std.specs.Result.{OnOk}
 use Rattle.std.proofs.lemmas.Bool.{false≢true}
 use Rattle.nm_disk.specs.Image.{with_piece, told_with_piece, LeavesOnly, IsTorn}
 use Rattle.nm_proto.specs.declared.journal.Entry.{Entry}
-use Rattle.nm_journal.specs.Record.{record_of, entry_of}
+use Rattle.nm_journal.specs.Record.{record_of, entry_of, open_record}
 use Rattle.nm_journal.specs.Entries.{MayFollow}
-use Rattle.nm_journal.specs.Fits.{EndsAtGate, ReadsWithOrWithout, MayTear}
-use Rattle.nm_journal.proofs.Gate.{IsStaged, stage_torn, stage_done, gate_torn, gate_done}
+use Rattle.nm_journal.specs.Fits.{EndsAtGate, HasLength, ReadsWithOrWithout, MayTear}
+use Rattle.nm_journal.proofs.Gate.{IsStaged, stage_torn, stage_done, gate_torn, gate_done, block_size}
+use Rattle.nm_journal.proofs.Reach.{take_less}
 
 pub on_ok_two : {T E P Q R : Type 0} (r : Result T E) → (P → Q → R) → OnOk r P → OnOk r Q → OnOk r R
 on_ok_two (Ok x) f p q = f p q
@@ -58,3 +60,37 @@ second_done entries entry told now may_leave leaves follows reads staging same o
     let tells : now ≡ Some bytes = same ∙ ap (λ o. told_with_piece o (16 * length entries) (1 ∷ [])) staging.tells in
     let is : image ≡ bytes = subst (λ o. IfSome o (λ b. LeavesOnly b leaves)) tells only image left in
     subst (EndsAtGate (entries ++ entry ∷ [])) (sym is) (gate_done entries entry follows reads staging.bytes staging.staged)
+
+-- both writes together: an open gate, the record and a closed gate
+both_pieces : (d block : List ℕ) (p : ℕ) → p + 1 ≤ length d → with_piece (with_piece d (p + 1) block) p (1 ∷ []) ≡ with_piece d p (1 ∷ block)
+both_pieces d block p le =
+    let staged = with_piece d (p + 1) block in
+    let rest = drop (p + 1 + length block) d in
+    let front_size : length (take (p + 1) d) ≡ p + 1 = omega (arith, length-take (p + 1) d) in
+    let whole : staged ≡ take (p + 1) d ++ (block ++ rest) = append_assoc (take (p + 1) d) block rest in
+    let front : take p staged ≡ take p d = ap (take p) whole ∙ take-append-le p (take (p + 1) d) (block ++ rest) (omega arith) ∙ take_less p (p + 1) d (omega arith) in
+    let back : drop (p + 1) staged ≡ block ++ rest = ap (drop (p + 1)) whole ∙ drop_at (take (p + 1) d) (block ++ rest) (p + 1) front_size in
+    let place : p + 1 + length block ≡ p + length (1 ∷ block) = omega arith in
+    ap (λ l. (l ++ 1 ∷ []) ++ drop (p + 1) staged) front ∙ ap (λ l. (take p d ++ 1 ∷ []) ++ l) back ∙ append_assoc (take p d) (1 ∷ []) (block ++ rest)
+    ∙ sym (append_assoc (take p d) (1 ∷ block) rest) ∙ ap (λ n. (take p d ++ 1 ∷ block) ++ drop n d) place
+
+pub written_both : (told mid now : Option (List ℕ)) (entries : List Entry) (entry : Entry) (block : List ℕ) → block ≡ record_of entry ++ 0 ∷ [] → IfSome told (λ bytes. 16 * length entries + 1 ≤ length bytes)
+    → mid ≡ told_with_piece told (16 * length entries + 1) block → now ≡ told_with_piece mid (16 * length entries) (1 ∷ []) → now ≡ told_with_piece told (16 * length entries) (open_record entry)
+written_both None mid now entries entry block is_block fits first second = second ∙ ap (λ o. told_with_piece o (16 * length entries) (1 ∷ [])) first
+written_both (Some bytes) mid now entries entry block is_block fits first second =
+    second ∙ ap (λ o. told_with_piece o (16 * length entries) (1 ∷ [])) first
+    ∙ ap (λ l. Some l) (both_pieces bytes block (16 * length entries) fits ∙ ap (λ b. with_piece bytes (16 * length entries) (1 ∷ b)) is_block)
+
+-- a record more
+pub has_length_push : (told now : Option (List ℕ)) (entries : List Entry) (entry : Entry) → now ≡ told_with_piece told (16 * length entries) (open_record entry) → HasLength told entries → HasLength now (entries ++ entry ∷ [])
+has_length_push None now entries entry same has = subst (λ o. HasLength o (entries ++ entry ∷ [])) (sym same) tt
+has_length_push (Some bytes) now entries entry same has = subst (λ o. HasLength o (entries ++ entry ∷ [])) (sym same) size
+  where
+    piece_size : length (open_record entry) ≡ 17
+    piece_size = omega (arith, block_size entry)
+
+    size : length (with_piece bytes (16 * length entries) (open_record entry)) ≡ 16 * length (entries ++ entry ∷ []) + 1
+    size =
+        let place = 16 * length entries in
+        let rest = drop (place + length (open_record entry)) bytes in
+        omega (arith, has, piece_size, length-append (take place bytes ++ open_record entry) rest, length-append (take place bytes) (open_record entry), length-take place bytes, length-drop (place + length (open_record entry)) bytes, length-append entries (entry ∷ []))

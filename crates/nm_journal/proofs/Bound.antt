@@ -36,19 +36,19 @@ and_assoc false b c = refl
 -- the numbers of the change sets that entries start, decide and end
 abbrev started : List Entry → List ℕ
 started [] = []
-started (Started change devices ∷ entries) = change ∷ started entries
+started (Started change devices timeout ∷ entries) = change ∷ started entries
 started (Decided change verdict ∷ entries) = started entries
 started (Ended change kept ∷ entries) = started entries
 
 abbrev decided : List Entry → List ℕ
 decided [] = []
-decided (Started change devices ∷ entries) = decided entries
+decided (Started change devices timeout ∷ entries) = decided entries
 decided (Decided change verdict ∷ entries) = change ∷ decided entries
 decided (Ended change kept ∷ entries) = decided entries
 
 abbrev ended : List Entry → List ℕ
 ended [] = []
-ended (Started change devices ∷ entries) = ended entries
+ended (Started change devices timeout ∷ entries) = ended entries
 ended (Decided change verdict ∷ entries) = ended entries
 ended (Ended change kept ∷ entries) = change ∷ ended entries
 
@@ -77,37 +77,37 @@ few_at_most numbers few = omega (arith, length-le_from_distinct_below (0 ∷ num
 
 starts_is : (entries : List Entry) (change : ℕ) → list_any (nat_eq change) (started entries) ≡ list_any (starts change) entries
 starts_is [] change = refl
-starts_is (Started other devices ∷ entries) change = ap (λ b. nat_eq change other || b) (starts_is entries change)
+starts_is (Started other devices timeout ∷ entries) change = ap (λ b. nat_eq change other || b) (starts_is entries change)
 starts_is (Decided other verdict ∷ entries) change = starts_is entries change
 starts_is (Ended other kept ∷ entries) change = starts_is entries change
 
 decides_is : (entries : List Entry) (change : ℕ) → list_any (nat_eq change) (decided entries) ≡ list_any (decides change) entries
 decides_is [] change = refl
-decides_is (Started other devices ∷ entries) change = decides_is entries change
+decides_is (Started other devices timeout ∷ entries) change = decides_is entries change
 decides_is (Decided other verdict ∷ entries) change = ap (λ b. nat_eq change other || b) (decides_is entries change)
 decides_is (Ended other kept ∷ entries) change = decides_is entries change
 
 ends_is : (entries : List Entry) (change : ℕ) → list_any (nat_eq change) (ended entries) ≡ list_any (ends change) entries
 ends_is [] change = refl
-ends_is (Started other devices ∷ entries) change = ends_is entries change
+ends_is (Started other devices timeout ∷ entries) change = ends_is entries change
 ends_is (Decided other verdict ∷ entries) change = ends_is entries change
 ends_is (Ended other kept ∷ entries) change = ap (λ b. nat_eq change other || b) (ends_is entries change)
 
 started-append : (xs ys : List Entry) → started (xs ++ ys) ≡ started xs ++ started ys
 started-append [] ys = refl
-started-append (Started change devices ∷ xs) ys = ap (λ l. change ∷ l) (started-append xs ys)
+started-append (Started change devices timeout ∷ xs) ys = ap (λ l. change ∷ l) (started-append xs ys)
 started-append (Decided change verdict ∷ xs) ys = started-append xs ys
 started-append (Ended change kept ∷ xs) ys = started-append xs ys
 
 decided-append : (xs ys : List Entry) → decided (xs ++ ys) ≡ decided xs ++ decided ys
 decided-append [] ys = refl
-decided-append (Started change devices ∷ xs) ys = decided-append xs ys
+decided-append (Started change devices timeout ∷ xs) ys = decided-append xs ys
 decided-append (Decided change verdict ∷ xs) ys = ap (λ l. change ∷ l) (decided-append xs ys)
 decided-append (Ended change kept ∷ xs) ys = decided-append xs ys
 
 ended-append : (xs ys : List Entry) → ended (xs ++ ys) ≡ ended xs ++ ended ys
 ended-append [] ys = refl
-ended-append (Started change devices ∷ xs) ys = ended-append xs ys
+ended-append (Started change devices timeout ∷ xs) ys = ended-append xs ys
 ended-append (Decided change verdict ∷ xs) ys = ended-append xs ys
 ended-append (Ended change kept ∷ xs) ys = ap (λ l. change ∷ l) (ended-append xs ys)
 
@@ -117,13 +117,13 @@ record AreFewEntries (entries : List Entry) : Type 0 where
   pub of_ended : AreFew (ended entries)
 
 few_entries_push : (entries : List Entry) (entry : Entry) → AreFewEntries entries → may_follow entries entry ≡ true → AreFewEntries (entries ++ entry ∷ [])
-few_entries_push entries (Started change devices) few follows =
+few_entries_push entries (Started change devices timeout) few follows =
     let fits : is_change change ≡ true = grind (arith, nat_tests) in
     let fresh : list_any (starts change) entries ≡ false = grind (arith, nat_tests) in
     record {
-      of_started = subst AreFew (sym (started-append entries (Started change devices ∷ []))) (few_push (started entries) change few.of_started fits (starts_is entries change ∙ fresh));
-      of_decided = subst AreFew (sym (decided-append entries (Started change devices ∷ []) ∙ append-nil (decided entries))) few.of_decided;
-      of_ended = subst AreFew (sym (ended-append entries (Started change devices ∷ []) ∙ append-nil (ended entries))) few.of_ended;
+      of_started = subst AreFew (sym (started-append entries (Started change devices timeout ∷ []))) (few_push (started entries) change few.of_started fits (starts_is entries change ∙ fresh));
+      of_decided = subst AreFew (sym (decided-append entries (Started change devices timeout ∷ []) ∙ append-nil (decided entries))) few.of_decided;
+      of_ended = subst AreFew (sym (ended-append entries (Started change devices timeout ∷ []) ∙ append-nil (ended entries))) few.of_ended;
     }
 few_entries_push entries (Decided change verdict) few follows =
     let fits : is_change change ≡ true = grind (arith, nat_tests) in
@@ -151,7 +151,7 @@ few_on before (entry ∷ later) few follow =
 
 three_each : (entries : List Entry) → length entries ≡ length (started entries) + length (decided entries) + length (ended entries)
 three_each [] = refl
-three_each (Started change devices ∷ entries) = omega (arith, three_each entries)
+three_each (Started change devices timeout ∷ entries) = omega (arith, three_each entries)
 three_each (Decided change verdict ∷ entries) = omega (arith, three_each entries)
 three_each (Ended change kept ∷ entries) = omega (arith, three_each entries)
 

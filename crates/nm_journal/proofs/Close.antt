@@ -1,11 +1,12 @@
 -- The disk at each step of a reopening.
-use Rattle.std.proofs.Common.{◌≡◌, inl, inr, ⊎_elim, ℕ, zero, suc, ◌+◌, ◌*◌, ◌<◌, ◌≤◌, List, [], ◌∷◌, ◌++◌, length, take, drop, get_or, refl, sym, ◌∙◌, ap, subst, arith, append_assoc, length-append, length-drop, length-take}
+use Rattle.std.proofs.Common.{◌≡◌, inl, inr, ⊎_elim, ℕ, zero, suc, Option, Some, ◌+◌, ◌*◌, ◌<◌, ◌≤◌, List, [], ◌∷◌, ◌++◌, length, take, drop, get_or, refl, sym, ◌∙◌, ap, subst, arith, append_assoc, length-append, length-drop, length-take}
 use Rattle.std.proofs.Math.Seq.{get_or-append_seam}
 use Rattle.std.proofs.lemmas.Bool.{cases_eq}
-use Rattle.nm_disk.specs.Image.{with_piece, IsTorn, IsPerhapsCut, LeavesOnly}
+use Rattle.std.proofs.lemmas.List.{drop_all}
+use Rattle.nm_disk.specs.Image.{with_piece, told_with_piece, IsTorn, IsPerhapsCut, LeavesOnly}
 use Rattle.nm_disk.specs.ImageLaws.{torn_whole}
 use Rattle.nm_proto.specs.declared.journal.Entry.{Entry}
-use Rattle.nm_journal.specs.Fits.{EndsAtGate, ReadsAs, MayTear}
+use Rattle.nm_journal.specs.Fits.{EndsAtGate, ReadsAs, MayTear, closed_behind}
 use Rattle.nm_journal.proofs.Reach.{is_short, take_less, long_enough}
 use Rattle.nm_journal.proofs.Gate.{read_alike}
 
@@ -63,3 +64,15 @@ module _ (entries : List Entry) (bytes : List ℕ) (reads : ReadsAs entries byte
         there = omega (arith, ap length whole, length-append (take end cut_off) (0 ∷ drop (end + 1) cut_off), front_size);
         closed = ap (λ l. get_or l end 0) whole ∙ ap (λ n. get_or (take end cut_off ++ 0 ∷ drop (end + 1) cut_off) n 0) (sym front_size) ∙ get_or-append_seam (take end cut_off) 0 (drop (end + 1) cut_off) 0;
       }
+
+  -- what stands then: the records, and a closed gate
+  pub closed_bytes : with_piece cut_off end (0 ∷ []) ≡ closed_behind entries bytes
+  closed_bytes =
+      append_assoc (take end cut_off) (0 ∷ []) (drop (end + 1) cut_off) ∙ ap (λ l. l ++ 0 ∷ drop (end + 1) cut_off) (take_less end (end + 1) bytes (omega arith))
+      ∙ ap (λ l. take end bytes ++ 0 ∷ l) (drop_all (end + 1) cut_off (omega (arith, length-take (end + 1) bytes)))
+
+  pub closed_size : length (closed_behind entries bytes) ≡ end + 1
+  closed_size = omega (arith, length-append (take end bytes) (0 ∷ []), length-take end bytes, length-take (end + 1) bytes, end_within)
+
+  pub told_closed : (mid new : Option (List ℕ)) → mid ≡ Some cut_off → new ≡ told_with_piece mid end (0 ∷ []) → new ≡ Some (closed_behind entries bytes)
+  told_closed mid new cut written = written ∙ ap (λ o. told_with_piece o end (0 ∷ [])) cut ∙ ap (λ l. Some l) closed_bytes

@@ -48,7 +48,7 @@ pub record IsStaged (entries : List Entry) (entry : Entry) (bytes : List ℕ) : 
 pub stage_torn : (entries : List Entry) (n : ℕ) (d c : List ℕ) → EndsAtGate entries d → IsTorn (16 * length entries + 1) n d c → EndsAtGate entries c
 stage_torn entries n d c old torn = gate_stays entries d c old torn.front
 
-block_size : (entry : Entry) → length (record_of entry ++ 0 ∷ []) ≡ 16
+pub block_size : (entry : Entry) → length (record_of entry ++ 0 ∷ []) ≡ 16
 block_size entry = omega (arith, length-append (record_of entry) (0 ∷ []), length-record_of entry)
 
 -- the first write, done

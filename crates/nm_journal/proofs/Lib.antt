@@ -9,3 +9,4 @@ pub mod Append
 pub mod Front
 pub mod Close
 pub mod Reopen
+pub mod Versions

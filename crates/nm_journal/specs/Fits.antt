@@ -1,5 +1,5 @@
 -- What a disk may hold of a journal (this project's own).
-use Rattle.std.specs.Prelude.{◌≡◌, ◌⊎◌, ℕ, ◌*◌, ◌<◌, List, [], ◌∷◌, ◌++◌, length, Option, Some, None, IsSome, Ok, slice_index}
+use Rattle.std.specs.Prelude.{◌≡◌, ◌⊎◌, ℕ, ◌*◌, ◌+◌, ◌<◌, List, [], ◌∷◌, ◌++◌, length, take, Option, Some, None, IsSome, IfSome, Ok, slice_index}
 use Rattle.nm_disk.specs.Image.{IsTorn, LeavesOnly}
 use Rattle.nm_proto.specs.declared.journal.Entry.{Entry}
 use Rattle.nm_journal.specs.Entries.{entries_of}
@@ -47,3 +47,11 @@ pub record IsRead (entries : List Entry) (size : ℕ) (may_leave : List ℕ → 
   pub size_is : size ≡ length bytes
   pub reads : ReadsAs entries bytes
   pub only : LeavesOnly bytes may_leave
+
+-- the records of so many entries as they stand in these bytes, and a closed gate behind them
+abbrev pub closed_behind : List Entry → List ℕ → List ℕ
+closed_behind entries bytes = take (16 * length entries) bytes ++ 0 ∷ []
+
+-- where a disk tells its bytes, they are the records of as many entries and a gate behind them
+abbrev pub HasLength : Option (List ℕ) → List Entry → Type 0
+HasLength told entries = IfSome told (λ bytes. length bytes ≡ 16 * length entries + 1)

@@ -1,3 +1,4 @@
+//! What may follow: each change set is started, decided and ended once, in this order.
 ghost use Rattle.std.specs.Prelude.{◌≡◌, ◌&&◌, ◌||◌, ◌==◌, not};
 ghost use Rattle.std.specs.List.{list_any};
 ghost use Rattle.nm_journal.specs.Record.{is_change, is_device};
@@ -18,7 +19,11 @@ fn has_record(entry: &Entry) -> bool
     ensures { result ≡ has_record entry.now }
 {
     match entry {
-        Entry::Started { change, devices } => is_change(*change) && devices.0 != 0,
+        Entry::Started {
+            change,
+            devices,
+            ..
+        } => is_change(*change) && devices.0 != 0,
         Entry::Decided { change, verdict } => is_change(*change) && verdict_has_record(verdict),
         Entry::Ended { change, .. } => is_change(*change),
     }
@@ -105,6 +110,7 @@ fn starts_with(change: ChangeNo, verdict: &Verdict, entry: &Entry) -> bool
         Entry::Started {
             change: other,
             devices,
+            ..
         } => change.get() == other.get() && has_named(*devices, verdict),
         _ => false,
     }
@@ -117,6 +123,7 @@ fn starts_over(change: ChangeNo, kept: DeviceMask, entry: &Entry) -> bool
         Entry::Started {
             change: other,
             devices,
+            ..
         } => change.get() == other.get() && is_within(kept, *devices),
         _ => false,
     }
@@ -161,6 +168,7 @@ fn has_named(devices: DeviceMask, verdict: &Verdict) -> bool
             AbortCause::Refused { device, .. } => devices.contains(*device),
             AbortCause::Broken { device } => devices.contains(*device),
             AbortCause::Forgotten => true,
+            AbortCause::Lapsed { device } => devices.contains(*device),
         },
     }
 }
@@ -174,6 +182,7 @@ fn verdict_has_record(verdict: &Verdict) -> bool
             AbortCause::Refused { device, tag } => is_device(*device) && tag.number() < 9,
             AbortCause::Broken { device } => is_device(*device),
             AbortCause::Forgotten => true,
+            AbortCause::Lapsed { device } => is_device(*device),
         },
     }
 }

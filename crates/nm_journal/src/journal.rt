@@ -1,8 +1,12 @@
-ghost use Rattle.std.specs.Prelude.{◌≡◌, ◌≢◌, ◌⊎◌, ◌↔◌, ◌≤◌, ◌<◌, ◌++◌, [], ◌∷◌, List, ℕ, Some, None, Ok, Err, length, OnOk, OnErr, IfOk, IfErr, IfSome, IsSome, is_some};
-ghost use Rattle.nm_disk.specs.Count.{Rose};
-ghost use Rattle.nm_disk.specs.Image.{LeavesOnly, AnyMoment};
-ghost use Rattle.nm_journal.specs.Entries.{entries_of, MayFollow, IsInOrder};
-ghost use Rattle.nm_journal.specs.Fits.{Fits, ReadsAs, ReadsWithOrWithout, WasThereOrReadsAs};
+//! The journal's calls: open, append, and what it holds.
+ghost use Rattle.std.specs.Prelude.{◌≡◌, ◌≢◌, ◌⊎◌, ◌↔◌, ◌<◌, ◌*◌, ◌++◌, [], ◌∷◌, List, ℕ, Some, None, Ok, Err, length, OnOk, OnErr, IfOk, IfErr, IfSome, IsSome, is_some};
+ghost use Rattle.nm_base.specs.Count.{Rose};
+ghost use Rattle.nm_disk.specs.Image.{told_with_piece, LeavesOnly, AnyMoment};
+ghost use Rattle.nm_disk.specs.Keeps.{KeepsDisk};
+ghost use Rattle.nm_journal.specs.Keeps.{KeepsJournal};
+ghost use Rattle.nm_journal.specs.Record.{open_record};
+ghost use Rattle.nm_journal.specs.Entries.{entries_of, MayAppend, IsInOrder};
+ghost use Rattle.nm_journal.specs.Fits.{Fits, HasLength, closed_behind, ReadsAs, ReadsWithOrWithout, WasThereOrReadsAs};
 ghost use Rattle.nm_journal.specs.declared.fault.JournalFault.TheVariants.{Damaged, DiskFault, NotEmpty, NoMemory, Stopped};
 
 use crate::fault::JournalFault;
@@ -42,6 +46,8 @@ impl Journal {
         ensures value { IfOk result (λ journal. journal ≡ record { entries = []; failed = None }) }
         ensures fits { IfOk result (λ journal. Fits D.told D.may_leave journal disk.new) }
         ensures empty { OnOk result (IfSome (D.told disk.old) (λ bytes. bytes ≡ [])) }
+        ensures written { OnOk result (IsSome (D.told disk.old) → D.told disk.new ≡ Some (0 ∷ [])) }
+        ensures length { OnOk result (HasLength (D.told disk.new) []) }
 
         ensures not_empty { (size : ℕ) → result ≡ Err (NotEmpty size) → (0 < size) × IfSome (D.told disk.old) (λ bytes. size ≡ length bytes) × (D.told disk.new ≡ D.told disk.old) }
         ensures disk_fault { result ≡ Err DiskFault → Rose (D.faults disk.old) (D.faults disk.new) }
@@ -51,8 +57,7 @@ impl Journal {
         // A crash during the call leaves what was there, where there was something, and else an empty list.
         ensures any_moment_full { IfSome (D.told disk.old) (λ bytes. bytes ≢ [] → AnyMoment D.moment D.might_have_left disk.old disk.new (D.may_leave disk.old)) }
         ensures any_moment_empty { IsSome (D.told disk.old) → LeavesOnly [] (D.may_leave disk.old) → AnyMoment D.moment D.might_have_left disk.old disk.new (ReadsAs []) }
-        ensures tells { is_some (D.told disk.new) ≡ is_some (D.told disk.old) }
-        ensures count { D.faults disk.old ≤ D.faults disk.new }
+        ensures keeps { KeepsDisk D.told D.faults disk.old disk.new }
     {
         let entries = Vec::with_capacity(alloc, MOST_ENTRIES)?;
         match begin(disk) {
@@ -75,6 +80,8 @@ impl Journal {
         ensures entries { IfOk result (λ opened. IfSome (D.told disk.old) (ReadsAs opened.1.items)) }
         ensures in_order { IfOk result (λ opened. IsInOrder opened.1.items) }
         ensures fits { IfOk result (λ opened. Fits D.told D.may_leave opened.0 disk.new) }
+        ensures written { IfOk result (λ opened. IfSome (D.told disk.old) (λ bytes. D.told disk.new ≡ Some (closed_behind opened.1.items bytes))) }
+        ensures length { IfOk result (λ opened. HasLength (D.told disk.new) opened.1.items) }
 
         ensures damaged { (offset : ℕ) → result ≡ Err (Damaged offset) → IfSome (D.told disk.old) (λ bytes. entries_of bytes ≡ Err offset) × (D.told disk.new ≡ D.told disk.old) }
         ensures disk_fault { result ≡ Err DiskFault → Rose (D.faults disk.old) (D.faults disk.new) }
@@ -83,8 +90,7 @@ impl Journal {
 
         // A crash during the call leaves an image that was there, or one that reads as the same list.
         ensures any_moment { IfSome (D.told disk.old) (λ bytes. AnyMoment D.moment D.might_have_left disk.old disk.new (WasThereOrReadsAs (D.may_leave disk.old) bytes)) }
-        ensures tells { is_some (D.told disk.new) ≡ is_some (D.told disk.old) }
-        ensures count { D.faults disk.old ≤ D.faults disk.new }
+        ensures keeps { KeepsDisk D.told D.faults disk.old disk.new }
     {
         let mut entries = Vec::with_capacity(alloc, MOST_ENTRIES)?;
         let mut copied = Vec::with_capacity(alloc, MOST_ENTRIES)?;
@@ -106,16 +112,18 @@ impl Journal {
         }
     }
 
-    /// Appends an entry that may come next. At Ok it is acknowledged: each crash from then on leaves a
-    /// disk that has it.
+    /// Appends an entry that may come next; one that starts a change set has a timeout. At Ok it is
+    /// acknowledged: each crash from then on leaves a disk that has it.
     ///
+    /// It writes a record of version 2, also behind records of version 1.
     /// It takes no memory. After a disk fault the journal is stopped until it is opened again.
     pub fn append<D: Disk>(&mut self, disk: &mut D, entry: Entry) -> Result<(), JournalFault>
-        requires follows { MayFollow self.old.entries entry }
+        requires may { MayAppend self.old.entries entry }
         requires fits { Fits D.told D.may_leave self.old disk.old }
 
         ensures added { OnOk result (self.new ≡ record self.old { entries = self.old.entries ++ entry ∷ [] }) }
-        ensures fits { Fits D.told D.may_leave self.new disk.new }
+        ensures written { OnOk result (D.told disk.new ≡ told_with_piece (D.told disk.old) (16 * length self.old.entries) (open_record entry)) }
+        ensures length { OnOk result (HasLength (D.told disk.old) self.old.entries → HasLength (D.told disk.new) self.new.entries) }
 
         ensures stopped { (result ≡ Err Stopped) ↔ IsSome self.old.failed }
         ensures untouched { result ≡ Err Stopped → (self.new ≡ self.old) × (disk.new ≡ disk.old) }
@@ -126,8 +134,7 @@ impl Journal {
         // A crash at any moment of the call leaves the entries from before it, with the new one or without.
         ensures any_moment { self.old.failed ≡ None → IsSome (D.told disk.old)
             → AnyMoment D.moment D.might_have_left disk.old disk.new (ReadsWithOrWithout self.old.entries entry) }
-        ensures tells { is_some (D.told disk.new) ≡ is_some (D.told disk.old) }
-        ensures count { D.faults disk.old ≤ D.faults disk.new }
+        ensures keeps { KeepsJournal D.told D.faults D.may_leave self.new disk.old disk.new }
     {
         if self.failed.is_some() {
             return Err(JournalFault::Stopped);

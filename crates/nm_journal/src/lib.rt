@@ -7,6 +7,7 @@
 pub mod fault;
 mod follow;
 pub mod journal;
+pub mod laws;
 pub mod reading;
 mod record;
 mod steps;

@@ -1,3 +1,4 @@
+//! The bytes of a journal as a list of entries.
 ghost use Rattle.std.specs.Prelude.{◌≡◌, ◌≢◌, ◌≤◌, length, ℕ, [], OnOk, IfOk, IfErr, Err, Ok, vec_capacity, IsErrOf};
 ghost use Rattle.nm_journal.specs.Entries.{entries_of, IsInOrder, if_follows};
 ghost use Rattle.nm_journal.specs.Record.{entry_of};
@@ -18,8 +19,9 @@ pub(crate) const MOST_BYTES: usize = 3089;
 /// Reads the entries that the bytes of a journal stand for.
 ///
 /// Record i takes the 16 bytes from 16i on: a gate, the kind, four bytes for the change set, four for
-/// the devices or the verdict, and six zeros; numbers are big-endian. The list ends at a closed gate,
-/// or where fewer than 17 bytes stand.
+/// the devices or the verdict, one for the version, four for a timeout, and a zero; numbers are
+/// big-endian. Records of both versions may stand side by side. The list ends at a closed gate, or
+/// where fewer than 17 bytes stand.
 pub fn read_entries(alloc: Global, bytes: &[u8]) -> Result<Vec<Entry>, JournalFault>
     ensures entries { IfOk result (λ entries. entries_of bytes.now ≡ Ok entries.items) }
     ensures in_order { IfOk result (λ entries. IsInOrder entries.items) }

@@ -1,8 +1,11 @@
-ghost use Rattle.std.specs.Prelude.{◌≡◌, ◌≢◌, ◌⊎◌, ◌≤◌, ◌<◌, ◌+◌, ◌*◌, ◌^◌, ◌++◌, [], ◌∷◌, true, List, ℕ, Some, min, length, take, OnOk, OnErr, IfOk, IfSome, IsSome, is_some, IfErr, Ok, Err, vec_capacity};
-ghost use Rattle.nm_disk.specs.Count.{Rose};
+//! What the calls of a journal do to its disk, step by step, and what a crash leaves at each moment.
+ghost use Rattle.std.specs.Prelude.{◌≡◌, ◌≢◌, ◌⊎◌, ◌≤◌, ◌<◌, ◌+◌, ◌*◌, ◌^◌, ◌++◌, [], ◌∷◌, true, List, ℕ, Some, min, length, take, OnOk, OnErr, IfOk, IfSome, IsSome, IfErr, Ok, Err, vec_capacity};
+ghost use Rattle.nm_base.specs.Count.{Rose};
 ghost use Rattle.nm_disk.specs.Image.{told_with_piece, LeavesOnly, IsPerhapsCut, AnyMoment};
-ghost use Rattle.nm_journal.specs.Entries.{entries_of, MayFollow, IsInOrder};
-ghost use Rattle.nm_journal.specs.Fits.{EndsAtGate, ReadsAs, ReadsWithOrWithout, MayTear, IsRead};
+ghost use Rattle.nm_disk.specs.Keeps.{KeepsDisk};
+ghost use Rattle.nm_journal.specs.Record.{open_record};
+ghost use Rattle.nm_journal.specs.Entries.{entries_of, MayAppend, IsInOrder};
+ghost use Rattle.nm_journal.specs.Fits.{EndsAtGate, HasLength, closed_behind, ReadsAs, ReadsWithOrWithout, MayTear, IsRead};
 ghost use Rattle.nm_journal.specs.declared.fault.JournalFault.TheVariants.{Damaged, DiskFault, NotEmpty};
 
 use crate::fault::JournalFault;
@@ -18,8 +21,7 @@ fn write_and_sync<D: Disk>(disk: &mut D, at: u64, piece: &[u8]) -> Result<(), Fa
     ensures written { OnOk result (D.told disk.new ≡ told_with_piece (D.told disk.old) at piece.now) }
     ensures durable { OnOk result (IfSome (D.told disk.new) (λ bytes. LeavesOnly bytes (D.may_leave disk.new))) }
     ensures any_moment { IsSome (D.told disk.old) → AnyMoment D.moment D.might_have_left disk.old disk.new (MayTear (D.may_leave disk.old) at (length piece.now)) }
-    ensures tells { is_some (D.told disk.new) ≡ is_some (D.told disk.old) }
-    ensures count { D.faults disk.old ≤ D.faults disk.new }
+    ensures keeps { KeepsDisk D.told D.faults disk.old disk.new }
     ensures failed { OnErr result (Rose (D.faults disk.old) (D.faults disk.new)) }
 {
     disk.write_at(at, piece)?;
@@ -33,13 +35,14 @@ pub(crate) fn write_record<D: Disk>(
     entries: &[Entry],
     entry: &Entry,
 ) -> Result<(), Failed>
-    requires follows { MayFollow entries.now entry.now }
+    requires may { MayAppend entries.now entry.now }
     requires few { length entries.now < 192 }
     requires fits { IsSome (D.told disk.old) → (image : List ℕ) → D.may_leave disk.old image → EndsAtGate entries.now image }
     ensures added { OnOk result (IsSome (D.told disk.old) → (image : List ℕ) → D.may_leave disk.new image → EndsAtGate (entries.now ++ entry.now ∷ []) image) }
+    ensures written { OnOk result (D.told disk.new ≡ told_with_piece (D.told disk.old) (16 * length entries.now) (open_record entry.now)) }
+    ensures length { OnOk result (HasLength (D.told disk.old) entries.now → HasLength (D.told disk.new) (entries.now ++ entry.now ∷ [])) }
     ensures any_moment { IsSome (D.told disk.old) → AnyMoment D.moment D.might_have_left disk.old disk.new (ReadsWithOrWithout entries.now entry.now) }
-    ensures tells { is_some (D.told disk.new) ≡ is_some (D.told disk.old) }
-    ensures count { D.faults disk.old ≤ D.faults disk.new }
+    ensures keeps { KeepsDisk D.told D.faults disk.old disk.new }
     ensures failed { OnErr result (Rose (D.faults disk.old) (D.faults disk.new)) }
 {
     let gate = 16 * entries.len() as u64;
@@ -75,8 +78,7 @@ fn cut_behind<D: Disk>(disk: &mut D, end: u64, size: u64) -> Result<(), Failed>
     ensures durable { OnOk result ((bytes : List ℕ) → D.told disk.old ≡ Some bytes → LeavesOnly bytes (D.may_leave disk.old) → LeavesOnly (take (end + 1) bytes) (D.may_leave disk.new)) }
     ensures any_moment { (bytes : List ℕ) → D.told disk.old ≡ Some bytes → LeavesOnly bytes (D.may_leave disk.old)
         → AnyMoment D.moment D.might_have_left disk.old disk.new (IsPerhapsCut (end + 1) bytes) }
-    ensures tells { is_some (D.told disk.new) ≡ is_some (D.told disk.old) }
-    ensures count { D.faults disk.old ≤ D.faults disk.new }
+    ensures keeps { KeepsDisk D.told D.faults disk.old disk.new }
     ensures failed { OnErr result (Rose (D.faults disk.old) (D.faults disk.new)) }
 {
     if size > end + 1 {
@@ -121,9 +123,10 @@ pub(crate) fn close<D: Disk>(disk: &mut D, entries: &[Entry], size: u64) -> Resu
     requires few { length entries.now ≤ 192 }
     requires read { IfSome (D.told disk.old) (IsRead entries.now size (D.may_leave disk.old)) }
     ensures closed { OnOk result (IsSome (D.told disk.old) → (image : List ℕ) → D.may_leave disk.new image → EndsAtGate entries.now image) }
+    ensures written { OnOk result (IfSome (D.told disk.old) (λ bytes. D.told disk.new ≡ Some (closed_behind entries.now bytes))) }
+    ensures length { OnOk result (HasLength (D.told disk.new) entries.now) }
     ensures any_moment { IsSome (D.told disk.old) → AnyMoment D.moment D.might_have_left disk.old disk.new (ReadsAs entries.now) }
-    ensures tells { is_some (D.told disk.new) ≡ is_some (D.told disk.old) }
-    ensures count { D.faults disk.old ≤ D.faults disk.new }
+    ensures keeps { KeepsDisk D.told D.faults disk.old disk.new }
     ensures failed { OnErr result (Rose (D.faults disk.old) (D.faults disk.new)) }
 {
     let end = 16 * entries.len() as u64;
@@ -135,13 +138,14 @@ pub(crate) fn close<D: Disk>(disk: &mut D, entries: &[Entry], size: u64) -> Resu
 pub(crate) fn begin<D: Disk>(disk: &mut D) -> Result<(), JournalFault>
     ensures empty { OnOk result (IfSome (D.told disk.old) (λ bytes. bytes ≡ [])) }
     ensures closed { OnOk result (IsSome (D.told disk.old) → (image : List ℕ) → D.may_leave disk.new image → EndsAtGate [] image) }
+    ensures written { OnOk result (IsSome (D.told disk.old) → D.told disk.new ≡ Some (0 ∷ [])) }
+    ensures length { OnOk result (HasLength (D.told disk.new) []) }
     ensures not_empty { (size : ℕ) → result ≡ Err (NotEmpty size) → (0 < size) × IfSome (D.told disk.old) (λ bytes. size ≡ length bytes) × (D.told disk.new ≡ D.told disk.old) }
     ensures disk_fault { result ≡ Err DiskFault → Rose (D.faults disk.old) (D.faults disk.new) }
     ensures no_other { IfErr result (λ fault. (fault ≡ DiskFault) ⊎ ((size : ℕ) × (fault ≡ NotEmpty size))) }
     ensures any_moment_full { IfSome (D.told disk.old) (λ bytes. bytes ≢ [] → AnyMoment D.moment D.might_have_left disk.old disk.new (D.may_leave disk.old)) }
     ensures any_moment_empty { IsSome (D.told disk.old) → LeavesOnly [] (D.may_leave disk.old) → AnyMoment D.moment D.might_have_left disk.old disk.new (ReadsAs []) }
-    ensures tells { is_some (D.told disk.new) ≡ is_some (D.told disk.old) }
-    ensures count { D.faults disk.old ≤ D.faults disk.new }
+    ensures keeps { KeepsDisk D.told D.faults disk.old disk.new }
 {
     match disk.len() {
         Ok(0) => match write_and_sync(disk, 0, &[0]) {

@@ -19,7 +19,6 @@ mod words;
 pub use key::{key_flaw, keys_of};
 pub use leafs::Keys;
 pub use marks::key_leafs;
-pub use passage::Way;
 pub use unique::{Unique, Uniques, flawed_uniques, unique_flaw, uniques_of};
 
 #[cfg(test)]

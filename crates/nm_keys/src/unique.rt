@@ -8,10 +8,10 @@ ghost use Rattle.nm_keys.specs.Uniques as spec;
 
 use crate::finder::Finder;
 use crate::found::{Found, has_word, loses_state};
-use crate::passage::{Passage, Way};
+use crate::passage::Passage;
 use crate::said::{Said, said_at};
 use crate::words::{pieces_of, words_of};
-use nm_base::{Label, NoMemory};
+use nm_base::{Label, NoMemory, Numbers};
 use nm_grammar::{Flaw, Rows, Word};
 use nm_names::Names;
 use nm_shape::Shape;
@@ -21,7 +21,7 @@ use std::marker::Model;
 /// What a `unique` statement says: for each of its words the rows that it leads through. It is seen as the list of these.
 #[derive(Drop)]
 pub struct Unique {
-    ways: Vec<Way>,
+    ways: Vec<Numbers>,
 }
 
 impl Model for Unique {
@@ -34,7 +34,7 @@ impl Model for Unique {
 
 impl Unique {
     /// For each word the rows that it leads through.
-    pub fn ways(&self) -> &[Way]
+    pub fn ways(&self) -> &[Numbers]
         ensures { result.now ≡ self.now }
     {
         self.ways.as_slice()
@@ -125,7 +125,7 @@ impl<'n, 'a, 's> Finder<'n, 'a, 's> {
         ensures same { self.new ≡ self.old }
         ensures passage { IfOk result (λ passage. passage ≡ spec.passage_along self.old.rows self.old.groupings start.loses start.owner start.list (map (λ t. t.now) pieces.now)) }
     {
-        let mut way = Way::new(alloc);
+        let mut way = Numbers::new(alloc);
         let mut at = start.list;
         let mut pieces = pieces;
         while let [piece, rest @ ..] = pieces {
@@ -178,7 +178,7 @@ impl<'n, 'a, 's> Finder<'n, 'a, 's> {
         alloc: Global,
         start: Start,
         word: &'a str,
-    ) -> Result<Option<Way>, NoMemory>
+    ) -> Result<Option<Numbers>, NoMemory>
         ensures same { self.new ≡ self.old }
         ensures way { IfOk result (λ way. way ≡ spec.way_of self.old.rows self.old.groupings start.loses start.owner start.list word.now) }
     {

@@ -2,6 +2,7 @@
 use Rattle.std.specs.Prelude.{ℕ, List, codes, Bool, false, ◌==◌, ◌&&◌, Option, Some, None, if◌then◌else◌, is_some, slice_get}
 use Rattle.std.specs.Str.{bytes_eq}
 use Rattle.std.specs.List.{position_from}
+use Rattle.nm_base.specs.Words.{marker_name}
 use Rattle.nm_grammar.specs.declared.word.Word.{Word}
 use Rattle.nm_grammar.specs.declared.word.Word.TheVariants as word
 use Rattle.nm_grammar.specs.declared.row.Row.{Row}
@@ -51,7 +52,7 @@ top rows m = slice_get (roots rows) m
 
 -- the module that this project adds by itself (this project's own)
 unfoldable pub is_marker : List ℕ → Bool
-is_marker name = bytes_eq name (codes "netm-marker")
+is_marker name = bytes_eq name marker_name
 
 -- the given module of a name (RFC 7950 section 6.2.1); the marker module is none of them
 unfoldable pub module_named : List Row → List ℕ → Option ℕ

@@ -7,7 +7,7 @@ use crate::key::{Key, Reach};
 use crate::modules::modules_of;
 use crate::table::{Table, table_of};
 use indexmap::IndexMap;
-use nm_base::NoMemory;
+use nm_base::{MARKER, NoMemory};
 use nm_grammar::{Row, Rows, Word};
 use std::alloc::Global;
 use std::marker::Model;
@@ -38,11 +38,11 @@ impl<'a> Model for Names<'a> {
 }
 
 /// Whether a module's name is that of the module that netm adds by itself.
-#[tactic(auto, unfolding(crate::specs::Named::is_marker))]
+#[tactic(auto, unfolding(crate::specs::Named::is_marker, nm_base::specs::Words::marker_name))]
 pub fn is_marker(name: &str) -> bool
     ensures { result ≡ spec.is_marker name.now }
 {
-    name == "netm-marker"
+    name == MARKER
 }
 
 impl<'a> Names<'a> {

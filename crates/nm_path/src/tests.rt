@@ -1,8 +1,8 @@
 mod texts;
 
 use super::*;
-use nm_base::{Label, NoMemory};
-use nm_tree::{Elements, Groups, Node, NodeKind, Numbers, Schema, SharedType};
+use nm_base::{Groups, Label, NoMemory, Numbers};
+use nm_tree::{Elements, Node, NodeKind, Schema, SharedType};
 use nm_types::{Chosen, LeafType, Path, Step, TypeKind, Value};
 use std::alloc::Global;
 use std::test::Fail;

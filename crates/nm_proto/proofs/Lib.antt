@@ -1,2 +1,3 @@
 pub mod Maps
 pub mod MarkLemmas
+pub mod Events

@@ -1,13 +1,15 @@
 -- Flat contents: numbered cells and marks. Cells, edits and their text are this project's own; the default operations
 -- follow RFC 6241 section 7.2. The code walks trees; these definitions speak of finite maps.
-use Rattle.std.specs.Prelude.{◌≡◌, ℕ, ◌≤◌, Bool, true, not, nat_lt, List, [], ◌∷◌, ◌++◌, map, Option, Some, None, Result, Ok, Err, codes, decimal, find, refl}
-use Rattle.std.specs.List.{flat_map, join_with_byte}
+use Rattle.std.specs.Prelude.{◌≡◌, ℕ, ◌≤◌, ◌^◌, ◌==◌, ◌&&◌, Bool, true, false, not, nat_lt, List, [], ◌∷◌, ◌++◌, map, Option, Some, None, Result, Ok, Err, codes, decimal, find, refl, if◌then◌else◌}
+use Rattle.std.specs.List.{flat_map, join_with_byte, list_all}
 use Rattle.std.specs.Option.{option_map}
 use Rattle.std.specs.Ordering.{nat_cmp}
-use Rattle.std.specs.FinMap.{FinMap, contains_key, insert, remove, retain_keys, empty, entries, keys, len, code}
+use Rattle.std.specs.FinMap.{FinMap, get, contains_key, insert, remove, retain_keys, empty, entries, keys, len, code}
 use Rattle.std.specs.Coded.{Coded, code_by, coded×, coded_ℕ}
 use base.Stored.{coded_unit}
+use Rattle.nm_base.specs.Decimal.{number_of}
 use Rattle.nm_base.specs.declared.tag.Tag.TheVariants.{InvalidValue, DataMissing}
+use Rattle.nm_proto.specs.declared.flat.FlatNode.{FlatNode}
 use Rattle.nm_proto.specs.declared.message.DefaultOperation.{DefaultOperation}
 use Rattle.nm_proto.specs.declared.message.DefaultOperation.TheVariants.{Merge, Replace, Nothing}
 use Rattle.nm_proto.specs.declared.message.Marks.{Marks}
@@ -72,6 +74,45 @@ flat_edited config edit operation marks = with_marks (cells_edited config.cells 
 -- the greatest value of a cell is 1,000,000: the violation at the least key above it
 abbrev pub flat_violation : FlatState → Option Refusal
 flat_violation config = option_map (λ e. record { tag = InvalidValue; path = decimal e.0 }) (find (λ e. nat_lt 1000000 e.1) (entries config.cells))
+
+-- ---- nodes
+
+-- a node is one key, below 2^32
+abbrev pub node_at : Option ℕ → Option FlatNode
+node_at None = None
+node_at (Some key) = if nat_lt key (2 ^ 32) then Some (record { 0 = key }) else None
+
+-- the node that a text spells, in decimal
+abbrev pub flat_found : List ℕ → Option FlatNode
+flat_found text = node_at (number_of text)
+
+-- a node exists where its cell does
+abbrev pub flat_exists : FlatState → FlatNode → Bool
+flat_exists config node = contains_key config.cells node.0
+
+-- nothing lies below a cell
+abbrev pub flat_overlaps : FlatNode → FlatNode → Bool
+flat_overlaps one other = one.0 == other.0
+
+-- the cell of a node by itself
+abbrev pub flat_part : FlatState → FlatNode → FlatState
+flat_part config node = record { cells = changed empty node.0 (get config.cells node.0); marks = empty }
+
+abbrev pub same_cell : Option ℕ → Option ℕ → Bool
+same_cell None None = true
+same_cell None (Some value) = false
+same_cell (Some value) None = false
+same_cell (Some value) (Some other) = value == other
+
+abbrev pub flat_same_at : FlatState → FlatState → FlatNode → Bool
+flat_same_at one other node = same_cell (get one.cells node.0) (get other.cells node.0)
+
+-- each mark of the one is a mark of the other
+abbrev pub has_marks_of : FinMap nat_cmp (Unit {0}) → FinMap nat_cmp (Unit {0}) → Bool
+has_marks_of other one = list_all (contains_key other) (keys one)
+
+abbrev pub flat_same_marks : FlatState → FlatState → Bool
+flat_same_marks one other = has_marks_of other.marks one.marks && has_marks_of one.marks other.marks
 
 abbrev pub flat_has_mark : FlatState → ℕ → Bool
 flat_has_mark config n = contains_key config.marks n

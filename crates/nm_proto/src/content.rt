@@ -1,10 +1,14 @@
-ghost use Rattle.std.specs.Prelude.{◌≡◌, ℕ, List, IfOk};
-ghost use Rattle.nm_proto.specs.Content.{Meaning, Laws, Applies, Checks, counted_rows};
+//! What a kind of configurations is, and what requests name by number.
 
+ghost use Rattle.std.specs.Prelude.{◌≡◌, ℕ, List, IfOk, slice_get, option_copied};
+ghost use Rattle.nm_proto.specs.Content.{Meaning, Laws, Applies, Checks, Finds, counted_rows};
+
+use crate::listed::Listed;
 use crate::message::{DefaultOperation, Marks};
-use nm_base::{ChangeNo, Label, NoMemory, Tag};
+use nm_base::{ChangeNo, EditNo, Label, NoMemory, SelectNo, Tag};
 use std::error::Error;
 use std::fmt;
+use std::marker::Model;
 
 /// What a kind of configurations is: edits, validity and marks. Devices, managers and worlds are written
 /// once over it. A content that holds a collection keeps its allocator, so no call takes one.
@@ -43,6 +47,26 @@ pub trait Content {
         requires { (meaning self.now).belongs config.now }
         ensures checked { Checks result ((meaning self.now).violation config.now) };
 
+    /// The node that a text names (RFC 5717 section 2.4.1 selects by such texts).
+    fn find(&self, text: &Label) -> Result<Self::Node, FindFault>
+        ensures { Finds result ((meaning self.now).found text.now) };
+
+    /// Whether a node exists in the configuration. It takes no memory.
+    fn exists(&self, config: &Self::Config, node: &Self::Node) -> bool
+        ensures { result ≡ (meaning self.now).exists config.now node.now };
+
+    /// Whether one of the nodes is the other, or lies below it. It takes no memory.
+    fn overlaps(&self, one: &Self::Node, other: &Self::Node) -> bool
+        ensures { result ≡ (meaning self.now).overlaps one.now other.now };
+
+    /// Whether the two configurations have the same at and below a node. It takes no memory.
+    fn same_at(&self, one: &Self::Config, other: &Self::Config, node: &Self::Node) -> bool
+        ensures { result ≡ (meaning self.now).same_at one.now other.now node.now };
+
+    /// Whether the two configurations have the same marks. It takes no memory.
+    fn same_marks(&self, one: &Self::Config, other: &Self::Config) -> bool
+        ensures { result ≡ (meaning self.now).same_marks one.now other.now };
+
     /// Whether the mark of a change set is in the configuration. It takes no memory.
     fn has_mark(&self, config: &Self::Config, change: ChangeNo) -> bool
         ensures { result ≡ (meaning self.now).has_mark config.now change };
@@ -65,10 +89,10 @@ pub trait Show: Content {
         ensures { IfOk result (λ text. text.items ≡ shown self.now config.now) };
 }
 
-/// What requests name by number: edits, and lists of selected nodes.
+/// What requests name by number: edits, and lists of texts that select nodes.
 pub struct Tables<C: Content> {
-    pub edits: Vec<C::Edit>,
-    pub selects: Vec<Vec<Label>>,
+    edits: Listed<C::Edit>,
+    selects: Listed<Listed<Label>>,
 }
 
 impl<C: Content> Drop for Tables<C> {
@@ -76,6 +100,37 @@ impl<C: Content> Drop for Tables<C> {
         let Tables { edits, selects } = self;
         drop(edits);
         drop(selects);
+    }
+}
+
+impl<C: Content> Model for Tables<C> {
+    ghost use Rattle.nm_proto.specs.Content.{TablesState};
+
+    ghost Value = { TablesState C.Edit };
+
+    ghost view = { λ t. record { edits = t.edits; selects = t.selects } };
+}
+
+impl<C: Content> Tables<C> {
+    /// The tables of these edits and selections. It takes no memory.
+    pub fn new(edits: Listed<C::Edit>, selects: Listed<Listed<Label>>) -> Tables<C>
+        ensures { result ≡ record { edits = edits; selects = selects } }
+    {
+        Tables { edits, selects }
+    }
+
+    /// The edit of a number, from 0, and None past the end.
+    pub fn edit(&self, number: EditNo) -> Option<&C::Edit>
+        ensures { option_copied result ≡ slice_get self.now.edits number.0 }
+    {
+        self.edits.get(number.0 as usize)
+    }
+
+    /// The texts of a selection, by its number from 0, and None past the end.
+    pub fn select(&self, number: SelectNo) -> Option<&Listed<Label>>
+        ensures { option_copied result ≡ slice_get self.now.selects number.0 }
+    {
+        self.selects.get(number.0 as usize)
     }
 }
 
@@ -92,6 +147,14 @@ pub enum ApplyFault {
 pub enum CheckFault {
     /// The error tag and the path at fault (RFC 7950 section 15).
     Violation { tag: Tag, path: Label },
+    NoMemory,
+}
+
+/// Why a text doesn't name a node.
+#[derive(Clone, Copy, Debug, PartialEq, Eq)]
+pub enum FindFault {
+    /// The text names none.
+    BadPath,
     NoMemory,
 }
 
@@ -112,6 +175,16 @@ impl From<NoMemory> for CheckFault {
 
     fn from(_fault: NoMemory) -> CheckFault {
         CheckFault::NoMemory
+    }
+}
+
+impl From<NoMemory> for FindFault {
+    ghost use Rattle.nm_proto.specs.declared.content.FindFault.TheVariants as find;
+
+    ghost from_gives = { λ _ fault. fault ≡ find.NoMemory };
+
+    fn from(_fault: NoMemory) -> FindFault {
+        FindFault::NoMemory
     }
 }
 
@@ -136,3 +209,14 @@ impl fmt::Display for CheckFault {
 }
 
 impl Error for CheckFault {}
+
+impl fmt::Display for FindFault {
+    fn fmt<W: fmt::Write>(&self, f: &mut fmt::Formatter<W>) -> fmt::Result {
+        match self {
+            FindFault::BadPath => f.write_str("the text names no node"),
+            FindFault::NoMemory => f.write_str("out of memory"),
+        }
+    }
+}
+
+impl Error for FindFault {}

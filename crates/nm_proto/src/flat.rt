@@ -2,14 +2,14 @@ ghost use Rattle.std.specs.Prelude.{◌≡◌, ◌≤◌, ◌++◌, not, map as 
 ghost use Rattle.std.specs.List.{flat_map, join_with_byte};
 ghost use Rattle.std.specs.Option.{option_map};
 ghost use Rattle.std.specs.FinMap as map;
-ghost use Rattle.nm_proto.specs.Content.{Applies, is_taken};
-ghost use Rattle.nm_proto.specs.Flat.{FlatState, MarksInRange, all_changed, cells_edited, least_absent, marked, cell_text};
+ghost use Rattle.nm_proto.specs.Content.{Applies, Finds, is_taken};
+ghost use Rattle.nm_proto.specs.Flat.{FlatState, MarksInRange, all_changed, cells_edited, least_absent, marked, cell_text, node_at, same_cell, has_marks_of};
 
-use crate::content::{ApplyFault, CheckFault, Content, Show};
+use crate::content::{ApplyFault, CheckFault, Content, FindFault, Show};
 use crate::message::{DefaultOperation, Marks};
 use crate::number_map::NumberMap;
 use itoa::Buffer;
-use nm_base::{ChangeNo, Label, NoMemory, Tag, write_decimal};
+use nm_base::{ChangeNo, Label, NoMemory, Tag, read_decimal, write_decimal};
 use std::alloc::Global;
 use std::marker::Model;
 
@@ -128,6 +128,29 @@ impl Content for FlatContent {
         }
     }
 
+    fn find(&self, text: &Label) -> Result<FlatNode, FindFault> {
+        match read_decimal(text.as_str().as_bytes()) {
+            Some(key) => node_at(key),
+            None => Err(FindFault::BadPath),
+        }
+    }
+
+    fn exists(&self, config: &FlatConfig, node: &FlatNode) -> bool {
+        config.cells.contains(node.0)
+    }
+
+    fn overlaps(&self, one: &FlatNode, other: &FlatNode) -> bool {
+        one.0 == other.0
+    }
+
+    fn same_at(&self, one: &FlatConfig, other: &FlatConfig, node: &FlatNode) -> bool {
+        same_cell(one.cells.get(node.0), other.cells.get(node.0))
+    }
+
+    fn same_marks(&self, one: &FlatConfig, other: &FlatConfig) -> bool {
+        has_marks_of(&other.marks, &one.marks) && has_marks_of(&one.marks, &other.marks)
+    }
+
     fn has_mark(&self, config: &FlatConfig, change: ChangeNo) -> bool {
         config.marks.contains(change.get())
     }
@@ -151,6 +174,38 @@ impl Show for FlatContent {
         out.extend_from_slice(b"]}")?;
         Ok(out)
     }
+}
+
+// The node of a key, below 2^32.
+fn node_at(key: u64) -> Result<FlatNode, FindFault>
+    ensures { Finds result (node_at (Some key)) }
+{
+    match u32::try_from(key) {
+        Ok(key) => Ok(FlatNode(key)),
+        Err(_) => Err(FindFault::BadPath),
+    }
+}
+
+fn same_cell(one: Option<u64>, other: Option<u64>) -> bool
+    ensures { result ≡ same_cell one other }
+{
+    match (one, other) {
+        (None, None) => true,
+        (Some(value), Some(other)) => value == other,
+        _ => false,
+    }
+}
+
+// Whether each mark of the one is a mark of the other.
+fn has_marks_of(other: &NumberMap<()>, one: &NumberMap<()>) -> bool
+    ensures { result ≡ has_marks_of other.now one.now }
+{
+    for (mark, ()) in one.iter() {
+        if !other.contains(*mark) {
+            return false;
+        }
+    }
+    true
 }
 
 // The cells after an edit.

@@ -11,6 +11,8 @@ pub enum AbortCause {
     Broken { device: DeviceNo },
     /// The manager lost what it knew of the change set.
     Forgotten,
+    /// A device refused to renew its pending commit, which a timer, a restart or another session has ended.
+    Lapsed { device: DeviceNo },
 }
 
 impl AbortCause {
@@ -18,20 +20,7 @@ impl AbortCause {
     pub fn same(&self, other: &AbortCause) -> bool
         ensures { IsTrue result ↔ (self.now ≡ other.now) }
     {
-        match (self, other) {
-            (
-                AbortCause::Refused { device, tag },
-                AbortCause::Refused {
-                    device: other_device,
-                    tag: other_tag,
-                },
-            ) => device.get() == other_device.get() && tag.same(*other_tag),
-            (AbortCause::Broken { device }, AbortCause::Broken { device: other }) => {
-                device.get() == other.get()
-            }
-            (AbortCause::Forgotten, AbortCause::Forgotten) => true,
-            _ => false,
-        }
+        *self == *other
     }
 }
 
@@ -49,11 +38,7 @@ impl Verdict {
     pub fn same(&self, other: &Verdict) -> bool
         ensures { IsTrue result ↔ (self.now ≡ other.now) }
     {
-        match (self, other) {
-            (Verdict::Commit, Verdict::Commit) => true,
-            (Verdict::Abort(cause), Verdict::Abort(other)) => cause.same(other),
-            _ => false,
-        }
+        *self == *other
     }
 }
 
@@ -64,6 +49,9 @@ pub enum Entry {
     Started {
         change: ChangeNo,
         devices: DeviceMask,
+        /// How long its confirmed commits wait, in seconds (RFC 6241 section 8.4). None exactly where it was read from a
+        /// record of version 1, which doesn't hold it.
+        timeout: Option<u32>,
     },
     /// The change set's verdict stands.
     Decided {
@@ -82,29 +70,6 @@ impl Entry {
     pub fn same(&self, other: &Entry) -> bool
         ensures { IsTrue result ↔ (self.now ≡ other.now) }
     {
-        match (self, other) {
-            (
-                Entry::Started { change, devices },
-                Entry::Started {
-                    change: other_change,
-                    devices: other_devices,
-                },
-            ) => change.get() == other_change.get() && devices.0 == other_devices.0,
-            (
-                Entry::Decided { change, verdict },
-                Entry::Decided {
-                    change: other_change,
-                    verdict: other_verdict,
-                },
-            ) => change.get() == other_change.get() && verdict.same(other_verdict),
-            (
-                Entry::Ended { change, kept },
-                Entry::Ended {
-                    change: other_change,
-                    kept: other_kept,
-                },
-            ) => change.get() == other_change.get() && kept.0 == other_kept.0,
-            _ => false,
-        }
+        *self == *other
     }
 }

@@ -5,9 +5,12 @@
 //! `Content` with its meaning and its laws, and on flat configurations as finite maps.
 #![tactic(auto)]
 
+pub mod ask;
 pub mod content;
 pub mod flat;
 pub mod journal;
+pub mod kind;
+pub mod laws;
 pub mod listed;
 pub mod message;
 pub mod number_map;
@@ -15,10 +18,12 @@ pub mod plan;
 #[cfg(test)]
 mod tests;
 
-pub use content::{ApplyFault, CheckFault, Content, Show, Tables};
+pub use ask::Ask;
+pub use content::{ApplyFault, CheckFault, Content, FindFault, Show, Tables};
 pub use flat::{FlatConfig, FlatContent, FlatEdit, FlatNode};
 pub use journal::{AbortCause, Entry, Verdict};
+pub use kind::ScenarioKind;
 pub use listed::Listed;
-pub use message::{DefaultOperation, Marks, Reply, Request, Store};
+pub use message::{DefaultOperation, Marks, Reply, Request, RequestWord, Store};
 pub use number_map::NumberMap;
 pub use plan::{ChangePlan, Event, PlannedEdit};

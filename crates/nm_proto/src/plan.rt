@@ -1,6 +1,12 @@
+//! What a run is to do: change sets, and what happens to devices, links, the manager and operators.
+
+ghost use Rattle.std.specs.Prelude.{◌≡◌, ◌↔◌, ◌<◌, ℕ, IsTrue, IfOk};
+ghost use Rattle.nm_base.specs.Mask.{mask_contains};
+ghost use Rattle.nm_proto.specs.Plan.{devices_in, is_planned};
+
 use crate::listed::Listed;
 use crate::message::{DefaultOperation, Request};
-use nm_base::{ChangeNo, DeviceNo, EditNo};
+use nm_base::{ChangeNo, DeviceMask, DeviceNo, EditNo, NoMemory};
 
 /// One change set: its edits, at most one for each device.
 #[derive(Drop)]
@@ -11,6 +17,20 @@ pub struct ChangePlan {
     pub edits: Listed<PlannedEdit>,
 }
 
+impl ChangePlan {
+    /// The devices of the change set. It takes time as there are edits.
+    pub fn devices(&self) -> DeviceMask
+        ensures value { result.0 ≡ devices_in self.now.edits }
+        ensures contains { (device : ℕ) → 0 < device → mask_contains result.0 device ≡ is_planned device self.now.edits }
+    {
+        let mut devices = 0;
+        for edit in self.edits.as_slice() {
+            devices |= 1u32 << u32::from(edit.device.get() - 1);
+        }
+        DeviceMask(devices)
+    }
+}
+
 /// One change set's edit of one device.
 #[derive(Clone, Copy, Debug, PartialEq, Eq)]
 pub struct PlannedEdit {
@@ -19,8 +39,8 @@ pub struct PlannedEdit {
     pub default_operation: DefaultOperation,
 }
 
-/// One thing that happens in a run.
-#[derive(Drop)]
+/// One thing that happens in a run (this project's own). Links of a change set and a device are numbered from 1, operators too.
+#[derive(Clone, PartialEq, Drop)]
 pub enum Event {
     /// The change set is submitted.
     Submit {
@@ -43,8 +63,38 @@ pub enum Event {
         link: u32,
         number: u32,
     },
+    /// The manager's side of the current link ends.
+    Break {
+        change: ChangeNo,
+        device: DeviceNo,
+    },
+    /// The device's side of a link ends: its session is lost, and what is outstanding on it is dropped.
+    Lose {
+        change: ChangeNo,
+        device: DeviceNo,
+        link: u32,
+    },
+    /// The clock of the device rises, by so many seconds.
+    Advance {
+        device: DeviceNo,
+        seconds: u32,
+    },
+    /// The device restarts.
+    Restart {
+        device: DeviceNo,
+    },
+    /// The manager loses what it knows of the change set.
+    Forget {
+        change: ChangeNo,
+    },
+    /// The manager loses all that it knows, and reads its journal again.
+    Crash,
+    /// The manager sets the timer of its pending commit on the device anew.
+    Renew {
+        change: ChangeNo,
+        device: DeviceNo,
+    },
     /// An operator asks a device, with an OpenSession where it has no session there, and else on its session.
-    /// Operators are numbered from 1.
     Foreign {
         operator: u32,
         device: DeviceNo,
@@ -60,4 +110,20 @@ pub enum Event {
         change: ChangeNo,
         turns: u32,
     },
+}
+
+impl Event {
+    /// An equal event. It copies no bytes of a text.
+    pub fn copy(&self) -> Result<Event, NoMemory>
+        ensures { IfOk result (λ event. event ≡ self.now) }
+    {
+        Ok(self.clone()?)
+    }
+
+    /// Whether the two are equal.
+    pub fn same(&self, other: &Event) -> bool
+        ensures { IsTrue result ↔ (self.now ≡ other.now) }
+    {
+        *self == *other
+    }
 }

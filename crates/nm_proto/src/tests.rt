@@ -1,5 +1,8 @@
 use super::*;
-use nm_base::{ChangeMask, ChangeNo, DeviceMask, DeviceNo, Label, NoMemory, Tag, write_decimal};
+use nm_base::{
+    ChangeMask, ChangeNo, DeviceMask, DeviceNo, EditNo, Label, NoMemory, SelectNo, Tag,
+    write_decimal,
+};
 use std::alloc::Global;
 use std::test::Fail;
 use std::thread;
@@ -30,6 +33,58 @@ fn requests_are_copied(rt: HostRuntime) -> Result<(), Fail> {
     };
     assert!(rt; commit.copy()?.same(&commit));
     assert!(rt; !commit.same(&Request::Validate));
+    Ok(())
+}
+
+// The words as the messages of a scenario and of a trace have them.
+#[test]
+fn requests_have_their_words(rt: HostRuntime) -> Result<(), Fail> {
+    let change = ChangeNo::new(3).ok_or("3")?;
+    for (request, want) in [
+        (Request::Discard, "discard"),
+        (Request::GetConfig, "get-config"),
+        (Request::HasMark { change }, "has-mark"),
+        (Request::PartialUnlock { id: 1 }, "partial-unlock"),
+        (Request::Kill { session: 2 }, "kill"),
+        (Request::CloseSession, "close-session"),
+    ] {
+        assert_eq!(rt; request.word().text(), want);
+    }
+    Ok(())
+}
+
+#[test]
+fn events_are_copied(rt: HostRuntime) -> Result<(), Fail> {
+    let change = ChangeNo::new(3).ok_or("3")?;
+    let device = DeviceNo::new(2).ok_or("2")?;
+    let event = Event::Foreign {
+        operator: 1,
+        device,
+        request: Request::OpenSession {
+            user: Label::new(rt.alloc(), "alice")?,
+        },
+    };
+    assert!(rt; event.copy()?.same(&event));
+    assert!(rt; !event.same(&Event::Crash));
+    assert!(rt; !Event::Renew { change, device }.same(&Event::Break { change, device }));
+    Ok(())
+}
+
+#[test]
+fn change_sets_have_their_devices(rt: HostRuntime) -> Result<(), Fail> {
+    let mut edits = Listed::new(rt.alloc());
+    for number in [2, 5] {
+        edits.push(PlannedEdit {
+            device: DeviceNo::new(number).ok_or("device")?,
+            edit: EditNo(0),
+            default_operation: DefaultOperation::Merge,
+        })?;
+    }
+    let plan = ChangePlan {
+        timeout: 600,
+        edits,
+    };
+    assert_eq!(rt; plan.devices(), DeviceMask(0b10010));
     Ok(())
 }
 
@@ -267,5 +322,58 @@ fn lists_keep_their_order(rt: HostRuntime) -> Result<(), Fail> {
     assert_eq!(rt; list.take_first(), Some(1));
     assert_eq!(rt; list.as_slice(), [2, 3].as_slice());
     assert_eq!(rt; list.into_vec().as_slice(), [2, 3].as_slice());
+    Ok(())
+}
+
+// A node is a key in decimal, below 2^32.
+#[test]
+fn nodes_are_keys(rt: HostRuntime) -> Result<(), Fail> {
+    let content = FlatContent::new(rt.alloc());
+    for (text, want) in [
+        ("7", Some(7)),
+        ("4294967295", Some(4294967295)),
+        ("4294967296", None),
+        ("07", None),
+        ("/7", None),
+    ] {
+        let node = content.find(&Label::new(rt.alloc(), text)?);
+        assert_eq!(rt; node.ok().map(|node| node.0), want, "{text}");
+    }
+    Ok(())
+}
+
+// Two configurations that differ in cell 8 and in the mark of change set 2.
+#[test]
+fn parts_are_compared(rt: HostRuntime) -> Result<(), Fail> {
+    let content = FlatContent::new(rt.alloc());
+    let one = FlatConfig::new(rt.alloc(), cells_of(rt.alloc(), &[(7, 1), (8, 2)])?);
+    let one = marked(rt.alloc(), &one, 1, 0)?;
+    let other = FlatConfig::new(rt.alloc(), cells_of(rt.alloc(), &[(7, 1), (8, 3)])?);
+    let other = marked(rt.alloc(), &marked(rt.alloc(), &other, 1, 0)?, 2, 0)?;
+    assert!(rt; content.exists(&one, &FlatNode(7)) && !content.exists(&one, &FlatNode(9)));
+    assert!(rt; content.same_at(&one, &other, &FlatNode(7)));
+    assert!(rt; content.same_at(&one, &other, &FlatNode(9)));
+    assert!(rt; !content.same_at(&one, &other, &FlatNode(8)));
+    assert!(rt;
+        content.overlaps(&FlatNode(7), &FlatNode(7))
+            && !content.overlaps(&FlatNode(7), &FlatNode(8))
+    );
+    assert!(rt; content.same_marks(&one, &one) && !content.same_marks(&one, &other));
+    Ok(())
+}
+
+#[test]
+fn tables_are_looked_up(rt: HostRuntime) -> Result<(), Fail> {
+    let mut edits = Listed::new(rt.alloc());
+    edits.push(edit_of(rt.alloc(), &[(7, None)])?)?;
+    let mut texts = Listed::new(rt.alloc());
+    texts.push(Label::new(rt.alloc(), "7")?)?;
+    let mut selects = Listed::new(rt.alloc());
+    selects.push(texts)?;
+    let tables: Tables<FlatContent> = Tables::new(edits, selects);
+    assert!(rt; tables.edit(EditNo(0)).is_some() && tables.edit(EditNo(1)).is_none());
+    let selected = tables.select(SelectNo(0)).ok_or("select 0")?;
+    assert_eq!(rt; selected.len(), 1);
+    assert!(rt; tables.select(SelectNo(1)).is_none());
     Ok(())
 }

@@ -1,5 +1,5 @@
 -- What holds of every pointer: it is short, on one line, and the longest front of the whole way.
-use Rattle.std.proofs.Common.{◌≡◌, ℕ, zero, suc, ◌+◌, ◌/◌, ◌%◌, ◌≤◌, ◌<◌, min, List, [], ◌∷◌, ◌++◌, length, take, get_or, codes, decimal, Bool, true, false, cond, nat_lt, nat_eq, refl, ap, sym, subst, ◌∙◌, arith}
+use Rattle.std.proofs.Common.{◌≡◌, ℕ, zero, suc, ◌+◌, ◌/◌, ◌%◌, ◌≤◌, ◌<◌, min, List, [], ◌∷◌, length, get_or, codes, decimal, Bool, true, false, cond, nat_lt, nat_eq, refl, ap, sym, subst, arith}
 use Rattle.std.specs.List.{All, flat_map}
 use Rattle.std.specs.Fmt.{digit_glyph, digits_onto, digits}
 use Rattle.std.specs.Str.{IsCharBoundary}

@@ -1,25 +1,9 @@
--- How a fault is told: the word of its kind (this project's own), and its place as a JSON pointer (RFC 6901).
+-- How a place is told: as a JSON pointer (RFC 6901).
 use Rattle.std.specs.Prelude.{◌≡◌, ◌≤◌, ℕ, zero, suc, List, [], ◌∷◌, ◌++◌, take, get_or, codes, decimal, Bool, ◌||◌, ◌==◌, nat_lt, nat_le, if◌then◌else◌}
 use Rattle.std.specs.List.{flat_map}
 use Rattle.std.specs.Str.{IsCharBoundary}
-use Rattle.nm_reading.specs.declared.fault.ScenarioKind.{ScenarioKind}
-use Rattle.nm_reading.specs.declared.fault.ScenarioKind.TheVariants.{TooLong, NotJson, NotBuilt, Missing, Unknown, BadValue, TooMany, Yang, Schema, Content, Invalid}
 use Rattle.nm_reading.specs.declared.fault.Step.{Step}
 use Rattle.nm_reading.specs.declared.fault.Step.TheVariants.{Name, Item}
-
--- a kind by its word
-abbrev pub kind_word : ScenarioKind → List ℕ
-kind_word TooLong = codes "too-long"
-kind_word NotJson = codes "not-json"
-kind_word NotBuilt = codes "not-built"
-kind_word Missing = codes "missing"
-kind_word Unknown = codes "unknown"
-kind_word BadValue = codes "bad-value"
-kind_word TooMany = codes "too-many"
-kind_word Yang = codes "yang"
-kind_word Schema = codes "schema"
-kind_word Content = codes "content"
-kind_word Invalid = codes "invalid"
 
 -- a byte of a name: `~` and `/` as RFC 6901 section 3 writes them, and a character below U+0020 as `?` (this project's own)
 abbrev pub escaped : ℕ → List ℕ

@@ -4,7 +4,7 @@ use Rattle.std.specs.Prelude.{ℕ, List, [], Bool, ◌&&◌, ◌==◌, nat_le, O
 use Rattle.std.specs.Str.{bytes_eq}
 use Rattle.serde_json.specs.Data.{Data, null, boolean, number, string, array, object}
 use Rattle.serde_json.specs.Find.{at, as_str}
-use Rattle.nm_reading.specs.declared.fault.ScenarioKind.TheVariants.{BadValue}
+use Rattle.nm_proto.specs.declared.kind.ScenarioKind.TheVariants.{BadValue}
 use Rattle.nm_reading.specs.declared.fault.Step.TheVariants.{Item}
 use Rattle.nm_reading.specs.declared.fault.Fault.{Fault}
 use Rattle.nm_reading.specs.Reading.{here, there, under, natural_of, count_of}

@@ -2,35 +2,8 @@ ghost use Rattle.std.specs.Prelude.{◌≡◌};
 ghost use Rattle.nm_reading.specs.declared.fault.ReadError.TheVariants.{NoMemory};
 
 use nm_base::Label;
-use nm_proto::Listed;
+use nm_proto::{Listed, ScenarioKind};
 use std::alloc::{AllocError, AllocFailed};
-
-/// What is wrong with a scenario.
-#[derive(Clone, Copy, Debug, PartialEq, Eq)]
-pub enum ScenarioKind {
-    /// More than 16,777,216 bytes.
-    TooLong,
-    /// The bytes are no JSON (RFC 8259).
-    NotJson,
-    /// A form that isn't built yet.
-    NotBuilt,
-    /// A member that is required isn't there.
-    Missing,
-    /// A member has another name.
-    Unknown,
-    /// A value of another form, or outside its range.
-    BadValue,
-    /// A list or a count is above its limit.
-    TooMany,
-    /// A module's text can't be read.
-    Yang,
-    /// The modules aren't modules of the subset.
-    Schema,
-    /// A configuration or an edit can't be read.
-    Content,
-    /// A running configuration isn't valid.
-    Invalid,
-}
 
 /// One step of the way to a part of a JSON value.
 #[derive(Drop)]

@@ -11,7 +11,8 @@ pub mod reader;
 pub mod values;
 pub mod words;
 
-pub use fault::{Fault, ReadError, ScenarioKind, Step};
+pub use fault::{Fault, ReadError, Step};
+pub use nm_proto::ScenarioKind;
 pub use pointer::write_place;
 
 #[cfg(test)]

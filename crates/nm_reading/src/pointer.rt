@@ -1,37 +1,16 @@
-//! Places as JSON pointers (RFC 6901), and the words of the kinds of faults.
+//! Places as JSON pointers (RFC 6901).
 
 ghost use Rattle.std.specs.Prelude.{◌≡◌, ◌++◌, ◌≤◌, ◌+◌, length, take, get_or, IfOk, OnOk, OnErr, decimal};
 ghost use Rattle.std.specs.List.{flat_map};
-ghost use Rattle.nm_reading.specs.Pointer.{begins_character, cut_place, cut_text, escaped, kind_word, pointer_of, step_text, way_text};
+ghost use Rattle.nm_reading.specs.Pointer.{begins_character, cut_place, cut_text, escaped, pointer_of, step_text, way_text};
 
-use crate::fault::{ScenarioKind, Step};
+use crate::fault::Step;
 use itoa::Buffer;
 use nm_base::NoMemory;
 use std::alloc::Global;
 
 /// How many bytes a pointer has at most: a line of output stays short, whatever names the input has.
 pub const POINTER_LIMIT: usize = 4096;
-
-impl ScenarioKind {
-    /// The word that tells the kind.
-    pub fn word(self) -> &'static str
-        ensures { result.now ≡ kind_word self }
-    {
-        match self {
-            ScenarioKind::TooLong => "too-long",
-            ScenarioKind::NotJson => "not-json",
-            ScenarioKind::NotBuilt => "not-built",
-            ScenarioKind::Missing => "missing",
-            ScenarioKind::Unknown => "unknown",
-            ScenarioKind::BadValue => "bad-value",
-            ScenarioKind::TooMany => "too-many",
-            ScenarioKind::Yang => "yang",
-            ScenarioKind::Schema => "schema",
-            ScenarioKind::Content => "content",
-            ScenarioKind::Invalid => "invalid",
-        }
-    }
-}
 
 /// Appends a place as a JSON pointer: `/` and its name or number for each step, `/` for the whole.
 ///

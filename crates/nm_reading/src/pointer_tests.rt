@@ -1,5 +1,5 @@
+use crate::Step;
 use crate::pointer::write_place;
-use crate::{ScenarioKind, Step};
 use nm_base::Label;
 use std::alloc::Global;
 use std::test::Fail;
@@ -142,27 +142,6 @@ fn long_ways_are_cut(rt: HostRuntime) -> Result<(), Fail> {
         let mut out = Vec::new(rt.alloc());
         write_place(rt.alloc(), &mut out, place.as_slice())?;
         assert_eq!(rt; out.len(), bytes, "{steps} steps");
-    }
-    Ok(())
-}
-
-// The words that docs/FORMATS.md gives.
-#[test]
-fn kinds_have_words(rt: HostRuntime) -> Result<(), Fail> {
-    for (kind, word) in [
-        (ScenarioKind::TooLong, "too-long"),
-        (ScenarioKind::NotJson, "not-json"),
-        (ScenarioKind::NotBuilt, "not-built"),
-        (ScenarioKind::Missing, "missing"),
-        (ScenarioKind::Unknown, "unknown"),
-        (ScenarioKind::BadValue, "bad-value"),
-        (ScenarioKind::TooMany, "too-many"),
-        (ScenarioKind::Yang, "yang"),
-        (ScenarioKind::Schema, "schema"),
-        (ScenarioKind::Content, "content"),
-        (ScenarioKind::Invalid, "invalid"),
-    ] {
-        assert_eq!(rt; kind.word(), word);
     }
     Ok(())
 }

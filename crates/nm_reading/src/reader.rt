@@ -5,9 +5,9 @@ ghost use Rattle.nm_reading.specs.declared.fault.Fault.{Fault};
 ghost use Rattle.serde_json.specs.View.{items_view, members_view};
 ghost use Rattle.nm_reading.specs.Reading.{Gives, here, there, under, required, optional, list_at, items_after, within, only_known, object_at, first_unknown, none_unknown, count_of};
 
-use crate::fault::{Fault, ReadError, ScenarioKind, Step};
+use crate::fault::{Fault, ReadError, Step};
 use nm_base::Label;
-use nm_proto::Listed;
+use nm_proto::{Listed, ScenarioKind};
 use serde_json::{Map, Value};
 use std::alloc::Global;
 

@@ -8,49 +8,34 @@ use crate::reader::{
 };
 use crate::values::{EmptyList, NumberWithin, Off, Switch, Unbuilt, at_least_one};
 use crate::words::{argument, counted, is_word, item_count, natural_in, read_begun, read_part};
-use crate::{Fault, ReadError, ScenarioKind, Step};
+use crate::{Fault, ReadError, ScenarioKind, Step, write_place};
+use nm_base::{NoMemory, write_decimal};
 use nm_proto::Listed;
 use serde_json::Value;
-use std::alloc::{AllocError, Global};
+use std::alloc::Global;
 use std::test::Fail;
 
-fn word_of(kind: ScenarioKind) -> &'static str {
-    match kind {
-        ScenarioKind::NotBuilt => "not-built ",
-        ScenarioKind::Missing => "missing ",
-        ScenarioKind::Unknown => "unknown ",
-        ScenarioKind::BadValue => "bad-value ",
-        ScenarioKind::TooMany => "too-many ",
-        _ => "other ",
-    }
-}
-
-fn step_text(alloc: Global, step: &Step) -> Result<String, AllocError> {
-    match step {
-        Step::Name(name) => format!(in alloc; "/{}", name.as_str()),
-        Step::Item(place) => format!(in alloc; "/{}", *place),
-    }
-}
-
 // A fault as `bad-value /changes/0`; the place of the whole is `/`.
-fn fault_text(alloc: Global, fault: &Fault) -> Result<String, AllocError> {
-    let mut text = String::from_str(alloc, word_of(fault.kind))?;
-    if fault.place.len() == 0 {
-        text.push_str("/")?;
-    }
-    for step in fault.place.as_slice() {
-        text.push_str(step_text(alloc, step)?.as_str())?;
-    }
+fn fault_text(alloc: Global, fault: &Fault) -> Result<Vec<u8>, NoMemory> {
+    let mut text = Vec::from_slice(alloc, fault.kind.word().as_bytes())?;
+    text.push(b' ')?;
+    write_place(alloc, &mut text, fault.place.as_slice())?;
     Ok(text)
 }
 
 // A number as it is read, or the first fault.
-fn told(alloc: Global, read: Result<u64, ReadError>) -> Result<String, Fail> {
+fn told(alloc: Global, read: Result<u64, ReadError>) -> Result<Vec<u8>, Fail> {
     match read {
-        Ok(number) => Ok(format!(in alloc; "{number}")?),
+        Ok(number) => Ok(number_text(alloc, number)?),
         Err(ReadError::Bad(fault)) => Ok(fault_text(alloc, &fault)?),
         Err(ReadError::NoMemory) => Err(Fail::new("memory ran out")),
     }
+}
+
+fn number_text(alloc: Global, number: u64) -> Result<Vec<u8>, NoMemory> {
+    let mut text = Vec::new(alloc);
+    write_decimal(number, &mut text)?;
+    Ok(text)
 }
 
 fn parsed(alloc: Global, text: &str) -> Result<Value, Fail> {
@@ -112,7 +97,7 @@ fn members_are_told(rt: HostRuntime) -> Result<(), Fail> {
         ("null", "bad-value /"),
     ] {
         let told = told(rt.alloc(), letters(rt.alloc(), &parsed(rt.alloc(), text)?))?;
-        assert_eq!(rt; told.as_str(), want, "{text}");
+        assert_eq!(rt; told.as_slice(), want.as_bytes(), "{text}");
     }
     Ok(())
 }
@@ -135,7 +120,7 @@ fn lists_are_told(rt: HostRuntime) -> Result<(), Fail> {
         ("{}", "bad-value /"),
     ] {
         let told = told(rt.alloc(), digits(rt.alloc(), &parsed(rt.alloc(), text)?))?;
-        assert_eq!(rt; told.as_str(), want, "{text}");
+        assert_eq!(rt; told.as_slice(), want.as_bytes(), "{text}");
     }
     let none: &[Value] = &[];
     match read_items(rt.alloc(), none, &Digit) {
@@ -170,7 +155,7 @@ fn words_are_told(rt: HostRuntime) -> Result<(), Fail> {
         ("{}", "bad-value /"),
     ] {
         let told = told(rt.alloc(), going(rt.alloc(), &parsed(rt.alloc(), text)?))?;
-        assert_eq!(rt; told.as_str(), want, "{text}");
+        assert_eq!(rt; told.as_slice(), want.as_bytes(), "{text}");
     }
     let whole = parsed(rt.alloc(), r#"["go",1,"2"]"#)?;
     assert_eq!(rt; natural_in(&whole, 1), Some(1));
@@ -204,7 +189,7 @@ fn switches_are_told(rt: HostRuntime) -> Result<(), Fail> {
         (r#"{"switch":0}"#, "bad-value /switch"),
     ] {
         let told = told(rt.alloc(), switched(rt.alloc(), &parsed(rt.alloc(), text)?))?;
-        assert_eq!(rt; told.as_str(), want, "{text}");
+        assert_eq!(rt; told.as_slice(), want.as_bytes(), "{text}");
     }
     Ok(())
 }
@@ -217,6 +202,9 @@ fn places_grow_outwards(rt: HostRuntime) -> Result<(), Fail> {
         place: Listed::new(rt.alloc()),
     };
     let seen = seen_from_outside(ReadError::Bad(fault), Step::Item(4));
-    assert_eq!(rt; told(rt.alloc(), seen)?.as_str(), "bad-value /4");
+    assert_eq!(rt;
+        told(rt.alloc(), seen)?.as_slice(),
+        b"bad-value /4".as_slice()
+    );
     Ok(())
 }

@@ -2,9 +2,9 @@ ghost use Rattle.std.specs.Prelude.{◌≡◌};
 ghost use Rattle.serde_json.specs.View.{view, items_view};
 ghost use Rattle.nm_reading.specs.Reading.{Gives, here, number_within, empty_list_at, nothing_in, off_at, some_of, switch_at, unbuilt_at};
 
-use crate::fault::{ReadError, ScenarioKind};
+use crate::fault::ReadError;
 use crate::reader::{Reader, fault_here};
-use nm_proto::Listed;
+use nm_proto::{Listed, ScenarioKind};
 use serde_json::Value;
 use std::alloc::Global;
 

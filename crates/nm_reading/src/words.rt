@@ -3,8 +3,9 @@ ghost use Rattle.serde_json.specs.View.{view, items_view};
 ghost use Rattle.nm_reading.specs.Reading.{Gives, count_of, under};
 ghost use Rattle.nm_reading.specs.Words.{begun_at, is_word, item_count, counted, natural_in, argument, part_in};
 
-use crate::fault::{ReadError, ScenarioKind, Step};
+use crate::fault::{ReadError, Step};
 use crate::reader::{Reader, fault_at, fault_here, seen_from_outside};
+use nm_proto::ScenarioKind;
 use serde_json::Value;
 use std::alloc::Global;
 

@@ -4,9 +4,10 @@ use Rattle.std.specs.Prelude.{if◌then◌else◌, ◌||◌, ◌&&◌, nat_le, s
 use Rattle.std.specs.Str.{bytes_eq}
 use Rattle.serde_json.specs.Data.{Data}
 use Rattle.serde_json.specs.Find.{get, at, as_str}
+use Rattle.nm_base.specs.Words.{default_timeout}
 use Rattle.nm_proto.specs.declared.message.DefaultOperation.TheVariants.{Merge}
 use Rattle.nm_proto.specs.Flat.{FlatState}
-use Rattle.nm_reading.specs.declared.fault.ScenarioKind.TheVariants as kind
+use Rattle.nm_proto.specs.declared.kind.ScenarioKind.TheVariants as kind
 use Rattle.nm_reading.specs.declared.fault.Step.TheVariants.{Name, Item}
 use Rattle.nm_reading.specs.declared.fault.Fault.{Fault}
 use Rattle.nm_reading.specs.Reading.{here, under, required_from, required, optional, object_at, only_known, list_at, natural_of, in_range, number_within, some_of}
@@ -136,8 +137,8 @@ first_so : (states : List FlatState) (part : Data) → IsSound (Told (role.chang
 unfolding change_at
 first_so states part =
     then_so (object_at part) _ (object_so (role.change states) part refl)
-    (λ u o. then_so (optional (codes "timeout") 600 (number_within 1 (2 ^ 32 - 1)) part) _
-    (optional_so (role.change states) part (codes "timeout") (role.number 1 (2 ^ 32 - 1)) 600 (number_within 1 (2 ^ 32 - 1)) step.timeout (λ child e. timeout_so child))
+    (λ u o. then_so (optional (codes "timeout") default_timeout (number_within 1 (2 ^ 32 - 1)) part) _
+    (optional_so (role.change states) part (codes "timeout") (role.number 1 (2 ^ 32 - 1)) default_timeout (number_within 1 (2 ^ 32 - 1)) step.timeout (λ child e. timeout_so child))
     (λ timeout e. then_so (required (codes "edits") (entries_at states) part) _
     (required_so (role.change states) part (codes "edits") (role.entries states) (entries_at states) (object_is part u o) must.edits_of step.edits_of (λ child f. entries_so states child))
     (λ edits f. then_so (only_known knows_change part) _ (known_so (role.change states) part (object_is part u o)) (λ k g. is_read _))))

@@ -6,7 +6,7 @@ use Rattle.std.proofs.lemmas.Bool.Decides.{nat_tests}
 use Rattle.std.proofs.lemmas.Option.{slice_get-get_or}
 use Rattle.serde_json.specs.Data.{Data, null, boolean, number, string, array, object}
 use Rattle.serde_json.specs.Find.{at}
-use Rattle.nm_reading.specs.declared.fault.ScenarioKind.TheVariants as kind
+use Rattle.nm_proto.specs.declared.kind.ScenarioKind.TheVariants as kind
 use Rattle.nm_reading.specs.declared.fault.Step.TheVariants.{Item}
 use Rattle.nm_reading.specs.declared.fault.Fault.{Fault}
 use Rattle.nm_reading.specs.Reading.{there}
@@ -151,7 +151,7 @@ other_so : {E : Type 0} (edits : Edits) (counts : Counts) (whole first : Data) �
 unfolding other_event_at
 other_so edits counts whole first e known =
     by_test (is_unbuilt whole) _ _ (λ h. wrong kind.NotBuilt (unbuilt_event h))
-    (λ f. there_so (role.event edits counts) whole 0 role.event_word first step.word e kind.BadValue (wrong kind.BadValue (no_event (known f))))
+    (λ f. there_so (role.event edits counts) whole 0 role.event_word first step.event_of e kind.BadValue (wrong kind.BadValue (no_event (known f))))
 
 by_word_so : {E : Type 0} (edits : Edits) (counts : Counts) (read : Data → Result E Fault) → ((child : Data) → IsSound (Told (role.edit edits) child) (read child)) → (operators : List (List ℕ)) (whole first : Data)
     → length operators ≡ counts.operators → at 0 whole ≡ Some first → IsSound (Told (role.event edits counts) whole) (by_word read counts.changes counts.devices operators whole)

@@ -14,7 +14,7 @@ use Rattle.nm_json.specs.declared.fault.JsonFault.{JsonFault}
 use Rattle.nm_json.specs.declared.fault.JsonFault.TheVariants.{NotJson, Bad, TooManyRows, NoMemory}
 use Rattle.nm_json.specs.Findings.{whole_found}
 use Rattle.nm_json.specs.Whole.{config_read, answered, least_of, faults_found, rows_of}
-use Rattle.nm_reading.specs.declared.fault.ScenarioKind.TheVariants as kind
+use Rattle.nm_proto.specs.declared.kind.ScenarioKind.TheVariants as kind
 use Rattle.nm_reading.specs.declared.fault.Fault.{Fault}
 use Rattle.nm_reading.specs.Reading.{◌>>=◌, here, natural_of}
 use Rattle.nm_scenario.specs.Flat.{row_limit, node_limit, key_of, or_unread, member_count, cells_after, cells_at, change_of, changes_after, changes_at, flat_edit_at}

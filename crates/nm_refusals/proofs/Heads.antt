@@ -10,7 +10,7 @@ use Rattle.nm_yang.specs.declared.fault.Fault.{Fault as TextFault}
 use Rattle.nm_proto.specs.Flat.{FlatState}
 use Rattle.nm_tree.specs.Nodes.{SchemaTree}
 use Rattle.nm_config.specs.Rows.{Rows}
-use Rattle.nm_reading.specs.declared.fault.ScenarioKind.TheVariants as kind
+use Rattle.nm_proto.specs.declared.kind.ScenarioKind.TheVariants as kind
 use Rattle.nm_reading.specs.Reading.{here, required, object_at, only_known, list_at, some_of}
 use Rattle.nm_events.specs.Limits.{device_limit}
 use Rattle.nm_scenario.specs.declared.head.Form.TheVariants as form

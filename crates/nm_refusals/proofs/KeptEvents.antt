@@ -14,8 +14,9 @@ use Rattle.serde_json.specs.Find.{at}
 use Rattle.nm_proto.specs.declared.message.DefaultOperation.TheVariants.{Merge}
 use Rattle.nm_proto.specs.declared.message.Request.{Request}
 use Rattle.nm_proto.specs.declared.message.Request.TheVariants.{OpenSession, Validate, Discard, GetConfig, CloseSession}
+use Rattle.nm_proto.specs.declared.message.RequestWord.TheVariants as word
 use Rattle.nm_proto.specs.declared.plan.Event.TheVariants.{Submit, Turn, Deliver, Answer, Leave, Round}
-use Rattle.nm_reading.specs.declared.fault.ScenarioKind.TheVariants as kind
+use Rattle.nm_proto.specs.declared.kind.ScenarioKind.TheVariants as kind
 use Rattle.nm_reading.specs.declared.fault.Step.TheVariants.{Item}
 use Rattle.nm_reading.specs.declared.fault.Fault.{Fault}
 use Rattle.nm_reading.specs.Reading.{there, under, required, optional, object_at, only_known, items_after}
@@ -25,7 +26,7 @@ use Rattle.nm_events.specs.declared.event.ReadRequest.TheVariants.{Known, WithEd
 use Rattle.nm_events.specs.declared.event.ReadEvent.{ReadEvent}
 use Rattle.nm_events.specs.declared.event.ReadEvent.TheVariants.{Other, Asked}
 use Rattle.nm_events.specs.Limits.{device_limit, change_limit, operator_limit, event_limit, turn_limit}
-use Rattle.nm_events.specs.Requests.{default_at, store_at, alone, lock_at, unlock_at, knows_asked_edit, asked_edit_at, edit_request_at, has_mark_at, plain_commit, commit_at, request_by_word, request_at}
+use Rattle.nm_events.specs.Requests.{asks, default_at, store_at, alone, lock_at, unlock_at, knows_asked_edit, asked_edit_at, edit_request_at, has_mark_at, plain_commit, commit_at, request_by_word, request_at}
 use Rattle.nm_events.specs.Events.{is_within, submit_at, turn_at, deliver_at, answer_at, round_at, user_named, asked_at, asks_unbuilt, foreign_at, leave_at, is_unbuilt, other_event_at, by_word, event_at, elementary_of, elementary, elementary_total, events_at}
 use Rattle.nm_events.specs.Numbered.{numbered_event, edit_of_request, edit_of_event, events_from, edits_of_events}
 use Rattle.nm_refusals.specs.Kept.{IsWithin, EventKeeps, weight}
@@ -81,16 +82,16 @@ edit_request_good Q read s whole = then_good (counted 2 whole) _ (λ u e. part_g
 request_good : {E : Type 0} (Q : E → Type 0) (read : Data → Result E Fault) → ((child : Data) → IsGood Q (read child)) → (user : List ℕ) (whole : Data) → IsGood (EditsKeep Q) (request_by_word read user whole)
 unfolding request_by_word
 request_good Q read s user whole =
-    test_good (is_word whole (codes "open")) _ _ (λ h. alone_good Q (OpenSession user) whole)
-    (λ a. test_good (is_word whole (codes "lock")) _ _ (λ h. lock_good Q whole)
-    (λ b. test_good (is_word whole (codes "unlock")) _ _ (λ h. unlock_good Q whole)
-    (λ c. test_good (is_word whole (codes "edit")) _ _ (λ h. edit_request_good Q read s whole)
-    (λ d. test_good (is_word whole (codes "validate")) _ _ (λ h. alone_good Q Validate whole)
-    (λ f. test_good (is_word whole (codes "commit")) _ _ (λ h. commit_good Q whole)
-    (λ g. test_good (is_word whole (codes "discard")) _ _ (λ h. alone_good Q Discard whole)
-    (λ i. test_good (is_word whole (codes "has-mark")) _ _ (λ h. has_mark_good Q whole)
-    (λ j. test_good (is_word whole (codes "get-config")) _ _ (λ h. alone_good Q GetConfig whole)
-    (λ k. test_good (is_word whole (codes "close-session")) _ _ (λ h. alone_good Q CloseSession whole) (λ l. no_good _))))))))))
+    test_good (asks word.Open whole) _ _ (λ h. alone_good Q (OpenSession user) whole)
+    (λ a. test_good (asks word.Lock whole) _ _ (λ h. lock_good Q whole)
+    (λ b. test_good (asks word.Unlock whole) _ _ (λ h. unlock_good Q whole)
+    (λ c. test_good (asks word.Edit whole) _ _ (λ h. edit_request_good Q read s whole)
+    (λ d. test_good (asks word.Validate whole) _ _ (λ h. alone_good Q Validate whole)
+    (λ f. test_good (asks word.Commit whole) _ _ (λ h. commit_good Q whole)
+    (λ g. test_good (asks word.Discard whole) _ _ (λ h. alone_good Q Discard whole)
+    (λ i. test_good (asks word.HasMark whole) _ _ (λ h. has_mark_good Q whole)
+    (λ j. test_good (asks word.GetConfig whole) _ _ (λ h. alone_good Q GetConfig whole)
+    (λ k. test_good (asks word.CloseSession whole) _ _ (λ h. alone_good Q CloseSession whole) (λ l. no_good _))))))))))
 
 asked_request_good : {E : Type 0} (Q : E → Type 0) (read : Data → Result E Fault) → ((child : Data) → IsGood Q (read child)) → (user : List ℕ) (whole : Data) → IsGood (EditsKeep Q) (request_at read user whole)
 unfolding request_at

@@ -11,6 +11,7 @@ use Rattle.std.proofs.lemmas.Cmp.{nat_cmp_total}
 use Rattle.std.proofs.lemmas.List.Elements.{All-nil, All-cons, All-append, All-head, All-tail}
 use Rattle.serde_json.specs.Data.{Data, null, boolean, number, string, array, object, Members, no_members, member}
 use Rattle.serde_json.specs.Find.{as_str}
+use Rattle.nm_base.specs.Words.{default_timeout, manager}
 use Rattle.nm_proto.specs.declared.message.DefaultOperation.TheVariants.{Merge}
 use Rattle.nm_proto.specs.Content.{Refusal}
 use Rattle.nm_proto.specs.Flat.{FlatState, flat_violation}
@@ -21,7 +22,7 @@ use Rattle.nm_json.specs.declared.fault.JsonFault.{JsonFault}
 use Rattle.nm_json.specs.declared.fault.JsonFault.TheVariants.{NotJson, Bad, TooManyRows, NoMemory}
 use Rattle.nm_json.specs.Findings.{whole_found}
 use Rattle.nm_json.specs.Whole.{config_read, answered, least_of, faults_found, rows_of}
-use Rattle.nm_reading.specs.declared.fault.ScenarioKind.TheVariants as kind
+use Rattle.nm_proto.specs.declared.kind.ScenarioKind.TheVariants as kind
 use Rattle.nm_reading.specs.declared.fault.Fault.{Fault}
 use Rattle.nm_reading.specs.Reading.{◌>>=◌, here, required, optional, object_at, only_known, list_at, natural_of, in_range, number_within, some_of, empty_list_at}
 use Rattle.nm_events.specs.Limits.{device_limit, change_limit, operator_limit}
@@ -264,11 +265,11 @@ unfolding change_at
 change_good states (other ∷ others) part = no_good _
 change_good states [] part =
     then_good (object_at part) _
-    (λ u o. then_good (optional (codes "timeout") 600 (number_within 1 (2 ^ 32 - 1)) part) _
+    (λ u o. then_good (optional (codes "timeout") default_timeout (number_within 1 (2 ^ 32 - 1)) part) _
     (λ timeout e. then_good (required (codes "edits") (entries_at states) part) _
     (λ edits f. then_good (only_known knows_change part) _
-    (λ k g. let in_timeout : IsGood (IsWithin 1 (2 ^ 32 - 1)) (optional (codes "timeout") 600 (number_within 1 (2 ^ 32 - 1)) part) =
-    optional_good (codes "timeout") 600 (number_within 1 (2 ^ 32 - 1)) part (omega arith, omega arith) timeout_good in
+    (λ k g. let in_timeout : IsGood (IsWithin 1 (2 ^ 32 - 1)) (optional (codes "timeout") default_timeout (number_within 1 (2 ^ 32 - 1)) part) =
+    optional_good (codes "timeout") default_timeout (number_within 1 (2 ^ 32 - 1)) part (omega arith, omega arith) timeout_good in
     let in_edits : IsGood (λ es. EntriesKeep (length states) es × (1 ≤ length es)) (required (codes "edits") (entries_at states) part) = required_good (codes "edits") (entries_at states) part (entries_good states) in
     let is : EntriesKeep (length states) edits × (1 ≤ length edits) = in_edits.so edits f in
     good (ReadKeeps (length states)) (record { timeout = timeout; edits = edits }) (record { timeout = in_timeout.so timeout e; entries = is.0; some = is.1 })))))
@@ -318,7 +319,7 @@ edits_keep count (c ∷ cs) k =
 user_or_good : (name : Option (List ℕ)) → IsGood UserKeeps (user_of name)
 user_or_good None = no_good _
 user_or_good (Some name) =
-    test_good (bytes_eq name (codes "netm")) (here kind.BadValue) (if nat_le 1 (length name) && nat_le (length name) user_limit then Ok name else here kind.BadValue) (λ hold. no_good _)
+    test_good (bytes_eq name manager) (here kind.BadValue) (if nat_le 1 (length name) && nat_le (length name) user_limit then Ok name else here kind.BadValue) (λ hold. no_good _)
     (λ fail. test_good (nat_le 1 (length name) && nat_le (length name) user_limit) (Ok name) (here kind.BadValue)
     (λ hold. good UserKeeps name (ap (λ b. not b && (nat_le 1 (length name) && nat_le (length name) user_limit)) fail ∙ hold)) (λ long. no_good _))
 

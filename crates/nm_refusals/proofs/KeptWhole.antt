@@ -10,7 +10,7 @@ use Rattle.nm_tree.specs.Nodes.{SchemaTree}
 use Rattle.nm_config.specs.Rows.{Rows}
 use Rattle.nm_flaws.specs.declared.fault.Fault.{Fault as SchemaFault}
 use Rattle.nm_flaws.specs.declared.fault.Fault.TheVariants.{Flawed, TooLarge}
-use Rattle.nm_reading.specs.declared.fault.ScenarioKind.TheVariants as kind
+use Rattle.nm_proto.specs.declared.kind.ScenarioKind.TheVariants as kind
 use Rattle.nm_reading.specs.declared.fault.Fault.{Fault}
 use Rattle.nm_reading.specs.Reading.{here, required, optional, object_at, number_within, only_known, empty_list_at, off_at, switch_at, unbuilt_at}
 use Rattle.nm_events.specs.Limits.{change_limit, operator_limit}

@@ -10,8 +10,8 @@ use Rattle.std.proofs.lemmas.Slice.Eq.{bytes_eq-Decides}
 use Rattle.std.specs.Ordering.{is_eq, ordering_reverse}
 use Rattle.serde_json.specs.Data.{Data, null, boolean, number, string, array, object, Items, no_items, item, Members, no_members, member}
 use Rattle.serde_json.specs.Find.{get, get_member, get_item, at, as_object}
-use Rattle.nm_reading.specs.declared.fault.ScenarioKind.{ScenarioKind}
-use Rattle.nm_reading.specs.declared.fault.ScenarioKind.TheVariants as kind
+use Rattle.nm_proto.specs.declared.kind.ScenarioKind.{ScenarioKind}
+use Rattle.nm_proto.specs.declared.kind.ScenarioKind.TheVariants as kind
 use Rattle.nm_reading.specs.declared.fault.Step.{Step}
 use Rattle.nm_reading.specs.declared.fault.Step.TheVariants.{Name, Item}
 use Rattle.nm_reading.specs.declared.fault.Fault.{Fault}

@@ -9,8 +9,10 @@ use Rattle.nm_proto.specs.declared.message.DefaultOperation.TheVariants.{Merge}
 use Rattle.nm_proto.specs.declared.message.Store.TheVariants.{Running, Candidate}
 use Rattle.nm_proto.specs.declared.message.Request.{Request}
 use Rattle.nm_proto.specs.declared.message.Request.TheVariants.{OpenSession, Validate, Discard, GetConfig, CloseSession}
-use Rattle.nm_reading.specs.declared.fault.ScenarioKind.{ScenarioKind}
-use Rattle.nm_reading.specs.declared.fault.ScenarioKind.TheVariants as kind
+use Rattle.nm_proto.specs.declared.message.RequestWord.TheVariants as word
+use Rattle.nm_proto.specs.Message.{word_text}
+use Rattle.nm_proto.specs.declared.kind.ScenarioKind.{ScenarioKind}
+use Rattle.nm_proto.specs.declared.kind.ScenarioKind.TheVariants as kind
 use Rattle.nm_reading.specs.declared.fault.Step.TheVariants.{Item}
 use Rattle.nm_reading.specs.declared.fault.Fault.{Fault}
 use Rattle.nm_reading.specs.Reading.{here, there, required, optional, object_at, only_known, natural_of, count_of}
@@ -19,7 +21,7 @@ use Rattle.nm_events.specs.declared.event.ReadRequest.{ReadRequest}
 use Rattle.nm_events.specs.declared.event.ReadRequest.TheVariants.{Known}
 use Rattle.nm_events.specs.Limits.{change_limit}
 use Rattle.nm_events.specs.Events.{is_within}
-use Rattle.nm_events.specs.Requests.{default_at, store_of, store_at, alone, lock_at, unlock_at, knows_asked_edit, asked_edit_at, edit_request_at, has_mark_at, plain_commit, commit_at, request_by_word, request_at}
+use Rattle.nm_events.specs.Requests.{asks, default_at, store_of, store_at, alone, lock_at, unlock_at, knows_asked_edit, asked_edit_at, edit_request_at, has_mark_at, plain_commit, commit_at, request_by_word, request_at}
 use Rattle.nm_refusals.specs.Roles as role
 use Rattle.nm_refusals.specs.Roles.{Role, Edits}
 use Rattle.nm_refusals.specs.Members as must
@@ -115,13 +117,13 @@ alone_so : {E : Type 0} (edits : Edits) (request : Request) (whole : Data) → T
 unfolding alone
 alone_so edits request whole takes = then_so (counted 1 whole) _ (counted_so (role.request edits) whole 1 takes) (λ u e. is_read (Known request))
 
-lock_so : {E : Type 0} (edits : Edits) (whole : Data) → is_word whole (codes "lock") ≡ true → IsSound {A = ReadRequest E} (Told (role.request edits) whole) (lock_at whole)
+lock_so : {E : Type 0} (edits : Edits) (whole : Data) → asks word.Lock whole ≡ true → IsSound {A = ReadRequest E} (Told (role.request edits) whole) (lock_at whole)
 unfolding lock_at
 lock_so edits whole is =
     then_so (counted 2 whole) _ (counted_so (role.request edits) whole 2 (takes.lock is))
     (λ u e. then_so (part_in 1 store_at whole) _ (part_so (role.request edits) whole 1 role.store store_at (step.locked is) (omega (arith, counted_is 2 whole u e)) store_so) (λ store f. is_read _))
 
-unlock_so : {E : Type 0} (edits : Edits) (whole : Data) → is_word whole (codes "unlock") ≡ true → IsSound {A = ReadRequest E} (Told (role.request edits) whole) (unlock_at whole)
+unlock_so : {E : Type 0} (edits : Edits) (whole : Data) → asks word.Unlock whole ≡ true → IsSound {A = ReadRequest E} (Told (role.request edits) whole) (unlock_at whole)
 unfolding unlock_at
 unlock_so edits whole is =
     then_so (counted 2 whole) _ (counted_so (role.request edits) whole 2 (takes.unlock is))
@@ -136,20 +138,20 @@ asked_so edits read s part =
     (required_so (role.asked_edit edits) part (codes "edit") (role.edit edits) read (object_is part u o) must.edit_asked step.edit_asked (λ child f. s child))
     (λ edit f. then_so (only_known knows_asked_edit part) _ (known_so (role.asked_edit edits) part (object_is part u o)) (λ k g. is_read _))))
 
-edit_request_so : {E : Type 0} (edits : Edits) (read : Data → Result E Fault) → ((child : Data) → IsSound (Told (role.edit edits) child) (read child)) → (whole : Data) → is_word whole (codes "edit") ≡ true
+edit_request_so : {E : Type 0} (edits : Edits) (read : Data → Result E Fault) → ((child : Data) → IsSound (Told (role.edit edits) child) (read child)) → (whole : Data) → asks word.Edit whole ≡ true
     → IsSound (Told (role.request edits) whole) (edit_request_at read whole)
 unfolding edit_request_at
 edit_request_so edits read s whole is =
     then_so (counted 2 whole) _ (counted_so (role.request edits) whole 2 (takes.edit is))
     (λ u e. part_so (role.request edits) whole 1 (role.asked_edit edits) (asked_edit_at read) (step.edit_request is) (omega (arith, counted_is 2 whole u e)) (asked_so edits read s))
 
-has_mark_so : {E : Type 0} (edits : Edits) (whole : Data) → is_word whole (codes "has-mark") ≡ true → IsSound {A = ReadRequest E} (Told (role.request edits) whole) (has_mark_at whole)
+has_mark_so : {E : Type 0} (edits : Edits) (whole : Data) → asks word.HasMark whole ≡ true → IsSound {A = ReadRequest E} (Told (role.request edits) whole) (has_mark_at whole)
 unfolding has_mark_at
 has_mark_so edits whole is =
     then_so (counted 2 whole) _ (counted_so (role.request edits) whole 2 (takes.has_mark is))
     (λ u e. then_so (argument 1 1 change_limit whole) _ (argument_so (role.request edits) whole 1 1 change_limit (step.mark is) (omega (arith, counted_is 2 whole u e))) (λ change f. is_read _))
 
-argument_there : {A : Type 0} (edits : Edits) (whole : Data) → is_word whole (codes "commit") ≡ true → item_count whole ≡ 2 → (child : Option Data) → at 1 whole ≡ child
+argument_there : {A : Type 0} (edits : Edits) (whole : Data) → asks word.Commit whole ≡ true → item_count whole ≡ 2 → (child : Option Data) → at 1 whole ≡ child
     → IsSound {A = A} (Told (role.request edits) whole) (there kind.BadValue (Item 1))
 argument_there edits whole is two None e = absurd (at_there whole 1 (omega (arith, two)) e)
 argument_there edits whole is two (Some child) e = there_so (role.request edits) whole 1 role.no_argument child (step.commit_argument is) e kind.BadValue (wrong kind.BadValue extra)
@@ -157,7 +159,7 @@ argument_there edits whole is two (Some child) e = there_so (role.request edits)
 counts_so : (a b : ℕ) → (a == b) ≡ true → a ≡ b
 counts_so a b e = grind (arith, nat_tests)
 
-commit_so : {E : Type 0} (edits : Edits) (whole : Data) → is_word whole (codes "commit") ≡ true → IsSound {A = ReadRequest E} (Told (role.request edits) whole) (commit_at whole)
+commit_so : {E : Type 0} (edits : Edits) (whole : Data) → asks word.Commit whole ≡ true → IsSound {A = ReadRequest E} (Told (role.request edits) whole) (commit_at whole)
 unfolding commit_at
 commit_so edits whole is =
     by_test (item_count whole == 1) (Ok (Known plain_commit)) (if item_count whole == 2 then there kind.BadValue (Item 1) else here kind.BadValue) (λ hold. is_read (Known plain_commit))
@@ -174,28 +176,28 @@ pub begun_is : (first : Option Data) (u : Unit {0}) → begun first ≡ Ok u →
 begun_is None u e = absurd (cc)
 begun_is (Some child) u e = (child, refl)
 
-other_word : (edits : Edits) (whole first : Data) → at 0 whole ≡ Some first → is_word whole (codes "open") ≡ false → is_word whole (codes "lock") ≡ false → is_word whole (codes "unlock") ≡ false → is_word whole (codes "edit") ≡ false
-    → is_word whole (codes "validate") ≡ false → is_word whole (codes "commit") ≡ false → is_word whole (codes "discard") ≡ false → is_word whole (codes "has-mark") ≡ false → is_word whole (codes "get-config") ≡ false
-    → is_word whole (codes "close-session") ≡ false → is_request_word first ≡ false
+other_word : (edits : Edits) (whole first : Data) → at 0 whole ≡ Some first → asks word.Open whole ≡ false → asks word.Lock whole ≡ false → asks word.Unlock whole ≡ false → asks word.Edit whole ≡ false
+    → asks word.Validate whole ≡ false → asks word.Commit whole ≡ false → asks word.Discard whole ≡ false → asks word.HasMark whole ≡ false → asks word.GetConfig whole ≡ false
+    → asks word.CloseSession whole ≡ false → is_request_word first ≡ false
 other_word edits whole first e a b c d f g h i j k =
     let says_no = λ (word : List ℕ) (n : is_word whole word ≡ false). sym (word_is whole first word e) ∙ n in
-    or_so _ _ (or_so _ _ (or_so _ _ (or_so _ _ (or_so _ _ (or_so _ _ (or_so _ _ (or_so _ _ (or_so _ _ (says_no (codes "open") a) (says_no (codes "lock") b)) (says_no (codes "unlock") c)) (says_no (codes "edit") d))
-    (says_no (codes "validate") f)) (says_no (codes "commit") g)) (says_no (codes "discard") h)) (says_no (codes "has-mark") i)) (says_no (codes "get-config") j)) (says_no (codes "close-session") k)
+    or_so _ _ (or_so _ _ (or_so _ _ (or_so _ _ (or_so _ _ (or_so _ _ (or_so _ _ (or_so _ _ (or_so _ _ (says_no (word_text word.Open) a) (says_no (word_text word.Lock) b)) (says_no (word_text word.Unlock) c)) (says_no (word_text word.Edit) d))
+    (says_no (word_text word.Validate) f)) (says_no (word_text word.Commit) g)) (says_no (word_text word.Discard) h)) (says_no (word_text word.HasMark) i)) (says_no (word_text word.GetConfig) j)) (says_no (word_text word.CloseSession) k)
 
 by_word_so : {E : Type 0} (edits : Edits) (read : Data → Result E Fault) → ((child : Data) → IsSound (Told (role.edit edits) child) (read child)) → (user : List ℕ) (whole first : Data) → at 0 whole ≡ Some first
     → IsSound (Told (role.request edits) whole) (request_by_word read user whole)
 unfolding request_by_word
 by_word_so edits read s user whole first e =
-    by_test (is_word whole (codes "open")) _ _ (λ h. alone_so edits (OpenSession user) whole (takes.open_session h))
-    (λ a. by_test (is_word whole (codes "lock")) _ _ (λ h. lock_so edits whole h)
-    (λ b. by_test (is_word whole (codes "unlock")) _ _ (λ h. unlock_so edits whole h)
-    (λ c. by_test (is_word whole (codes "edit")) _ _ (λ h. edit_request_so edits read s whole h)
-    (λ d. by_test (is_word whole (codes "validate")) _ _ (λ h. alone_so edits Validate whole (takes.validate h))
-    (λ f. by_test (is_word whole (codes "commit")) _ _ (λ h. commit_so edits whole h)
-    (λ g. by_test (is_word whole (codes "discard")) _ _ (λ h. alone_so edits Discard whole (takes.discard h))
-    (λ i. by_test (is_word whole (codes "has-mark")) _ _ (λ h. has_mark_so edits whole h)
-    (λ j. by_test (is_word whole (codes "get-config")) _ _ (λ h. alone_so edits GetConfig whole (takes.get_config h))
-    (λ k. by_test (is_word whole (codes "close-session")) _ _ (λ h. alone_so edits CloseSession whole (takes.close_session h))
+    by_test (asks word.Open whole) _ _ (λ h. alone_so edits (OpenSession user) whole (takes.open_session h))
+    (λ a. by_test (asks word.Lock whole) _ _ (λ h. lock_so edits whole h)
+    (λ b. by_test (asks word.Unlock whole) _ _ (λ h. unlock_so edits whole h)
+    (λ c. by_test (asks word.Edit whole) _ _ (λ h. edit_request_so edits read s whole h)
+    (λ d. by_test (asks word.Validate whole) _ _ (λ h. alone_so edits Validate whole (takes.validate h))
+    (λ f. by_test (asks word.Commit whole) _ _ (λ h. commit_so edits whole h)
+    (λ g. by_test (asks word.Discard whole) _ _ (λ h. alone_so edits Discard whole (takes.discard h))
+    (λ i. by_test (asks word.HasMark whole) _ _ (λ h. has_mark_so edits whole h)
+    (λ j. by_test (asks word.GetConfig whole) _ _ (λ h. alone_so edits GetConfig whole (takes.get_config h))
+    (λ k. by_test (asks word.CloseSession whole) _ _ (λ h. alone_so edits CloseSession whole (takes.close_session h))
     (λ l. there_so (role.request edits) whole 0 role.request_word first step.request_of e kind.BadValue (wrong kind.BadValue (no_request (other_word edits whole first e a b c d f g i j k l)))))))))))))
 
 pub request_so : {E : Type 0} (edits : Edits) (read : Data → Result E Fault) → ((child : Data) → IsSound (Told (role.edit edits) child) (read child)) → (user : List ℕ) (whole : Data)

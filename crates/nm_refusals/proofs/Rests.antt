@@ -4,7 +4,8 @@ use Rattle.std.specs.Prelude.{if◌then◌else◌, ◌&&◌, ◌==◌, nat_le, n
 use Rattle.std.specs.Str.{bytes_eq}
 use Rattle.serde_json.specs.Data.{Data, null, boolean, number, string, array, object}
 use Rattle.serde_json.specs.Find.{get, as_bool, as_str}
-use Rattle.nm_reading.specs.declared.fault.ScenarioKind.TheVariants as kind
+use Rattle.nm_base.specs.Words.{manager}
+use Rattle.nm_proto.specs.declared.kind.ScenarioKind.TheVariants as kind
 use Rattle.nm_reading.specs.declared.fault.Step.TheVariants.{Name}
 use Rattle.nm_reading.specs.declared.fault.Fault.{Fault}
 use Rattle.nm_reading.specs.Reading.{here, under, required_from, required, optional_from, optional, object_at, only_known, count_of, some_of, empty_list_at, off_of, off_at, switch_of, switch_at, unbuilt_at}
@@ -29,7 +30,7 @@ use Rattle.nm_refusals.proofs.Events.{events_so}
 user_or : (part : Data) (name : Option (List ℕ)) → as_str part ≡ name → IsSound (Told role.user part) (user_of name)
 user_or part None e = wrong kind.BadValue (no_user (ap is_user e))
 user_or part (Some name) e =
-    by_test (bytes_eq name (codes "netm")) (here kind.BadValue) (if nat_le 1 (length name) && nat_le (length name) user_limit then Ok name else here kind.BadValue)
+    by_test (bytes_eq name manager) (here kind.BadValue) (if nat_le 1 (length name) && nat_le (length name) user_limit then Ok name else here kind.BadValue)
     (λ hold. wrong kind.BadValue (no_user (ap is_user e ∙ ap (λ b. not b && (nat_le 1 (length name) && nat_le (length name) user_limit)) hold)))
     (λ fail. by_test (nat_le 1 (length name) && nat_le (length name) user_limit) (Ok name) (here kind.BadValue) (λ hold. is_read name)
     (λ long. wrong kind.BadValue (no_user (ap is_user e ∙ (ap (λ b. not b && (nat_le 1 (length name) && nat_le (length name) user_limit)) fail ∙ long)))))

@@ -6,7 +6,7 @@ use Rattle.nm_proto.specs.declared.flat.FlatEdit.{FlatEdit}
 use Rattle.nm_proto.specs.declared.plan.ChangePlan.{ChangePlan}
 use Rattle.nm_proto.specs.declared.plan.PlannedEdit.{PlannedEdit}
 use Rattle.nm_proto.specs.declared.plan.Event.{Event}
-use Rattle.nm_proto.specs.declared.plan.Event.TheVariants.{Submit, Turn, Deliver, Answer, Foreign, Leave, Round}
+use Rattle.nm_proto.specs.declared.plan.Event.TheVariants.{Submit, Turn, Deliver, Answer, Break, Lose, Advance, Restart, Forget, Crash, Renew, Foreign, Leave, Round}
 use Rattle.nm_proto.specs.Flat.{FlatState, flat_violation}
 use Rattle.nm_config.specs.Rows.{Rows}
 use Rattle.nm_events.specs.Limits.{device_limit, change_limit, operator_limit, event_limit, turn_limit}
@@ -62,25 +62,27 @@ pub record ChangeKeeps (devices : ℕ) (change : ChangePlan) : Type 0 where
 
 -- ---- events
 
--- an event speaks of change sets, devices and operators that there are
+-- an event speaks of change sets, devices and operators that there are; links, replies and seconds may be any
 abbrev pub EventKeeps : ℕ → ℕ → ℕ → Event → Type 0
 EventKeeps changes devices operators (Submit change) = IsWithin 1 changes change
 EventKeeps changes devices operators (Turn change) = IsWithin 1 changes change
 EventKeeps changes devices operators (Deliver change device link) = IsWithin 1 changes change × IsWithin 1 devices device
 EventKeeps changes devices operators (Answer change device link number) = IsWithin 1 changes change × IsWithin 1 devices device
+EventKeeps changes devices operators (Break change device) = IsWithin 1 changes change × IsWithin 1 devices device
+EventKeeps changes devices operators (Lose change device link) = IsWithin 1 changes change × IsWithin 1 devices device
+EventKeeps changes devices operators (Advance device seconds) = IsWithin 1 devices device
+EventKeeps changes devices operators (Restart device) = IsWithin 1 devices device
+EventKeeps changes devices operators (Forget change) = IsWithin 1 changes change
+EventKeeps changes devices operators Crash = Unit {0}
+EventKeeps changes devices operators (Renew change device) = IsWithin 1 changes change × IsWithin 1 devices device
 EventKeeps changes devices operators (Foreign operator device request) = IsWithin 1 operators operator × IsWithin 1 devices device
 EventKeeps changes devices operators (Leave operator device) = IsWithin 1 operators operator × IsWithin 1 devices device
 EventKeeps changes devices operators (Round change turns) = IsWithin 1 changes change × IsWithin 1 turn_limit turns
 
 -- how many elementary events an event stands for: three for each turn of a round, else one
 abbrev pub weight : Event → ℕ
-weight (Submit change) = 1
-weight (Turn change) = 1
-weight (Deliver change device link) = 1
-weight (Answer change device link number) = 1
-weight (Foreign operator device request) = 1
-weight (Leave operator device) = 1
 weight (Round change turns) = 3 * turns
+weight _ = 1
 
 -- ---- the whole
 

@@ -2,6 +2,7 @@
 use Rattle.std.specs.Prelude.{◌≡◌, ℕ, zero, suc, ◌+◌, ◌-◌, ◌^◌, List, length, Bool, true, min, slice_get, Option, Some, None, option_and_then, unwrap_or, Ok, codes}
 use Rattle.serde_json.specs.Data.{Data}
 use Rattle.serde_json.specs.Find.{get, at}
+use Rattle.nm_proto.specs.declared.message.RequestWord.TheVariants as word
 use Rattle.nm_proto.specs.Flat.{FlatState}
 use Rattle.nm_tree.specs.Nodes.{SchemaTree}
 use Rattle.nm_reading.specs.declared.fault.Step.{Step}
@@ -9,6 +10,7 @@ use Rattle.nm_reading.specs.declared.fault.Step.TheVariants.{Name, Item}
 use Rattle.nm_reading.specs.Reading.{natural_of, required}
 use Rattle.nm_reading.specs.Words.{is_word, item_count}
 use Rattle.nm_events.specs.Limits.{device_limit, change_limit, operator_limit, turn_limit}
+use Rattle.nm_events.specs.Requests.{asks}
 use Rattle.nm_scenario.specs.Devices.{devices_at}
 use Rattle.nm_refusals.specs.Roles.{Contents, cells, data_of, Frame, unread, flat, yang, with_tree, Edits, flat_edits, no_edits, Counts, Role}
 use Rattle.nm_refusals.specs.Roles as role
@@ -95,7 +97,7 @@ pub data Below : Role → Data → Step → Role → Type 0 where
   script : {whole : Data} → Below role.operator whole (Name (codes "script")) role.nothing
   -- events
   one_event : {whole : Data} {n : ℕ} {edits : Edits} {counts : Counts} → Below (role.events edits counts) whole (Item n) (role.event edits counts)
-  word : {whole : Data} {edits : Edits} {counts : Counts} → Below (role.event edits counts) whole (Item 0) role.event_word
+  event_of : {whole : Data} {edits : Edits} {counts : Counts} → Below (role.event edits counts) whole (Item 0) role.event_word
   submitted : {whole : Data} {edits : Edits} {counts : Counts} → is_word whole (codes "submit") ≡ true → Below (role.event edits counts) whole (Item 1) (change_number counts)
   turned : {whole : Data} {edits : Edits} {counts : Counts} → is_word whole (codes "turn") ≡ true → Below (role.event edits counts) whole (Item 1) (change_number counts)
   delivered : {whole : Data} {edits : Edits} {counts : Counts} → is_word whole (codes "deliver") ≡ true → Below (role.event edits counts) whole (Item 1) (change_number counts)
@@ -114,10 +116,10 @@ pub data Below : Role → Data → Step → Role → Type 0 where
   asked : {whole : Data} {edits : Edits} {counts : Counts} → is_word whole (codes "foreign") ≡ true → Below (role.event edits counts) whole (Item 3) (role.request edits)
   -- requests
   request_of : {whole : Data} {edits : Edits} → Below (role.request edits) whole (Item 0) role.request_word
-  locked : {whole : Data} {edits : Edits} → is_word whole (codes "lock") ≡ true → Below (role.request edits) whole (Item 1) role.store
-  unlocked : {whole : Data} {edits : Edits} → is_word whole (codes "unlock") ≡ true → Below (role.request edits) whole (Item 1) role.store
-  edit_request : {whole : Data} {edits : Edits} → is_word whole (codes "edit") ≡ true → Below (role.request edits) whole (Item 1) (role.asked_edit edits)
-  mark : {whole : Data} {edits : Edits} → is_word whole (codes "has-mark") ≡ true → Below (role.request edits) whole (Item 1) (role.number 1 change_limit)
-  commit_argument : {whole : Data} {edits : Edits} → is_word whole (codes "commit") ≡ true → Below (role.request edits) whole (Item 1) role.no_argument
+  locked : {whole : Data} {edits : Edits} → asks word.Lock whole ≡ true → Below (role.request edits) whole (Item 1) role.store
+  unlocked : {whole : Data} {edits : Edits} → asks word.Unlock whole ≡ true → Below (role.request edits) whole (Item 1) role.store
+  edit_request : {whole : Data} {edits : Edits} → asks word.Edit whole ≡ true → Below (role.request edits) whole (Item 1) (role.asked_edit edits)
+  mark : {whole : Data} {edits : Edits} → asks word.HasMark whole ≡ true → Below (role.request edits) whole (Item 1) (role.number 1 change_limit)
+  commit_argument : {whole : Data} {edits : Edits} → asks word.Commit whole ≡ true → Below (role.request edits) whole (Item 1) role.no_argument
   default_asked : {whole : Data} {edits : Edits} → Below (role.asked_edit edits) whole (Name (codes "default")) role.operation
   edit_asked : {whole : Data} {edits : Edits} → Below (role.asked_edit edits) whole (Name (codes "edit")) (role.edit edits)

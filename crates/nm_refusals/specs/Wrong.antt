@@ -5,20 +5,24 @@ use Rattle.std.specs.Ordering.{nat_cmp}
 use Rattle.std.specs.FinMap.{FinMap, empty}
 use Rattle.serde_json.specs.Data.{Data, Items, Members, no_members, member}
 use Rattle.serde_json.specs.Find.{at, as_bool, as_str, as_array, as_object}
+use Rattle.nm_base.specs.Words.{manager}
 use Rattle.nm_yang.specs.Module.{reading}
 use Rattle.nm_yang.specs.declared.fault.Fault.{Fault as TextFault}
 use Rattle.nm_proto.specs.declared.flat.FlatEdit.{FlatEdit}
+use Rattle.nm_proto.specs.declared.message.RequestWord.TheVariants as word
+use Rattle.nm_proto.specs.Message.{word_text}
 use Rattle.nm_proto.specs.Content.{Refusal}
 use Rattle.nm_proto.specs.Flat.{FlatState, flat_violation}
 use Rattle.nm_tree.specs.Nodes.{SchemaTree}
 use Rattle.nm_json.specs.declared.fault.JsonKind.{JsonKind}
 use Rattle.nm_json.specs.declared.fault.JsonFault.TheVariants.{Bad, TooManyRows}
 use Rattle.nm_json.specs.Whole.{config_read}
-use Rattle.nm_reading.specs.declared.fault.ScenarioKind.{ScenarioKind}
-use Rattle.nm_reading.specs.declared.fault.ScenarioKind.TheVariants as kind
+use Rattle.nm_proto.specs.declared.kind.ScenarioKind.{ScenarioKind}
+use Rattle.nm_proto.specs.declared.kind.ScenarioKind.TheVariants as kind
 use Rattle.nm_reading.specs.Reading.{natural_of}
 use Rattle.nm_reading.specs.Words.{is_word, item_count}
 use Rattle.nm_events.specs.Limits.{device_limit, change_limit, operator_limit, event_limit}
+use Rattle.nm_events.specs.Requests.{asks}
 use Rattle.nm_events.specs.Events.{is_within, is_unbuilt, asks_unbuilt, elementary_total}
 use Rattle.nm_scenario.specs.Flat.{row_limit, node_limit, key_of, member_count, change_of, cells_at, flat_edit_at}
 use Rattle.nm_scenario.specs.Head.{module_limit}
@@ -88,12 +92,12 @@ is_flat_edit_role _ = false
 
 -- a part is a text that is this word
 abbrev pub says : Data → List ℕ → Bool
-says part word = bytes_eq (unwrap_or (as_str part) []) word
+says part text = bytes_eq (unwrap_or (as_str part) []) text
 
 -- a name that a user may have: one to 64 bytes, and not the manager's
 abbrev pub is_user : Option (List ℕ) → Bool
 is_user None = false
-is_user (Some name) = not (bytes_eq name (codes "netm")) && (nat_le 1 (length name) && nat_le (length name) user_limit)
+is_user (Some name) = not (bytes_eq name manager) && (nat_le 1 (length name) && nat_le (length name) user_limit)
 
 -- the word of a form of contents
 abbrev pub is_form : Data → Bool
@@ -116,8 +120,9 @@ is_event_word part =
 -- the words of requests that are built
 abbrev pub is_request_word : Data → Bool
 is_request_word part =
-    says part (codes "open") || says part (codes "lock") || says part (codes "unlock") || says part (codes "edit") || says part (codes "validate") || says part (codes "commit")
-    || says part (codes "discard") || says part (codes "has-mark") || says part (codes "get-config") || says part (codes "close-session")
+    says part (word_text word.Open) || says part (word_text word.Lock) || says part (word_text word.Unlock) || says part (word_text word.Edit)
+    || says part (word_text word.Validate) || says part (word_text word.Commit) || says part (word_text word.Discard) || says part (word_text word.HasMark)
+    || says part (word_text word.GetConfig) || says part (word_text word.CloseSession)
 
 -- how many items a list of a role has by its word, the word included
 pub data Takes : Role → Data → ℕ → Type 0 where
@@ -128,16 +133,16 @@ pub data Takes : Role → Data → ℕ → Type 0 where
   foreign : {whole : Data} {edits : Edits} {counts : Counts} → is_word whole (codes "foreign") ≡ true → Takes (role.event edits counts) whole 4
   leave : {whole : Data} {edits : Edits} {counts : Counts} → is_word whole (codes "leave") ≡ true → Takes (role.event edits counts) whole 3
   round : {whole : Data} {edits : Edits} {counts : Counts} → is_word whole (codes "round") ≡ true → Takes (role.event edits counts) whole 3
-  open_session : {whole : Data} {edits : Edits} → is_word whole (codes "open") ≡ true → Takes (role.request edits) whole 1
-  lock : {whole : Data} {edits : Edits} → is_word whole (codes "lock") ≡ true → Takes (role.request edits) whole 2
-  unlock : {whole : Data} {edits : Edits} → is_word whole (codes "unlock") ≡ true → Takes (role.request edits) whole 2
-  edit : {whole : Data} {edits : Edits} → is_word whole (codes "edit") ≡ true → Takes (role.request edits) whole 2
-  validate : {whole : Data} {edits : Edits} → is_word whole (codes "validate") ≡ true → Takes (role.request edits) whole 1
-  commit : {whole : Data} {edits : Edits} → is_word whole (codes "commit") ≡ true → Takes (role.request edits) whole 1
-  discard : {whole : Data} {edits : Edits} → is_word whole (codes "discard") ≡ true → Takes (role.request edits) whole 1
-  has_mark : {whole : Data} {edits : Edits} → is_word whole (codes "has-mark") ≡ true → Takes (role.request edits) whole 2
-  get_config : {whole : Data} {edits : Edits} → is_word whole (codes "get-config") ≡ true → Takes (role.request edits) whole 1
-  close_session : {whole : Data} {edits : Edits} → is_word whole (codes "close-session") ≡ true → Takes (role.request edits) whole 1
+  open_session : {whole : Data} {edits : Edits} → asks word.Open whole ≡ true → Takes (role.request edits) whole 1
+  lock : {whole : Data} {edits : Edits} → asks word.Lock whole ≡ true → Takes (role.request edits) whole 2
+  unlock : {whole : Data} {edits : Edits} → asks word.Unlock whole ≡ true → Takes (role.request edits) whole 2
+  edit : {whole : Data} {edits : Edits} → asks word.Edit whole ≡ true → Takes (role.request edits) whole 2
+  validate : {whole : Data} {edits : Edits} → asks word.Validate whole ≡ true → Takes (role.request edits) whole 1
+  commit : {whole : Data} {edits : Edits} → asks word.Commit whole ≡ true → Takes (role.request edits) whole 1
+  discard : {whole : Data} {edits : Edits} → asks word.Discard whole ≡ true → Takes (role.request edits) whole 1
+  has_mark : {whole : Data} {edits : Edits} → asks word.HasMark whole ≡ true → Takes (role.request edits) whole 2
+  get_config : {whole : Data} {edits : Edits} → asks word.GetConfig whole ≡ true → Takes (role.request edits) whole 1
+  close_session : {whole : Data} {edits : Edits} → asks word.CloseSession whole ≡ true → Takes (role.request edits) whole 1
 
 -- ---- flat configurations and edits
 

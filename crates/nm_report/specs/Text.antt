@@ -4,12 +4,12 @@ use Rattle.std.specs.List.{flat_map}
 use Rattle.nm_world.specs.declared.outcome.Outcome.{Outcome}
 use Rattle.nm_world.specs.declared.outcome.Outcome.TheVariants.{Never, Pending, Confirmed, Undone}
 use Rattle.nm_world.specs.declared.course.Course.{Course}
-use Rattle.nm_world.specs.declared.course.Entry.{Entry}
+use Rattle.nm_proto.specs.declared.journal.Entry.{Entry}
 use Rattle.nm_report.specs.declared.report.DeviceReport.{DeviceReport}
 use Rattle.nm_world.specs.Course.{is_submitted, is_decided, is_ended}
 use Rattle.nm_world.specs.World.{WorldState}
 use Rattle.nm_device.specs.History.{RecordedState}
-use Rattle.nm_world.specs.declared.happened.Happened.{Happened}
+use Rattle.nm_world.specs.declared.happened.Passed.{Passed}
 use Rattle.nm_report.specs.Trace.{trace_text}
 use Rattle.nm_report.specs.Report.{reports_of, differing, unsettled}
 
@@ -69,11 +69,11 @@ pair_lines word change [] = word ++ codes " none\n"
 pair_lines word change (report ∷ reports) = flat_map (pair_line word change) (report ∷ reports)
 
 -- the beginning of a text: what came of each event, where that is asked for
-unfoldable pub start_text : Bool → List Happened → List ℕ
+unfoldable pub start_text : Bool → List Passed → List ℕ
 start_text trace trail = heading ++ trace_text trace trail
 
 -- what stands before the running configurations: then what the journal says of the change set, and its outcomes
-abbrev pub head_text : Bool → List Happened → ℕ → List Entry → List DeviceReport → List ℕ
+abbrev pub head_text : Bool → List Passed → ℕ → List Entry → List DeviceReport → List ℕ
 head_text trace trail change entries reports = start_text trace trail ++ change_line change entries ++ outcome_lines change reports
 
 -- the devices that differ and those that aren't settled
@@ -87,5 +87,5 @@ world_text shown trace course w =
     ++ pairs_text course.change (differing (is_decided w.entries) (reports_of course w)) (unsettled (is_submitted w.entries) (reports_of course w))
 
 -- the text of devices without a change set, and of what came of each event
-abbrev pub devices_text : {Config : Type 0} → (Config → List ℕ) → Bool → List Happened → List (RecordedState Config) → List ℕ
+abbrev pub devices_text : {Config : Type 0} → (Config → List ℕ) → Bool → List Passed → List (RecordedState Config) → List ℕ
 devices_text shown trace trail devices = start_text trace trail ++ running_lines shown 1 (running_of devices) ++ clean

@@ -5,36 +5,31 @@ use Rattle.nm_base.specs.Tag.{tag_text}
 use Rattle.nm_proto.specs.declared.message.Store.{Store}
 use Rattle.nm_proto.specs.declared.message.Store.TheVariants.{Running, Candidate}
 use Rattle.nm_proto.specs.declared.message.Request.{Request}
-use Rattle.nm_proto.specs.declared.message.Request.TheVariants.{OpenSession, Lock, Unlock, PartialLock, PartialUnlock, Edit, Validate, Commit, CancelCommit, Discard, HasMark, GetConfig, Kill, CloseSession}
+use Rattle.nm_proto.specs.declared.message.Request.TheVariants.{Lock, Unlock}
+use Rattle.nm_proto.specs.Message.{word_of, word_text}
 use Rattle.nm_proto.specs.declared.message.Reply.{Reply}
 use Rattle.nm_proto.specs.declared.message.Reply.TheVariants.{Done, Opened, LockId, Mark, Rows, Error}
 use Rattle.nm_proto.specs.declared.journal.AbortCause.{AbortCause}
-use Rattle.nm_proto.specs.declared.journal.AbortCause.TheVariants.{Refused, Broken, Forgotten}
+use Rattle.nm_proto.specs.declared.journal.AbortCause.TheVariants.{Refused, Broken, Forgotten, Lapsed}
 use Rattle.nm_proto.specs.declared.journal.Verdict.{Verdict}
 use Rattle.nm_proto.specs.declared.journal.Verdict.TheVariants as verdict
 use Rattle.nm_world.specs.declared.happened.Happened.{Happened}
 use Rattle.nm_world.specs.declared.happened.Happened.TheVariants as happened
+use Rattle.nm_world.specs.declared.happened.Passed.{Passed}
 
 abbrev pub store_word : Store → List ℕ
 store_word Running = codes "running"
 store_word Candidate = codes "candidate"
 
+-- the datastore of a lock, behind its word
+abbrev pub store_text : Request → List ℕ
+store_text (Lock store) = codes " " ++ store_word store
+store_text (Unlock store) = codes " " ++ store_word store
+store_text _ = []
+
 -- the word of a request, and of a lock its datastore
 abbrev pub request_text : Request → List ℕ
-request_text (OpenSession user) = codes "open"
-request_text (Lock store) = codes "lock " ++ store_word store
-request_text (Unlock store) = codes "unlock " ++ store_word store
-request_text (PartialLock select) = codes "partial-lock"
-request_text (PartialUnlock id) = codes "partial-unlock"
-request_text (Edit edit operation marks) = codes "edit"
-request_text Validate = codes "validate"
-request_text (Commit confirmed timeout persist persist_id) = codes "commit"
-request_text (CancelCommit persist_id) = codes "cancel-commit"
-request_text Discard = codes "discard"
-request_text (HasMark change) = codes "has-mark"
-request_text GetConfig = codes "get-config"
-request_text (Kill session) = codes "kill"
-request_text CloseSession = codes "close-session"
+request_text request = word_text (word_of request) ++ store_text request
 
 abbrev pub session_text : Option ℕ → List ℕ
 session_text None = []
@@ -67,6 +62,7 @@ abbrev pub cause_text : AbortCause → List ℕ
 cause_text (Refused device tag) = refused_text device tag
 cause_text (Broken device) = codes "broken " ++ decimal device
 cause_text Forgotten = codes "forgotten"
+cause_text (Lapsed device) = codes "lapsed " ++ decimal device
 
 abbrev pub verdict_text : Verdict → List ℕ
 verdict_text verdict.Commit = codes "commit"
@@ -94,11 +90,11 @@ abbrev pub trace_line : ℕ → Happened → List ℕ
 trace_line number what = decimal number ++ codes " " ++ happened_text what ++ codes "\n"
 
 -- a line for each event, numbered from a number on
-abbrev pub trace_lines : ℕ → List Happened → List ℕ
+abbrev pub trace_lines : ℕ → List Passed → List ℕ
 trace_lines number [] = []
-trace_lines number (what ∷ trail) = trace_line number what ++ trace_lines (number + 1) trail
+trace_lines number (passed ∷ trail) = trace_line number passed.happened ++ trace_lines (number + 1) trail
 
 -- the lines, where they are asked for
-abbrev pub trace_text : Bool → List Happened → List ℕ
+abbrev pub trace_text : Bool → List Passed → List ℕ
 trace_text true trail = trace_lines 1 trail
 trace_text false trail = []

@@ -9,9 +9,9 @@ use crate::text::{HEADING, put, write_devices_running};
 use crate::trace::write_trace;
 use nm_base::{ChangeNo, NoMemory, write_decimal};
 use nm_device::Recorded;
-use nm_proto::Show;
+use nm_proto::{Entry, Show};
 use nm_world::course::{is_decided, is_ended, is_submitted};
-use nm_world::{Entry, Happened, Outcome, World};
+use nm_world::{Outcome, Passed, World};
 use std::alloc::Global;
 
 /// The line of a change set, with what the journal says of it.
@@ -132,7 +132,7 @@ pub fn write_pairs(
 
 // Appends the beginning of a text.
 #[tactic(auto, unfolding(crate::specs::Text::start_text))]
-fn put_start(out: &mut Vec<u8>, trace: bool, trail: &[Happened]) -> Result<(), NoMemory>
+fn put_start(out: &mut Vec<u8>, trace: bool, trail: &[Passed]) -> Result<(), NoMemory>
     ensures { OnOk result (out.new.items ≡ out.old.items ++ start_text trace trail.now) }
 {
     put(out, HEADING)?;
@@ -143,7 +143,7 @@ fn put_start(out: &mut Vec<u8>, trace: bool, trail: &[Happened]) -> Result<(), N
 fn put_head(
     out: &mut Vec<u8>,
     trace: bool,
-    trail: &[Happened],
+    trail: &[Passed],
     change: ChangeNo,
     entries: &[Entry],
     reports: &[DeviceReport],
@@ -203,7 +203,7 @@ pub fn write_devices<C: Show>(
     alloc: Global,
     content: &C,
     trace: bool,
-    trail: &[Happened],
+    trail: &[Passed],
     devices: &[Recorded<C>],
 ) -> Result<Vec<u8>, NoMemory>
     requires { All (IsSoundDevice (C.Content.meaning content.now)) devices.now }

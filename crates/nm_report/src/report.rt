@@ -43,7 +43,7 @@ fn report_at<C: Content>(
     ensures { result ≡ report_at token.now place link.now (option_copied device.entry) }
 {
     match device {
-        Some(device) if link.edit.is_some() => Some(DeviceReport::new(
+        Some(device) if link.is_member() => Some(DeviceReport::new(
             place as u64 + 1,
             link,
             outcome_of(token, device.history()),

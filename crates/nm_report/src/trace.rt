@@ -1,10 +1,12 @@
+//! What came of each event, as text.
+
 ghost use Rattle.std.specs.Prelude.{◌≡◌, ◌++◌, OnOk, decimal, codes};
-ghost use Rattle.nm_report.specs.Trace.{store_word, request_text, session_text, path_text, truth_text, error_text, reply_text, refused_text, cause_text, verdict_text, undone_text, sent_text, happened_text, trace_line, trace_lines, trace_text};
+ghost use Rattle.nm_report.specs.Trace.{store_word, store_text, request_text, session_text, path_text, truth_text, error_text, reply_text, refused_text, cause_text, verdict_text, undone_text, sent_text, happened_text, trace_line, trace_lines, trace_text};
 
 use crate::text::put;
 use nm_base::{DeviceNo, Label, NoMemory, Tag, write_decimal};
 use nm_proto::{AbortCause, Reply, Request, Store, Verdict};
-use nm_world::Happened;
+use nm_world::{Happened, Passed};
 
 fn store_word(store: Store) -> &'static str
     ensures { result.now ≡ store_word store }
@@ -15,32 +17,25 @@ fn store_word(store: Store) -> &'static str
     }
 }
 
+// The datastore of a lock, behind its word.
+fn write_store(out: &mut Vec<u8>, request: &Request) -> Result<(), NoMemory>
+    ensures { OnOk result (out.new.items ≡ out.old.items ++ store_text request.now) }
+{
+    match request {
+        Request::Lock { store } | Request::Unlock { store } => {
+            put(out, " ")?;
+            put(out, store_word(*store))
+        }
+        _ => Ok(()),
+    }
+}
+
 // The word of a request, and of a lock its datastore.
 fn write_request(out: &mut Vec<u8>, request: &Request) -> Result<(), NoMemory>
     ensures { OnOk result (out.new.items ≡ out.old.items ++ request_text request.now) }
 {
-    match request {
-        Request::OpenSession { .. } => put(out, "open"),
-        Request::Lock { store } => {
-            put(out, "lock ")?;
-            put(out, store_word(*store))
-        }
-        Request::Unlock { store } => {
-            put(out, "unlock ")?;
-            put(out, store_word(*store))
-        }
-        Request::PartialLock { .. } => put(out, "partial-lock"),
-        Request::PartialUnlock { .. } => put(out, "partial-unlock"),
-        Request::Edit { .. } => put(out, "edit"),
-        Request::Validate => put(out, "validate"),
-        Request::Commit { .. } => put(out, "commit"),
-        Request::CancelCommit { .. } => put(out, "cancel-commit"),
-        Request::Discard => put(out, "discard"),
-        Request::HasMark { .. } => put(out, "has-mark"),
-        Request::GetConfig => put(out, "get-config"),
-        Request::Kill { .. } => put(out, "kill"),
-        Request::CloseSession => put(out, "close-session"),
-    }
+    put(out, request.word().text())?;
+    write_store(out, request)
 }
 
 fn write_number(out: &mut Vec<u8>, word: &str, number: u32) -> Result<(), NoMemory>
@@ -128,6 +123,7 @@ fn write_cause(out: &mut Vec<u8>, cause: &AbortCause) -> Result<(), NoMemory>
         AbortCause::Refused { device, tag } => write_refused(out, *device, *tag),
         AbortCause::Broken { device } => { write_number(out, "broken ", u32::from(device.get())) }
         AbortCause::Forgotten => put(out, "forgotten"),
+        AbortCause::Lapsed { device } => { write_number(out, "lapsed ", u32::from(device.get())) }
     }
 }
 
@@ -206,17 +202,17 @@ fn write_trace_line(out: &mut Vec<u8>, number: u64, what: &Happened) -> Result<(
     put(out, "\n")
 }
 
-fn write_lines(out: &mut Vec<u8>, trail: &[Happened]) -> Result<(), NoMemory>
+fn write_lines(out: &mut Vec<u8>, trail: &[Passed]) -> Result<(), NoMemory>
     ensures { OnOk result (out.new.items ≡ out.old.items ++ trace_lines 1 trail.now) }
 {
-    for (place, what) in trail.iter().enumerate() {
-        write_trace_line(out, place as u64 + 1, what)?;
+    for (place, passed) in trail.iter().enumerate() {
+        write_trace_line(out, place as u64 + 1, &passed.happened)?;
     }
     Ok(())
 }
 
 /// A line for each event, where they are asked for.
-pub fn write_trace(out: &mut Vec<u8>, trace: bool, trail: &[Happened]) -> Result<(), NoMemory>
+pub fn write_trace(out: &mut Vec<u8>, trace: bool, trail: &[Passed]) -> Result<(), NoMemory>
     ensures { OnOk result (out.new.items ≡ out.old.items ++ trace_text trace trail.now) }
 {
     if trace {

@@ -4,7 +4,7 @@ use Rattle.std.specs.Str.{IsUtf8, is_utf8}
 use Rattle.std.proofs.lemmas.Str.{IsUtf8-from_is_utf8, is_utf8-from_IsUtf8}
 use Rattle.serde_json.specs.Data.{Data}
 use Rattle.serde_json.specs.Read.{read}
-use Rattle.nm_reading.specs.declared.fault.ScenarioKind.TheVariants.{NotJson}
+use Rattle.nm_proto.specs.declared.kind.ScenarioKind.TheVariants.{NotJson}
 use Rattle.nm_reading.specs.declared.fault.Fault.{Fault}
 use Rattle.nm_reading.specs.declared.fault.ReadError.{ReadError}
 use Rattle.nm_reading.specs.declared.fault.ReadError.TheVariants.{Bad}

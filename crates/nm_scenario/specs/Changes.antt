@@ -4,6 +4,7 @@ use Rattle.std.specs.Prelude.{ℕ, ◌+◌, ◌-◌, ◌^◌, List, [], ◌∷�
 use Rattle.std.specs.Str.{bytes_eq}
 use Rattle.std.specs.List.{flat_map}
 use Rattle.serde_json.specs.Data.{Data}
+use Rattle.nm_base.specs.Words.{default_timeout}
 use Rattle.nm_proto.specs.declared.message.DefaultOperation.TheVariants.{Merge}
 use Rattle.nm_proto.specs.declared.message.Marks.{Marks}
 use Rattle.nm_proto.specs.declared.flat.FlatEdit.{FlatEdit}
@@ -11,7 +12,7 @@ use Rattle.nm_proto.specs.declared.plan.ChangePlan.{ChangePlan}
 use Rattle.nm_proto.specs.declared.plan.PlannedEdit.{PlannedEdit}
 use Rattle.nm_proto.specs.Content.{Refusal}
 use Rattle.nm_proto.specs.Flat.{FlatState, flat_edited, flat_violation}
-use Rattle.nm_reading.specs.declared.fault.ScenarioKind.TheVariants.{NotBuilt}
+use Rattle.nm_proto.specs.declared.kind.ScenarioKind.TheVariants.{NotBuilt}
 use Rattle.nm_reading.specs.declared.fault.Fault.{Fault}
 use Rattle.nm_reading.specs.Reading.{◌>>=◌, here, required, optional, object_at, only_known, list_at, natural_of, in_range, number_within, some_of}
 use Rattle.nm_events.specs.Limits.{change_limit, device_limit}
@@ -77,7 +78,7 @@ unfoldable pub change_at : List FlatState → List ReadChange → Data → Resul
 change_at devices (other ∷ others) part = here NotBuilt
 change_at devices [] part = do
   whole ← object_at part
-  timeout ← optional (codes "timeout") 600 (number_within 1 (2 ^ 32 - 1)) part
+  timeout ← optional (codes "timeout") default_timeout (number_within 1 (2 ^ 32 - 1)) part
   edits ← required (codes "edits") (entries_at devices) part
   known ← only_known knows_change part
   Ok (record { timeout = timeout; edits = edits })

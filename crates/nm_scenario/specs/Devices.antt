@@ -10,7 +10,7 @@ use Rattle.nm_config.specs.Rows.{Rows}
 use Rattle.nm_json.specs.declared.fault.JsonFault.{JsonFault}
 use Rattle.nm_json.specs.declared.fault.JsonFault.TheVariants.{NotJson, Bad, TooManyRows, NoMemory}
 use Rattle.nm_json.specs.Whole.{config_read}
-use Rattle.nm_reading.specs.declared.fault.ScenarioKind.TheVariants.{TooMany, Content, Invalid}
+use Rattle.nm_proto.specs.declared.kind.ScenarioKind.TheVariants.{TooMany, Content, Invalid}
 use Rattle.nm_reading.specs.declared.fault.Fault.{Fault}
 use Rattle.nm_reading.specs.Reading.{◌>>=◌, here, required, object_at, only_known, list_at, some_of}
 use Rattle.nm_events.specs.Limits.{device_limit}

@@ -3,7 +3,8 @@ use Rattle.std.specs.Prelude.{ℕ, List, Bool, ◌&&◌, ◌||◌, ◌==◌, nat
 use Rattle.std.specs.Str.{bytes_eq}
 use Rattle.serde_json.specs.Data.{Data}
 use Rattle.serde_json.specs.Find.{as_str}
-use Rattle.nm_reading.specs.declared.fault.ScenarioKind.TheVariants.{NotBuilt, BadValue}
+use Rattle.nm_base.specs.Words.{manager}
+use Rattle.nm_proto.specs.declared.kind.ScenarioKind.TheVariants.{NotBuilt, BadValue}
 use Rattle.nm_reading.specs.declared.fault.Fault.{Fault}
 use Rattle.nm_reading.specs.Reading.{◌>>=◌, here, required, optional, object_at, only_known, list_at, empty_list_at}
 use Rattle.nm_events.specs.Limits.{operator_limit}
@@ -18,7 +19,7 @@ knows_operator name = bytes_eq name (codes "user") || bytes_eq name (codes "scri
 -- a user's name: a text that isn't empty, isn't too long and isn't the manager's own
 abbrev pub user_of : Option (List ℕ) → Result (List ℕ) Fault
 user_of None = here BadValue
-user_of (Some name) = if bytes_eq name (codes "netm") then here BadValue else (if nat_le 1 (length name) && nat_le (length name) user_limit then Ok name else here BadValue)
+user_of (Some name) = if bytes_eq name manager then here BadValue else (if nat_le 1 (length name) && nat_le (length name) user_limit then Ok name else here BadValue)
 
 unfoldable pub user_at : Data → Result (List ℕ) Fault
 user_at part = user_of (as_str part)

@@ -7,7 +7,7 @@ ghost use Rattle.nm_scenario.specs.Changes.{knows_change, knows_edit, last_devic
 
 use crate::flat::FlatEdits;
 use crate::scenario::{ReadChange, ReadEdit};
-use nm_base::{ChangeMask, ChangeNo, DeviceNo, NoMemory};
+use nm_base::{ChangeMask, ChangeNo, DEFAULT_TIMEOUT, DeviceNo, NoMemory};
 use nm_events::Operation;
 use nm_events::limits::{CHANGE_LIMIT, DEVICE_LIMIT};
 use nm_proto::{
@@ -22,9 +22,6 @@ use nm_reading::values::at_least_one;
 use nm_reading::{ReadError, ScenarioKind};
 use serde_json::Value;
 use std::alloc::Global;
-
-/// How long a confirmed commit waits where nothing else is said, in seconds (RFC 6241 section 8.4.5).
-pub const DEFAULT_TIMEOUT: u32 = 600;
 
 #[derive(Drop)]
 struct EditNames;

@@ -3,7 +3,7 @@ ghost use Rattle.serde_json.specs.View.{view};
 ghost use Rattle.nm_reading.specs.Reading.{Gives};
 ghost use Rattle.nm_scenario.specs.Operators.{knows_operator, user_of, user_at, operator_at, built_beside, operators_at};
 
-use nm_base::Label;
+use nm_base::{Label, MANAGER};
 use nm_events::limits::OPERATOR_LIMIT;
 use nm_proto::Listed;
 use nm_reading::reader::{
@@ -36,11 +36,11 @@ impl Reader for User {
     }
 }
 
-// The name `netm` is the manager's own.
+// The manager's name is no operator's.
 fn read_user(alloc: Global, name: &str) -> Result<Label, ReadError>
     ensures { Gives result (user_of (Some name.now)) }
 {
-    if name == "netm" {
+    if name == MANAGER {
         return fault_here(alloc, ScenarioKind::BadValue);
     }
     if 1 <= name.len() && name.len() <= USER_LIMIT {

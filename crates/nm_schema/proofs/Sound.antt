@@ -23,7 +23,8 @@ use Rattle.nm_flaws.specs.Facts.{Facts, AreFacts, definitions}
 use Rattle.nm_flaws.specs.Fault.{first_fault}
 use Rattle.nm_schema.specs.declared.fault.SchemaFault.{SchemaFault}
 use Rattle.nm_schema.specs.Node.{node_of, known_nodes, AreNodes}
-use Rattle.nm_schema.specs.Marker.{marker_name, change_type, changes_node, applied_node, change_node, marker_nodes}
+use Rattle.nm_base.specs.Words.{marker_name}
+use Rattle.nm_schema.specs.Marker.{change_type, changes_node, applied_node, change_node, marker_nodes}
 use Rattle.nm_schema.specs.Built.{is_unknown, first_unknown, first_ungrown, tree_of, outcome, built, AreBuilt, Builds, Answered}
 use Rattle.nm_schema.proofs.Elements.{here, later, nothing, first_or_later, in_range, finds_none}
 use Rattle.nm_schema.proofs.Faultless.{AreFaultless, within, faultless}

@@ -1,13 +1,10 @@
 -- The module that is added to those that are given: a mark for each change that was applied (this project's own).
 use Rattle.std.specs.Prelude.{ℕ, ◌+◌, pos, List, [], ◌∷◌, codes, Option, Some, None, false}
+use Rattle.nm_base.specs.Words.{marker_name}
 use Rattle.nm_types.specs.LeafType.{TypeOfLeaf, integer}
 use Rattle.nm_tree.specs.declared.node.Node.{Node}
 use Rattle.nm_tree.specs.declared.node.NodeKind.{NodeKind}
 use Rattle.nm_tree.specs.declared.node.NodeKind.TheVariants as kind
-
--- its name
-unfoldable pub marker_name : List ℕ
-marker_name = codes "netm-marker"
 
 -- the numbers of changes: `uint32` (RFC 7950 section 9.2)
 abbrev pub change_type : TypeOfLeaf

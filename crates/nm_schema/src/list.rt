@@ -6,12 +6,12 @@ ghost use Rattle.nm_shape.specs.Clash.{argument_at};
 ghost use Rattle.nm_schema.specs.Kind as spec;
 
 use crate::kind::{elements_of, is_filled};
-use nm_base::NoMemory;
+use nm_base::{Groups, NoMemory, Numbers};
 use nm_expansion::Instance;
 use nm_flaws::Grounds;
 use nm_grammar::Rows;
-use nm_keys::{Unique, Way};
-use nm_tree::{Groups, NodeKind, Numbers};
+use nm_keys::Unique;
+use nm_tree::NodeKind;
 use std::alloc::Global;
 
 // The argument of a row, and an empty text without one.
@@ -83,7 +83,7 @@ fn further(grounds: &Grounds<'_, '_>, number: Option<usize>, row: usize) -> Opti
 
 // The node that is reached from a node by the names of some rows.
 #[tactic(auto, unfolding(crate::specs::Kind::reached))]
-fn reached(grounds: &Grounds<'_, '_>, number: usize, way: &Way) -> Option<usize>
+fn reached(grounds: &Grounds<'_, '_>, number: usize, way: &Numbers) -> Option<usize>
     ensures { result ≡ spec.reached grounds.now.rows grounds.now.facts number way.now }
 {
     way.as_slice()

@@ -1,21 +1,20 @@
 //! The nodes of the module that is added to those that are given.
 
 ghost use Rattle.std.specs.Prelude.{◌≡◌, ◌++◌, ◌∷◌, [], ◌<◌, ◌^◌, length, IfOk, OnOk};
+ghost use Rattle.nm_base.specs.Words as words;
 ghost use Rattle.nm_schema.specs.Marker as spec;
 
-use nm_base::{Label, NoMemory};
-use nm_tree::{Elements, Groups, Node, NodeKind, Numbers, Schema, SharedType};
+use nm_base::{Groups, Label, MARKER, NoMemory, Numbers};
+use nm_tree::{Elements, Node, NodeKind, Schema, SharedType};
 use nm_types::{LeafType, TypeKind};
 use std::alloc::Global;
 
-const NAME: &str = "netm-marker";
-
 /// The name of the module.
-#[tactic(auto, unfolding(crate::specs::Marker::marker_name))]
+#[tactic(auto, unfolding(nm_base::specs::Words::marker_name))]
 pub(crate) fn marker_name(alloc: Global) -> Result<Label, NoMemory>
-    ensures { IfOk result (λ name. name ≡ spec.marker_name) }
+    ensures { IfOk result (λ name. name ≡ words.marker_name) }
 {
-    Label::new(alloc, NAME)
+    Label::new(alloc, MARKER)
 }
 
 // Container `changes`.

@@ -1,7 +1,7 @@
 use super::*;
-use nm_base::NoMemory;
+use nm_base::{NoMemory, Numbers};
 use nm_grammar::Flaw;
-use nm_tree::{Elements, Node, NodeKind, Numbers, Reference, Schema};
+use nm_tree::{Elements, Node, NodeKind, Reference, Schema};
 use nm_types::{LeafType, TypeKind, Value, write_value};
 use nm_yang::read_module;
 use std::alloc::{AllocError, Global};

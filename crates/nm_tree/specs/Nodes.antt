@@ -2,6 +2,7 @@
 use Rattle.std.specs.Prelude.{◌≡◌, ℕ, suc, ◌<◌, List, [], ◌∷◌, length, Bool, true, false, ◌==◌, ◌&&◌, Option, Some, None, if◌then◌else◌, slice_get, slice_set, ◌++◌}
 use Rattle.std.specs.List.{position_from, list_any}
 use Rattle.std.specs.Str.{bytes_eq}
+use Rattle.nm_base.specs.Numbers.{is_among}
 use Rattle.nm_types.specs.LeafType.{TypeOfLeaf}
 use Rattle.nm_tree.specs.declared.node.Node.{Node}
 use Rattle.nm_tree.specs.declared.node.NodeKind.{NodeKind}
@@ -87,9 +88,6 @@ parent_in (Some n) = n.parent
 -- the node that node i stands in
 abbrev pub parent_of : List Node → ℕ → Option ℕ
 parent_of nodes i = parent_in (slice_get nodes i)
-
-unfoldable pub is_among : ℕ → List ℕ → Bool
-is_among i is = list_any (λ j. j == i) is
 
 -- node i is a key of the list that it stands in (RFC 7950 section 7.8.2)
 abbrev pub is_key : List Node → ℕ → Bool

@@ -5,11 +5,9 @@
 #![tactic(auto)]
 
 mod level;
-pub mod lists;
 pub mod node;
 pub mod schema;
 
-pub use lists::{Groups, Numbers};
 pub use node::{Elements, Node, NodeKind, Reference, SharedType};
 pub use schema::Schema;
 

@@ -1,10 +1,10 @@
 //! The nodes of a schema tree.
 
 ghost use Rattle.std.specs.Prelude.{◌≡◌, IfOk, None, MatchOption, Some};
+ghost use Rattle.nm_base.specs.Numbers.{is_among};
 ghost use Rattle.nm_tree.specs.Nodes as spec;
 
-use crate::lists::{Groups, Numbers};
-use nm_base::{Label, NoMemory};
+use nm_base::{Groups, Label, NoMemory, Numbers};
 use nm_types::{LeafType, Value};
 use std::alloc::Global;
 use std::marker::Model;
@@ -125,9 +125,9 @@ impl Node {
     }
 
     /// Whether a node is among the keys of this one, which is a list.
-    #[tactic(auto, unfolding(crate::specs::Nodes::is_among))]
+    #[tactic(auto, unfolding(nm_base::specs::Numbers::is_among))]
     pub fn has_key(&self, at: usize) -> bool
-        ensures { result ≡ spec.is_among at (spec.keys_of self.now.kind) }
+        ensures { result ≡ is_among at (spec.keys_of self.now.kind) }
     {
         match &self.kind {
             NodeKind::List { keys, .. } => keys.contains(at),

@@ -6,9 +6,8 @@ ghost use Rattle.nm_tree.specs.Nodes as spec;
 ghost use Rattle.nm_tree.specs.Levels as level_spec;
 
 use crate::level::Level;
-use crate::lists::{Groups, Numbers};
 use crate::node::{Node, Reference, put_keys, put_reference};
-use nm_base::{Label, NoMemory};
+use nm_base::{Groups, Label, NoMemory, Numbers};
 use nm_types::LeafType;
 use std::alloc::Global;
 use std::collections::BTreeMap;
@@ -252,7 +251,7 @@ impl Schema {
     }
 
     /// Whether a leaf is a key of the list that it stands in.
-    #[tactic(auto, unfolding(crate::specs::Nodes::is_among))]
+    #[tactic(auto, unfolding(nm_base::specs::Numbers::is_among))]
     pub fn is_key(&self, at: usize) -> bool
         ensures { result ≡ spec.is_key self.now.nodes at }
     {

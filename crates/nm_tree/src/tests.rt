@@ -1,5 +1,5 @@
 use super::*;
-use nm_base::{Label, NoMemory};
+use nm_base::{Groups, Label, NoMemory, Numbers};
 use nm_types::{LeafType, TypeKind};
 use std::alloc::Global;
 use std::test::Fail;

@@ -2,18 +2,18 @@
 use Rattle.std.proofs.Common.{◌≡◌, ℕ, suc, ◌+◌, ◌-◌, ◌<◌, List, ◌∷◌, Option, Some, None, map, replicate, refl, arith}
 use Rattle.std.specs.List.{All}
 use Rattle.std.proofs.lemmas.List.Elements.{All-map}
-use Rattle.nm_proto.specs.Content.{Meaning}
+use Rattle.nm_proto.specs.Content.{Meaning, TablesState}
 use Rattle.nm_proto.specs.declared.plan.PlannedEdit.{PlannedEdit}
 use Rattle.nm_world.specs.declared.course.Course.{Course}
 use Rattle.nm_device.specs.History.{recorded}
 use Rattle.nm_world.specs.Course.{unused}
 use Rattle.nm_world.specs.World.{WorldState, IsSoundDevice, IsFirst, round, rounds, links_from, planned_for}
 
-module _ {Config TheEdit Node : Type 0} (m : Meaning Config TheEdit Node) (edits : List TheEdit) where
+module _ {Config TheEdit Node : Type 0} (m : Meaning Config TheEdit Node) (tables : TablesState TheEdit) where
   -- one of the rounds that are left
-  pub rounds-left : (course : Course) (w : WorldState Config) (n k : ℕ) → k < n
-      → rounds m edits (n - k) course w ≡ rounds m edits (n - (k + 1)) course (round m edits course w)
-  rounds-left course w n k h = let e : n - k ≡ suc (n - (k + 1)) = omega arith in rw e refl
+  pub rounds-left : (course : Course) (w : WorldState Config) (change n k : ℕ) → k < n
+      → rounds m tables (n - k) course w change ≡ rounds m tables (n - (k + 1)) course (round m tables course w change) change
+  rounds-left course w change n k h = let e : n - k ≡ suc (n - (k + 1)) = omega arith in rw e refl
 
 -- fresh devices of configurations that belong are sound
 pub fresh-sound : {Config TheEdit Node : Type 0} (m : Meaning Config TheEdit Node) (running : List Config)

@@ -1,3 +1,4 @@
+pub mod Link
 pub mod Course
 pub mod World
 pub mod Outcome

@@ -4,7 +4,7 @@ use Rattle.std.specs.Prelude.{◌≡◌, ◌≢◌, ℕ, List, [], ◌∷◌, Bo
 use Rattle.std.specs.Str.{bytes_eq}
 use Rattle.nm_proto.specs.declared.message.Request.{Request}
 use Rattle.nm_proto.specs.declared.message.Request.TheVariants.{OpenSession, Lock, Unlock, PartialLock, PartialUnlock, Edit, Validate, Commit, CancelCommit, Discard, HasMark, GetConfig, Kill, CloseSession}
-use Rattle.nm_proto.specs.Content.{Meaning}
+use Rattle.nm_proto.specs.Content.{Meaning, TablesState}
 use Rattle.nm_device.specs.declared.event.DeviceEvent.{DeviceEvent}
 use Rattle.nm_device.specs.declared.event.DeviceEvent.TheVariants.{Entered, Asked, Lost, Advanced, Restarted}
 use Rattle.nm_device.specs.declared.event.Noted.{Noted}
@@ -12,7 +12,7 @@ use Rattle.nm_device.specs.Device.{fresh_device}
 use Rattle.nm_device.specs.History.{RecordedState, Leads}
 use Rattle.nm_world.specs.declared.outcome.Outcome.{Outcome}
 use Rattle.nm_world.specs.declared.outcome.Outcome.TheVariants.{Never, Pending, Confirmed, Undone}
-use Rattle.nm_world.specs.declared.link.Link.{Link}
+use Rattle.nm_world.specs.Link.{LinkState}
 use Rattle.nm_world.specs.declared.course.Course.{Course}
 use Rattle.nm_world.specs.Course.{is_done, is_member, is_decided, outstanding}
 use Rattle.nm_world.specs.World.{WorldState}
@@ -101,7 +101,7 @@ is_undone Confirmed = false
 is_undone Undone = true
 
 -- nothing more can become of the change set at a device: nothing is pending, and no request is outstanding
-abbrev pub is_settled_at : Link → Outcome → Bool
+abbrev pub is_settled_at : LinkState → Outcome → Bool
 is_settled_at link outcome = not (is_pending outcome) && not (is_some (outstanding link))
 
 -- ---- what holds of a world
@@ -114,14 +114,14 @@ pub record KeepsDecision (token : List ℕ) (decided : Bool) (history : List Not
 
 -- the same for each device of the change set
 abbrev pub KeepsDecisions : {Config : Type 0} → Course → WorldState Config → Type 0
-KeepsDecisions {Config} course w = (place : ℕ) (link : Link) (r : RecordedState Config) → slice_get w.links place ≡ Some link → slice_get w.devices place ≡ Some r
+KeepsDecisions {Config} course w = (place : ℕ) (link : LinkState) (r : RecordedState Config) → slice_get w.links place ≡ Some link → slice_get w.devices place ≡ Some r
     → is_member link ≡ true → KeepsDecision course.token (is_decided w.entries) r.history
 
 -- a world that began with these running configurations and so many operators
-pub record IsSafe {Config TheEdit Node : Type 0} (m : Meaning Config TheEdit Node) (edits : List TheEdit) (course : Course) (running : List Config) (operators : ℕ) (w : WorldState Config) : Type 0 where
+pub record IsSafe {Config TheEdit Node : Type 0} (m : Meaning Config TheEdit Node) (tables : TablesState TheEdit) (course : Course) (running : List Config) (operators : ℕ) (w : WorldState Config) : Type 0 where
   -- each device answers as one thread, and its running is valid and changes only by one commit whole
   pub sound_devices : (place : ℕ) (first : Config) (r : RecordedState Config) → slice_get running place ≡ Some first → slice_get w.devices place ≡ Some r
-      → m.violation first ≡ None → Leads m edits (fresh_device first) r
+      → m.violation first ≡ None → Leads m tables (fresh_device first) r
   -- without operators beside the manager, a device has confirmed its commit only where the decision is in the journal,
   -- and where it is, each device of the change set has done its confirmed commit
   pub keeps_decisions : operators ≡ 0 → KeepsDecisions course w

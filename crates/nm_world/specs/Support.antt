@@ -6,11 +6,11 @@ use Rattle.nm_proto.specs.declared.message.Request.{Request}
 use Rattle.nm_device.specs.declared.event.Noted.{Noted}
 use Rattle.nm_device.specs.History.{RecordedState}
 use Rattle.nm_device.specs.Table.{is_error}
-use Rattle.nm_world.specs.declared.link.Link.{Link}
+use Rattle.nm_world.specs.Link.{LinkState}
 use Rattle.nm_world.specs.declared.course.Course.{Course}
 use Rattle.nm_world.specs.Outcome.{Effect, effect_of, effect_of_event}
 use Rattle.nm_world.specs.Course.{is_done, requests_of, is_acknowledged, is_decided}
-use Rattle.nm_world.specs.World.{WorldState}
+use Rattle.nm_world.specs.World.{SceneState}
 
 -- the second list begins with the first
 abbrev pub IsBeginning : {X : Type 0} → List X → List X → Type 0
@@ -38,7 +38,7 @@ AreNoted (exchange ∷ exchanges) (entry ∷ history) =
 
 -- a link that has an edit, and what was exchanged on it: requests are sent in order and one at a time, the seventh only
 -- with a decision in the journal, and there is one only where the device acknowledged
-pub record IsFollowed (course : Course) (planned : PlannedEdit) (decided : Bool) (link : Link) (exchanges : List Exchange) : Type 0 where
+pub record IsFollowed (course : Course) (planned : PlannedEdit) (decided : Bool) (link : LinkState) (exchanges : List Exchange) : Type 0 where
   pub requests_are_noted : IsBeginning (map (λ exchange. exchange.request) exchanges) (requests_of course planned)
   pub replies_are_noted : link.replies ≡ map (λ exchange. exchange.reply) exchanges
   pub sent_in_order : IsBeginning link.sent (requests_of course planned)
@@ -50,13 +50,13 @@ pub record IsFollowed (course : Course) (planned : PlannedEdit) (decided : Bool)
   pub acknowledged_by_verdict : decided ≡ true → is_acknowledged link ≡ true
 
 -- the history of a device is what was exchanged on its link
-pub record IsTraced (course : Course) (planned : PlannedEdit) (decided : Bool) (link : Link) (history : List Noted) : Type 0 where
+pub record IsTraced (course : Course) (planned : PlannedEdit) (decided : Bool) (link : LinkState) (history : List Noted) : Type 0 where
   pub exchanges : List Exchange
   pub noted : AreNoted exchanges history
   pub followed : IsFollowed course planned decided link exchanges
 
--- the same at each place of a world without operators
-pub record IsSupported {Config : Type 0} (course : Course) (w : WorldState Config) : Type 0 where
+-- the same at each place, without operators
+pub record IsSupported {Config : Type 0} (course : Course) (w : SceneState Config) : Type 0 where
   pub alone : w.operators ≡ []
-  pub followed : (place : ℕ) (link : Link) (r : RecordedState Config) → slice_get w.links place ≡ Some link → slice_get w.devices place ≡ Some r
+  pub followed : (place : ℕ) (link : LinkState) (r : RecordedState Config) → slice_get w.links place ≡ Some link → slice_get w.devices place ≡ Some r
       → (planned : PlannedEdit) → link.edit ≡ Some planned → IsTraced course planned (is_decided w.entries) link r.history

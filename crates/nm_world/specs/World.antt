@@ -1,35 +1,45 @@
 -- The world: devices with their histories, the manager's links and journal, operators, and what each event does to it.
 -- An event that doesn't apply changes nothing but the trail (this project's own). The code changes its parts in place;
 -- these are functions of the whole.
-use Rattle.std.specs.Prelude.{◌≡◌, ℕ, zero, suc, ◌+◌, ◌-◌, ◌==◌, List, [], ◌∷◌, ◌++◌, Bool, false, ◌&&◌, nat_le, length, map, find, replicate, Option, Some, None, is_some, option_and_then, slice_get, slice_set, if◌then◌else◌}
+use Rattle.std.specs.Prelude.{◌≡◌, ℕ, zero, suc, ◌+◌, ◌-◌, ◌==◌, List, [], ◌∷◌, ◌++◌, Bool, false, ◌&&◌, nat_le, length, map, find, replicate, Option, Some, None, is_some, option_and_then, slice_get, slice_set, Result, Ok, Err, if◌then◌else◌}
+use Rattle.nm_base.specs.declared.fault.NoMemory.{NoMemory}
 use Rattle.nm_proto.specs.declared.message.Request.{Request}
 use Rattle.nm_proto.specs.declared.message.Reply.{Reply}
 use Rattle.nm_proto.specs.declared.journal.Verdict.TheVariants as verdict
 use Rattle.nm_proto.specs.declared.plan.PlannedEdit.{PlannedEdit}
 use Rattle.nm_proto.specs.declared.plan.Event.{Event}
 use Rattle.nm_proto.specs.declared.plan.Event.TheVariants.{Submit, Turn, Deliver, Answer, Foreign, Leave, Round}
-use Rattle.nm_proto.specs.Content.{Meaning}
+use Rattle.nm_proto.specs.Content.{Meaning, TablesState}
 use Rattle.nm_sessions.specs.Sessions.{is_open}
 use Rattle.nm_device.specs.Device.{IsSound}
 use Rattle.nm_device.specs.History.{RecordedState, recorded, is_opening, Served, served, lost}
-use Rattle.nm_world.specs.declared.link.Link.{Link}
+use Rattle.nm_world.specs.Link.{LinkState}
 use Rattle.nm_world.specs.declared.course.Course.{Course}
 use Rattle.nm_world.specs.declared.course.Action.{Action}
 use Rattle.nm_world.specs.declared.course.Action.TheVariants.{Wait, Send, Decide, Finish}
-use Rattle.nm_world.specs.declared.course.Entry.{Entry}
-use Rattle.nm_world.specs.declared.course.Entry.TheVariants.{Started, Decided, Ended}
+use Rattle.nm_proto.specs.declared.journal.Entry.{Entry}
+use Rattle.nm_proto.specs.declared.journal.Entry.TheVariants.{Started, Decided, Ended}
 use Rattle.nm_world.specs.declared.happened.Happened.{Happened}
+use Rattle.nm_world.specs.declared.happened.Passed.{Passed}
+use Rattle.nm_world.specs.declared.happened.Sending.{Sending}
 use Rattle.nm_world.specs.declared.happened.Happened.TheVariants as happened
-use Rattle.nm_world.specs.Course.{unused, outstanding, requests_of, next_action, is_submitted, session_in, session_of}
+use Rattle.nm_world.specs.Course.{unused, outstanding, requests_of, next_action, is_submitted, start_of, session_in, session_of}
 
--- device d and its link stand at place d - 1, and so does the session that an operator was last given on it. The trail
--- is what came of each event, oldest first
-pub record WorldState (Config : Type 0) : Type 0 where
+-- what stands at a moment. Device d and its link stand at place d - 1, and so does the session that an operator was last
+-- given on it
+pub record SceneState (Config : Type 0) : Type 0 where
   pub devices : List (RecordedState Config)
-  pub links : List Link
+  pub links : List LinkState
   pub entries : List Entry
   pub operators : List (List (Option ℕ))
-  pub trail : List Happened
+
+-- the same with the trail, which tells each elementary event with what came of it, oldest first
+pub record WorldState (Config : Type 0) : Type 0 where
+  pub devices : List (RecordedState Config)
+  pub links : List LinkState
+  pub entries : List Entry
+  pub operators : List (List (Option ℕ))
+  pub trail : List Passed
 
 -- the device is sound for the content
 abbrev pub IsSoundDevice : {Config TheEdit Node : Type 0} → Meaning Config TheEdit Node → RecordedState Config → Type 0
@@ -44,42 +54,42 @@ pub record IsFirst {Config TheEdit Node : Type 0} (m : Meaning Config TheEdit No
 
 -- a link after an event, and what came of it
 pub record LinkMoved : Type 0 where
-  pub link : Link
+  pub link : LinkState
   pub happened : Happened
 
 -- a link is as an event leaves it, and this came of it
-pub record IsMoved (what : Happened) (link : Link) (moved : LinkMoved) : Type 0 where
+pub record IsMoved (what : Happened) (link : LinkState) (moved : LinkMoved) : Type 0 where
   pub happened_is : what ≡ moved.happened
   pub link_is : link ≡ moved.link
 
 -- a request more is sent on a link
-abbrev pub with_sent : Link → Request → Link
+abbrev pub with_sent : LinkState → Request → LinkState
 with_sent link request = record link { sent = link.sent ++ request ∷ [] }
 
-abbrev pub sent_if : Link → PlannedEdit → Option Request → LinkMoved
+abbrev pub sent_if : LinkState → PlannedEdit → Option Request → LinkMoved
 sent_if link planned None = record { link = link; happened = happened.Idle }
 sent_if link planned (Some request) = record { link = with_sent link request; happened = happened.Sent planned.device 1 request }
 
-abbrev pub sent_for : Course → Link → Option PlannedEdit → LinkMoved
+abbrev pub sent_for : Course → LinkState → Option PlannedEdit → LinkMoved
 sent_for course link None = record { link = link; happened = happened.Idle }
 sent_for course link (Some planned) = sent_if link planned (slice_get (requests_of course planned) (length link.sent))
 
 -- the next request of the course is sent on a link, where one is left
-abbrev pub sent_on : Course → Link → LinkMoved
+abbrev pub sent_on : Course → LinkState → LinkMoved
 sent_on course link = sent_for course link link.edit
 
 -- a reply is handled: the next one of the link, where it was sent
-abbrev pub handled_on : Link → ℕ → LinkMoved
+abbrev pub handled_on : LinkState → ℕ → LinkMoved
 handled_on link number =
     if number == link.handled + 1 && nat_le number (length link.replies) then record { link = record link { handled = number }; happened = happened.Handled }
     else record { link = link; happened = happened.Idle }
 
 -- the device's reply is sent on a link
-abbrev pub with_reply : Link → Reply → Link
+abbrev pub with_reply : LinkState → Reply → LinkState
 with_reply link reply = record link { replies = link.replies ++ reply ∷ [] }
 
 -- how many replies were sent on a link
-abbrev pub replies_on : Option Link → ℕ
+abbrev pub replies_on : Option LinkState → ℕ
 replies_on None = 0
 replies_on (Some link) = length link.replies
 
@@ -118,7 +128,7 @@ operator_at operators number = if number == 0 then None else slice_get operators
 -- a device and its link after a delivery, and what came of it
 pub record Delivery (Config : Type 0) : Type 0 where
   pub device : RecordedState Config
-  pub link : Link
+  pub link : LinkState
   pub happened : Happened
 
 -- a device and an operator after a request, and what came of it
@@ -128,7 +138,7 @@ pub record Asking (Config : Type 0) : Type 0 where
   pub happened : Happened
 
 -- a device and its link are as a delivery leaves them, and this came of it
-pub record IsDelivered {Config : Type 0} (what : Happened) (device : RecordedState Config) (link : Link) (d : Delivery Config) : Type 0 where
+pub record IsDelivered {Config : Type 0} (what : Happened) (device : RecordedState Config) (link : LinkState) (d : Delivery Config) : Type 0 where
   pub happened_is : what ≡ d.happened
   pub device_is : device ≡ d.device
   pub link_is : link ≡ d.link
@@ -140,7 +150,7 @@ pub record IsAsked {Config : Type 0} (what : Happened) (device : RecordedState C
   pub operator_is : operator ≡ a.operator
 
 module _ {Config : Type 0} where
-  abbrev pub replied_on : RecordedState Config → Link → Option (Served Config) → Delivery Config
+  abbrev pub replied_on : RecordedState Config → LinkState → Option (Served Config) → Delivery Config
   replied_on r link None = record { device = r; link = link; happened = happened.Idle }
   replied_on r link (Some s) = record { device = s.after; link = with_reply link s.reply; happened = happened.Replied s.reply s.undone }
 
@@ -163,18 +173,18 @@ module _ {Config : Type 0} where
   abbrev pub left_from : RecordedState Config → List (Option ℕ) → ℕ → Asking Config
   left_from r operator place = left_on r operator (session_at operator r place)
 
-module _ {Config TheEdit Node : Type 0} (m : Meaning Config TheEdit Node) (edits : List TheEdit) where
-  abbrev pub delivered_if : RecordedState Config → Link → Option Request → Delivery Config
+module _ {Config TheEdit Node : Type 0} (m : Meaning Config TheEdit Node) (tables : TablesState TheEdit) where
+  abbrev pub delivered_if : RecordedState Config → LinkState → Option Request → Delivery Config
   delivered_if r link None = record { device = r; link = link; happened = happened.Idle }
-  delivered_if r link (Some request) = replied_on r link (served m edits r (session_of link) request)
+  delivered_if r link (Some request) = replied_on r link (served m tables r (session_of link) request)
 
   -- the device does the request that is outstanding on its link, and sends its reply
-  abbrev pub delivered_to : RecordedState Config → Link → Delivery Config
+  abbrev pub delivered_to : RecordedState Config → LinkState → Delivery Config
   delivered_to r link = delivered_if r link (outstanding link)
 
   -- who has a session doesn't ask for another
   abbrev pub asked_in : RecordedState Config → List (Option ℕ) → ℕ → Request → Option ℕ → Asking Config
-  asked_in r operator place request session = if is_opening request && is_some session then not_asked r operator else replied_to r operator place (served m edits r session request)
+  asked_in r operator place request session = if is_opening request && is_some session then not_asked r operator else replied_to r operator place (served m tables r session request)
 
   -- the device at a place does a request of an operator
   abbrev pub asked_of : RecordedState Config → List (Option ℕ) → ℕ → Request → Asking Config
@@ -184,21 +194,21 @@ module _ {Config TheEdit Node : Type 0} (m : Meaning Config TheEdit Node) (edits
 
 -- the links after an event, and what came of it
 pub record LinksMoved : Type 0 where
-  pub links : List Link
+  pub links : List LinkState
   pub happened : Happened
 
-abbrev pub links_sent : Course → List Link → ℕ → Option Link → LinksMoved
+abbrev pub links_sent : Course → List LinkState → ℕ → Option LinkState → LinksMoved
 links_sent course links place None = record { links = links; happened = happened.Idle }
 links_sent course links place (Some link) = record { links = slice_set links place (sent_on course link).link; happened = (sent_on course link).happened }
 
-abbrev pub links_handled : List Link → ℕ → ℕ → Option Link → LinksMoved
+abbrev pub links_handled : List LinkState → ℕ → ℕ → Option LinkState → LinksMoved
 links_handled links place number None = record { links = links; happened = happened.Idle }
 links_handled links place number (Some link) = record { links = slice_set links place (handled_on link number).link; happened = (handled_on link number).happened }
 
 -- the devices and the links after a delivery, and what came of it
 pub record Deliveries (Config : Type 0) : Type 0 where
   pub devices : List (RecordedState Config)
-  pub links : List Link
+  pub links : List LinkState
   pub happened : Happened
 
 -- the devices and the operators after a request, and what came of it
@@ -208,10 +218,10 @@ pub record Askings (Config : Type 0) : Type 0 where
   pub happened : Happened
 
 module _ {Config : Type 0} where
-  abbrev pub none_delivered : List (RecordedState Config) → List Link → Deliveries Config
+  abbrev pub none_delivered : List (RecordedState Config) → List LinkState → Deliveries Config
   none_delivered devices links = record { devices = devices; links = links; happened = happened.Idle }
 
-  abbrev pub one_delivered : List (RecordedState Config) → List Link → ℕ → Delivery Config → Deliveries Config
+  abbrev pub one_delivered : List (RecordedState Config) → List LinkState → ℕ → Delivery Config → Deliveries Config
   one_delivered devices links place d = record { devices = slice_set devices place d.device; links = slice_set links place d.link; happened = d.happened }
 
   abbrev pub none_asked : List (RecordedState Config) → List (List (Option ℕ)) → Askings Config
@@ -229,23 +239,23 @@ module _ {Config : Type 0} where
   parted devices operators number place (Some operator) None = none_asked devices operators
   parted devices operators number place (Some operator) (Some r) = one_left devices operators place (left_from r operator place)
 
-module _ {Config TheEdit Node : Type 0} (m : Meaning Config TheEdit Node) (edits : List TheEdit) where
-  abbrev pub devices_delivered : List (RecordedState Config) → List Link → ℕ → Option Link → Option (RecordedState Config) → Deliveries Config
+module _ {Config TheEdit Node : Type 0} (m : Meaning Config TheEdit Node) (tables : TablesState TheEdit) where
+  abbrev pub devices_delivered : List (RecordedState Config) → List LinkState → ℕ → Option LinkState → Option (RecordedState Config) → Deliveries Config
   devices_delivered devices links place None r = none_delivered devices links
   devices_delivered devices links place (Some link) None = none_delivered devices links
-  devices_delivered devices links place (Some link) (Some r) = one_delivered devices links place (delivered_to m edits r link)
+  devices_delivered devices links place (Some link) (Some r) = one_delivered devices links place (delivered_to m tables r link)
 
   abbrev pub devices_asked : List (RecordedState Config) → List (List (Option ℕ)) → ℕ → ℕ → Request → Option (List (Option ℕ)) → Option (RecordedState Config) → Askings Config
   devices_asked devices operators number place request None r = none_asked devices operators
   devices_asked devices operators number place request (Some operator) None = none_asked devices operators
-  devices_asked devices operators number place request (Some operator) (Some r) = one_asked devices operators number place (asked_of m edits r operator place request)
+  devices_asked devices operators number place request (Some operator) (Some r) = one_asked devices operators number place (asked_of m tables r operator place request)
 
 -- the links are as an event leaves them, and this came of it
-pub record AreMoved (what : Happened) (links : List Link) (moved : LinksMoved) : Type 0 where
+pub record AreMoved (what : Happened) (links : List LinkState) (moved : LinksMoved) : Type 0 where
   pub happened_is : what ≡ moved.happened
   pub links_are : links ≡ moved.links
 
-pub record AreDelivered {Config : Type 0} (what : Happened) (devices : List (RecordedState Config)) (links : List Link) (d : Deliveries Config) : Type 0 where
+pub record AreDelivered {Config : Type 0} (what : Happened) (devices : List (RecordedState Config)) (links : List LinkState) (d : Deliveries Config) : Type 0 where
   pub happened_is : what ≡ d.happened
   pub devices_are : devices ≡ d.devices
   pub links_are : links ≡ d.links
@@ -257,91 +267,130 @@ pub record AreAsked {Config : Type 0} (what : Happened) (devices : List (Recorde
 
 -- ---- the whole
 
+-- what stands after an elementary event, and what came of it
+pub record Came (Config : Type 0) : Type 0 where
+  pub after : SceneState Config
+  pub happened : Happened
+
 module _ {Config : Type 0} where
-  -- the world with what came of an event
-  abbrev pub trailed : WorldState Config → Happened → WorldState Config
-  trailed w what = record w { trail = w.trail ++ what ∷ [] }
+  abbrev pub came : SceneState Config → Happened → Came Config
+  came w what = record { after = w; happened = what }
 
-  abbrev pub idle : WorldState Config → WorldState Config
-  idle w = trailed w happened.Idle
+  -- an event that doesn't apply
+  abbrev pub idle : SceneState Config → Came Config
+  idle w = came w happened.Idle
 
-  abbrev pub with_links : WorldState Config → LinksMoved → WorldState Config
-  with_links w moved = trailed (record w { links = moved.links }) moved.happened
+  abbrev pub with_links : SceneState Config → LinksMoved → Came Config
+  with_links w moved = came (record w { links = moved.links }) moved.happened
 
-  abbrev pub with_deliveries : WorldState Config → Deliveries Config → WorldState Config
-  with_deliveries w d = trailed (record w { devices = d.devices; links = d.links }) d.happened
+  abbrev pub with_deliveries : SceneState Config → Deliveries Config → Came Config
+  with_deliveries w d = came (record w { devices = d.devices; links = d.links }) d.happened
 
-  abbrev pub with_askings : WorldState Config → Askings Config → WorldState Config
-  with_askings w a = trailed (record w { devices = a.devices; operators = a.operators }) a.happened
+  abbrev pub with_askings : SceneState Config → Askings Config → Came Config
+  with_askings w a = came (record w { devices = a.devices; operators = a.operators }) a.happened
+
+  abbrev pub with_entry : SceneState Config → Entry → SceneState Config
+  with_entry w entry = record w { entries = w.entries ++ entry ∷ [] }
 
   -- the change set is submitted, once
-  abbrev pub submitted : Course → WorldState Config → WorldState Config
-  submitted course w = if is_submitted w.entries then idle w else trailed (record w { entries = w.entries ++ Started course.change ∷ [] }) happened.Started
+  abbrev pub submitted : Course → SceneState Config → Came Config
+  submitted course w = if is_submitted w.entries then idle w else came (with_entry w (start_of course)) happened.Started
 
-  abbrev pub sent_at : Course → WorldState Config → ℕ → Option Link → WorldState Config
+  abbrev pub sent_at : Course → SceneState Config → ℕ → Option LinkState → Came Config
   sent_at course w place link = with_links w (links_sent course w.links place link)
 
-  abbrev pub acted : Course → WorldState Config → Action → WorldState Config
+  abbrev pub acted : Course → SceneState Config → Action → Came Config
   acted course w Wait = idle w
   acted course w (Send place) = sent_at course w place (slice_get w.links place)
-  acted course w Decide = trailed (record w { entries = w.entries ++ Decided course.change ∷ [] }) (happened.Decided verdict.Commit)
-  acted course w Finish = trailed (record w { entries = w.entries ++ Ended course.change ∷ [] }) happened.Ended
+  acted course w Decide = came (with_entry w (Decided course.change verdict.Commit)) (happened.Decided verdict.Commit)
+  acted course w Finish = came (with_entry w (Ended course.change course.devices)) happened.Ended
 
   -- one action of the manager
-  abbrev pub turned : Course → WorldState Config → WorldState Config
+  abbrev pub turned : Course → SceneState Config → Came Config
   turned course w = acted course w (next_action w.entries w.links)
 
-  abbrev pub handled_at : WorldState Config → ℕ → ℕ → Option Link → WorldState Config
+  abbrev pub handled_at : SceneState Config → ℕ → ℕ → Option LinkState → Came Config
   handled_at w place number link = with_links w (links_handled w.links place number link)
 
   -- the manager handles a reply of the link at a place
-  abbrev pub answered : WorldState Config → ℕ → ℕ → WorldState Config
+  abbrev pub answered : SceneState Config → ℕ → ℕ → Came Config
   answered w place number = handled_at w place number (slice_get w.links place)
 
-  abbrev pub left_at : WorldState Config → ℕ → ℕ → Option (List (Option ℕ)) → Option (RecordedState Config) → WorldState Config
+  abbrev pub left_at : SceneState Config → ℕ → ℕ → Option (List (Option ℕ)) → Option (RecordedState Config) → Came Config
   left_at w number place operator r = with_askings w (parted w.devices w.operators number place operator r)
 
   -- the session that an operator has at a device is lost
-  abbrev pub left : WorldState Config → ℕ → ℕ → WorldState Config
+  abbrev pub left : SceneState Config → ℕ → ℕ → Came Config
   left w number place = left_at w number place (operator_at w.operators number) (slice_get w.devices place)
 
-module _ {Config TheEdit Node : Type 0} (m : Meaning Config TheEdit Node) (edits : List TheEdit) where
-  abbrev pub delivered_at : WorldState Config → ℕ → Option Link → Option (RecordedState Config) → WorldState Config
-  delivered_at w place link r = with_deliveries w (devices_delivered m edits w.devices w.links place link r)
+module _ {Config : Type 0} where
+  abbrev pub scene_of : WorldState Config → SceneState Config
+  scene_of w = record { devices = w.devices; links = w.links; entries = w.entries; operators = w.operators }
 
-  abbrev pub delivered : WorldState Config → ℕ → WorldState Config
+  -- the world after an elementary event, which its trail tells with what came of it
+  abbrev pub passed : WorldState Config → Event → Came Config → WorldState Config
+  passed w event c = record {
+    devices = c.after.devices;
+    links = c.after.links;
+    entries = c.after.entries;
+    operators = c.after.operators;
+    trail = w.trail ++ record { event = event; happened = c.happened } ∷ [];
+  }
+
+-- where a request was sent, if one was
+abbrev pub sending_of : Happened → Option Sending
+sending_of (happened.Sent device link request) = Some (record { device = device; link = link })
+sending_of _ = None
+
+module _ {Config TheEdit Node : Type 0} (m : Meaning Config TheEdit Node) (tables : TablesState TheEdit) where
+  abbrev pub delivered_at : SceneState Config → ℕ → Option LinkState → Option (RecordedState Config) → Came Config
+  delivered_at w place link r = with_deliveries w (devices_delivered m tables w.devices w.links place link r)
+
+  abbrev pub delivered : SceneState Config → ℕ → Came Config
   delivered w place = delivered_at w place (slice_get w.links place) (slice_get w.devices place)
 
-  abbrev pub asked_at : WorldState Config → ℕ → ℕ → Request → Option (List (Option ℕ)) → Option (RecordedState Config) → WorldState Config
-  asked_at w number place request operator r = with_askings w (devices_asked m edits w.devices w.operators number place request operator r)
+  abbrev pub asked_at : SceneState Config → ℕ → ℕ → Request → Option (List (Option ℕ)) → Option (RecordedState Config) → Came Config
+  asked_at w number place request operator r = with_askings w (devices_asked m tables w.devices w.operators number place request operator r)
 
   -- an operator asks a device
-  abbrev pub asked : WorldState Config → ℕ → ℕ → Request → WorldState Config
+  abbrev pub asked : SceneState Config → ℕ → ℕ → Request → Came Config
   asked w number place request = asked_at w number place request (operator_at w.operators number) (slice_get w.devices place)
 
+  -- what an elementary event does. The first link of a device is the only one, and what isn't built changes nothing
+  abbrev pub elementary : Course → SceneState Config → Event → Came Config
+  elementary course w (Submit change) = submitted course w
+  elementary course w (Turn change) = turned course w
+  elementary course w (Deliver change device link) = if link == 1 then delivered w (device - 1) else idle w
+  elementary course w (Answer change device link number) = if link == 1 then answered w (device - 1) number else idle w
+  elementary course w (Foreign operator device request) = asked w operator (device - 1) request
+  elementary course w (Leave operator device) = left w operator (device - 1)
+  elementary course w _ = idle w
+
+  -- an elementary event, told in the trail
+  abbrev pub one_step : Course → WorldState Config → Event → WorldState Config
+  one_step course w event = passed w event (elementary course (scene_of w) event)
+
+  -- after a delivery: the answer of the last reply on the link
+  abbrev pub last_answered : Course → WorldState Config → ℕ → Sending → WorldState Config
+  last_answered course w change sending = one_step course w (Answer change sending.device sending.link (replies_on (slice_get w.links (sending.device - 1))))
+
   -- after a turn that sent: the delivery, and the answer of the last reply
-  abbrev pub followed : WorldState Config → Action → WorldState Config
-  followed w Wait = w
-  followed w (Send place) = answered (delivered w place) place (replies_on (slice_get (delivered w place).links place))
-  followed w Decide = w
-  followed w Finish = w
+  abbrev pub followed : Course → WorldState Config → ℕ → Option Sending → WorldState Config
+  followed course w change None = w
+  followed course w change (Some sending) = last_answered course (one_step course w (Deliver change sending.device sending.link)) change sending
 
-  abbrev pub round : Course → WorldState Config → WorldState Config
-  round course w = followed (turned course w) (next_action w.entries w.links)
+  -- a turn, and what follows where it sent
+  abbrev pub round : Course → WorldState Config → ℕ → WorldState Config
+  round course w change = followed course (one_step course w (Turn change)) change (sending_of (elementary course (scene_of w) (Turn change)).happened)
 
-  abbrev pub rounds : ℕ → Course → WorldState Config → WorldState Config
-  rounds zero course w = w
-  rounds (suc n) course w = rounds n course (round course w)
+  abbrev pub rounds : ℕ → Course → WorldState Config → ℕ → WorldState Config
+  rounds zero course w change = w
+  rounds (suc n) course w change = rounds n course (round course w change) change
 
-  -- what an event does. The first link of a device is the only one
+  -- what an event does: a round stands for its elementary events
   abbrev pub world_step : Course → WorldState Config → Event → WorldState Config
-  world_step course w (Submit change) = submitted course w
-  world_step course w (Turn change) = turned course w
-  world_step course w (Deliver change device link) = if link == 1 then delivered w (device - 1) else idle w
-  world_step course w (Answer change device link number) = if link == 1 then answered w (device - 1) number else idle w
-  world_step course w (Foreign operator device request) = asked w operator (device - 1) request
-  world_step course w (Leave operator device) = left w operator (device - 1)
-  world_step course w (Round change turns) = rounds turns course w
+  world_step course w (Round change turns) = rounds turns course w change
+  world_step course w event = one_step course w event
 
   -- a whole run
   abbrev pub run : Course → WorldState Config → List Event → WorldState Config
@@ -355,27 +404,44 @@ abbrev pub planned_for : ℕ → List PlannedEdit → Option PlannedEdit
 planned_for device edits = find (λ planned. planned.device == device) edits
 
 -- a link for each of so many devices, from a number on
-abbrev pub links_from : ℕ → ℕ → List PlannedEdit → List Link
+abbrev pub links_from : ℕ → ℕ → List PlannedEdit → List LinkState
 links_from device zero edits = []
 links_from device (suc count) edits = unused (planned_for device edits) ∷ links_from (device + 1) count edits
 
 -- devices with these running configurations, nothing submitted, and so many operators without sessions
-abbrev pub start : {Config : Type 0} → List Config → List PlannedEdit → ℕ → WorldState Config
-start running edits operators = record {
+abbrev pub begin : {Config : Type 0} → List Config → List PlannedEdit → ℕ → SceneState Config
+begin running edits operators = record {
   devices = map recorded running;
   links = links_from 1 (length running) edits;
   entries = [];
   operators = replicate operators (replicate (length running) None);
-  trail = [];
 }
 
--- a world as the code holds it: its content, the edits of its tables, the course of its change set, and its state
+-- the same, with nothing in the trail
+abbrev pub start : {Config : Type 0} → List Config → List PlannedEdit → ℕ → WorldState Config
+start running edits operators = let scene = begin running edits operators in
+    record { devices = scene.devices; links = scene.links; entries = scene.entries; operators = scene.operators; trail = [] }
+
+-- a world as the code holds it: its content, its tables, the course of its change set, and its state
 pub record Whole (TheContent Config TheEdit : Type 0) : Type 0 where
   pub content : TheContent
-  pub edits : List TheEdit
+  pub tables : TablesState TheEdit
   pub course : Course
   pub state : WorldState Config
 
--- the same world in another state
-abbrev pub with_state : {TheContent Config TheEdit : Type 0} → Whole TheContent Config TheEdit → WorldState Config → Whole TheContent Config TheEdit
-with_state w state = record w { state = state }
+-- the same of what stands at a moment
+pub record Staged (TheContent Config TheEdit : Type 0) : Type 0 where
+  pub content : TheContent
+  pub tables : TablesState TheEdit
+  pub course : Course
+  pub state : SceneState Config
+
+module _ {TheContent Config TheEdit : Type 0} where
+  -- the same world in another state
+  abbrev pub with_state : Whole TheContent Config TheEdit → WorldState Config → Whole TheContent Config TheEdit
+  with_state w state = record w { state = state }
+
+  -- a call that does an elementary event. Where there is no memory, nothing changes
+  abbrev pub Comes : Result Happened NoMemory → Staged TheContent Config TheEdit → Staged TheContent Config TheEdit → Came Config → Type 0
+  Comes (Ok what) old new c = (what ≡ c.happened) × (new ≡ record old { state = c.after })
+  Comes (Err fault) old new c = new ≡ old

@@ -3,13 +3,15 @@ ghost use Rattle.std.specs.List.{list_any};
 ghost use Rattle.nm_world.specs.Course.{requests_of, marks_of, next_request, undecided_action, decided_action, fewest_from, fewer, choice_of, chosen, send_at, send_to, is_refused, awaits, wants_acknowledgement, wants_settling, is_submitted, is_decided, is_ended, next_action};
 
 use crate::link::Link;
-use nm_base::{ChangeMask, ChangeNo, Label, NoMemory};
-use nm_proto::{Marks, PlannedEdit, Request, Store};
+use nm_base::{ChangeMask, ChangeNo, DeviceMask, Label, NoMemory};
+use nm_proto::{Entry, Marks, PlannedEdit, Request, Store};
 
 /// What the requests of a change set are made of.
 #[derive(Drop)]
 pub struct Course {
     pub change: ChangeNo,
+    /// The devices of the change set.
+    pub devices: DeviceMask,
     /// How long a confirmed commit waits, in seconds.
     pub timeout: u32,
     /// The user of the manager's sessions.
@@ -29,17 +31,6 @@ pub enum Action {
     Decide,
     /// Ends the change set.
     Finish,
-}
-
-/// An entry of the journal.
-#[derive(Clone, Copy, Debug, PartialEq, Eq)]
-pub enum Entry {
-    /// The change set was submitted.
-    Started { change: ChangeNo },
-    /// The change set is to be committed.
-    Decided { change: ChangeNo },
-    /// Each device of the change set has confirmed its commit and closed its session.
-    Ended { change: ChangeNo },
 }
 
 impl Course {
@@ -95,8 +86,8 @@ impl Course {
     pub fn next_request(&self, link: &Link) -> Result<Option<Request>, NoMemory>
         ensures { IfOk result (λ request. request ≡ next_request self.now link.now) }
     {
-        match &link.edit {
-            Some(planned) => self.request(planned, link.sent.len()),
+        match link.edit() {
+            Some(planned) => self.request(planned, link.sent_count()),
             None => Ok(None),
         }
     }

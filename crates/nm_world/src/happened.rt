@@ -1,5 +1,10 @@
+//! What comes of events.
+
+ghost use Rattle.std.specs.Prelude.{◌≡◌};
+ghost use Rattle.nm_world.specs.World.{sending_of};
+
 use nm_base::DeviceNo;
-use nm_proto::{Reply, Request, Verdict};
+use nm_proto::{Event, Reply, Request, Verdict};
 
 /// What came of an event.
 #[derive(Drop)]
@@ -28,4 +33,34 @@ pub enum Happened {
     Left {
         undone: bool,
     },
+}
+
+/// A link on which a request was sent.
+#[derive(Clone, Copy, Debug, PartialEq, Eq)]
+pub struct Sending {
+    pub device: DeviceNo,
+    /// The link's number, from 1.
+    pub link: u32,
+}
+
+impl Happened {
+    /// Where a request was sent, if one was.
+    pub fn sending(&self) -> Option<Sending>
+        ensures { result ≡ sending_of self.now }
+    {
+        match self {
+            Happened::Sent { device, link, .. } => Some(Sending {
+                device: *device,
+                link: *link,
+            }),
+            _ => None,
+        }
+    }
+}
+
+/// An elementary event that was passed, and what came of it.
+#[derive(Drop)]
+pub struct Passed {
+    pub event: Event,
+    pub happened: Happened,
 }

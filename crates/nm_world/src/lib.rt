@@ -10,13 +10,14 @@ pub mod link;
 pub mod operator;
 pub mod outcome;
 pub mod safety;
+mod scene;
 mod steps;
 pub mod world;
 #[cfg(test)]
 mod world_tests;
 
-pub use course::{Action, Course, Entry};
-pub use happened::Happened;
+pub use course::{Action, Course};
+pub use happened::{Happened, Passed, Sending};
 pub use link::Link;
 pub use operator::Operator;
 pub use outcome::Outcome;

@@ -1,24 +1,37 @@
-ghost use Rattle.std.specs.Prelude.{◌≡◌, option_copied, IfOk, OnOk, OnErr};
+//! The manager's links to devices.
+
+ghost use Rattle.std.specs.Prelude.{◌≡◌, length, option_copied, IfOk, OnErr};
+ghost use Rattle.std.specs.List.{All};
 ghost use Rattle.nm_device.specs.Table.{is_error};
 ghost use Rattle.nm_world.specs.Course.{is_done, session_in};
 
 use crate::course::Course;
 use crate::happened::Happened;
 use nm_base::{NoMemory, SessionId};
-use nm_proto::{Listed, PlannedEdit, Reply, Request};
+use nm_device::Recorded;
+use nm_proto::{Content, PlannedEdit, Reply, Request, Tables};
 use std::alloc::Global;
+use std::marker::Model;
 
 /// The manager's connection to one device for a change set. It carries one NETCONF session.
 #[derive(Drop)]
 pub struct Link {
-    /// The change set's edit of the device, None where the device isn't one of the change set.
-    pub edit: Option<PlannedEdit>,
-    /// The requests sent, oldest first. At most one of them is undelivered.
-    pub sent: Listed<Request>,
-    /// The replies sent by the device, oldest first.
-    pub replies: Listed<Reply>,
-    /// How many of the replies the manager has handled.
-    pub handled: usize,
+    // The change set's edit of the device, None where the device isn't one of the change set.
+    edit: Option<PlannedEdit>,
+    // The requests sent, oldest first. At most one of them is undelivered.
+    sent: Vec<Request>,
+    // The replies sent by the device, oldest first.
+    replies: Vec<Reply>,
+    // How many of the replies the manager has handled.
+    handled: usize,
+}
+
+impl Model for Link {
+    ghost use Rattle.nm_world.specs.Link.{LinkState};
+
+    ghost Value = { LinkState };
+
+    ghost view = { λ link. record { edit = link.edit; sent = link.sent.items; replies = link.replies.items; handled = link.handled } };
 }
 
 /// How many requests of a link come before the decision: the last of them is the confirmed commit.
@@ -36,10 +49,31 @@ impl Link {
     {
         Link {
             edit,
-            sent: Listed::new(alloc),
-            replies: Listed::new(alloc),
+            sent: Vec::new(alloc),
+            replies: Vec::new(alloc),
             handled: 0,
         }
+    }
+
+    /// The change set's edit of the device, None where the device isn't one of the change set.
+    pub fn edit(&self) -> &Option<PlannedEdit>
+        ensures { result.now ≡ self.now.edit }
+    {
+        &self.edit
+    }
+
+    /// How many requests were sent.
+    pub fn sent_count(&self) -> usize
+        ensures { result ≡ length self.now.sent }
+    {
+        self.sent.len()
+    }
+
+    /// How many replies the device has sent.
+    pub fn reply_count(&self) -> usize
+        ensures { result ≡ length self.now.replies }
+    {
+        self.replies.len()
     }
 
     /// The one request that isn't delivered.
@@ -77,11 +111,7 @@ impl Link {
     pub fn is_refused(&self) -> bool
         ensures { result ≡ is_refused self.now }
     {
-        self.replies
-            .as_slice()
-            .iter()
-            .take(self.handled)
-            .any(is_error)
+        self.replies.iter().take(self.handled).any(is_error)
     }
 
     /// Whether the manager has handled a Done to the confirmed commit.
@@ -132,7 +162,7 @@ impl Link {
 }
 
 impl Link {
-    ghost use Rattle.nm_world.specs.World.{sent_on, handled_on, with_reply, IsMoved};
+    ghost use Rattle.nm_world.specs.World.{sent_on, handled_on, delivered_to, IsMoved, IsDelivered, IsSoundDevice};
 
     /// Sends the next request of the course, where one is left.
     pub fn send(&mut self, course: &Course) -> Result<Happened, NoMemory>
@@ -154,12 +184,34 @@ impl Link {
         })
     }
 
-    /// Takes a reply of the device.
-    pub fn take_reply(&mut self, reply: Reply) -> Result<(), NoMemory>
-        ensures taken { OnOk result (self.new ≡ with_reply self.old reply) }
-        ensures unchanged { OnErr result (self.new ≡ self.old) }
+    /// A device does the request that is outstanding on its link, and sends its reply.
+    pub fn deliver<C: Content>(
+        &mut self,
+        content: &C,
+        tables: &Tables<C>,
+        device: &mut Recorded<C>,
+    ) -> Result<Happened, NoMemory>
+        requires sound { IsSoundDevice (C.meaning content.now) device.old }
+        requires edits_belong { All (C.meaning content.now).edit_belongs tables.now.edits }
+        ensures delivered { IfOk result (λ happened. IsDelivered happened device.new self.new (delivered_to (C.meaning content.now) tables.now device.old self.old)) }
+        ensures link_unchanged { OnErr result (self.new ≡ self.old) }
+        ensures device_unchanged { OnErr result (device.new ≡ device.old) }
+        ensures sound { IsSoundDevice (C.meaning content.now) device.new }
     {
-        self.replies.push(reply)
+        // Once the device has changed, its reply must find room.
+        self.replies.reserve(1)?;
+        let session = self.session();
+        let Some(request) = self.outstanding() else {
+            return Ok(Happened::Idle);
+        };
+        let Some(told) = device.serve(content, tables, session, request)? else {
+            return Ok(Happened::Idle);
+        };
+        self.replies.push_reserved(told.reply);
+        Ok(Happened::Replied {
+            reply: told.again,
+            undone: told.undone,
+        })
     }
 
     /// The manager handles a reply, by its number from 1. Any but the next one changes nothing.

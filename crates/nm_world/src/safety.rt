@@ -1,4 +1,5 @@
 ghost use Rattle.std.specs.Prelude.{ℕ, List};
+ghost use Rattle.nm_proto.specs.Content.{TablesState};
 ghost use Rattle.nm_proto.specs.declared.plan.PlannedEdit.{PlannedEdit};
 ghost use Rattle.nm_proto.specs.declared.plan.Event.{Event};
 ghost use Rattle.nm_world.specs.declared.course.Course.{Course};
@@ -12,6 +13,6 @@ use nm_proto::Content;
 /// the decision is in the journal, and where it is, each device of the change set has done its confirmed commit
 /// (RFC 6241 section 8.4).
 pub fn every_run_is_safe<C: Content>(content: &C)
-    ensures { (edits : List C.Edit) (course : Course) (running : List C.Config) (planned : List PlannedEdit) (operators : ℕ) (events : List Event)
-        → IsSafe (C.meaning content.now) edits course running operators (run (C.meaning content.now) edits course (start running planned operators) events) }
+    ensures { (tables : TablesState C.Edit) (course : Course) (running : List C.Config) (planned : List PlannedEdit) (operators : ℕ) (events : List Event)
+        → IsSafe (C.meaning content.now) tables course running operators (run (C.meaning content.now) tables course (start running planned operators) events) }
 {}

@@ -1,7 +1,9 @@
-ghost use Rattle.std.specs.Prelude.{◌≡◌, IfOk, slice_get, ◌&&◌, option_copied};
+//! Steps of the world's lists, one place of each.
+
+ghost use Rattle.std.specs.Prelude.{◌≡◌, IfOk, OnErr, slice_get, ◌&&◌, option_copied};
 ghost use Rattle.std.specs.List.{All};
 ghost use Rattle.nm_device.specs.History.{is_opening, served};
-ghost use Rattle.nm_world.specs.World.{replied_to, IsSoundDevice, IsDelivered, IsAsked, AreMoved, AreDelivered, AreAsked, delivered_to, asked_of, left_from, links_sent, links_handled, devices_delivered, devices_asked, operator_at, parted};
+ghost use Rattle.nm_world.specs.World.{replied_to, IsSoundDevice, IsAsked, AreMoved, AreDelivered, AreAsked, asked_of, left_from, links_sent, links_handled, devices_delivered, devices_asked, operator_at, parted};
 
 use crate::course::Course;
 use crate::happened::Happened;
@@ -9,58 +11,35 @@ use crate::link::Link;
 use crate::operator::Operator;
 use nm_base::{NoMemory, SessionId};
 use nm_device::Recorded;
-use nm_proto::{Content, Request};
-
-// A device does the request that is outstanding on its link, and sends its reply.
-fn deliver_to<C: Content>(
-    content: &C,
-    edits: &[C::Edit],
-    device: &mut Recorded<C>,
-    link: &mut Link,
-) -> Result<Happened, NoMemory>
-    requires sound { IsSoundDevice (C.meaning content.now) device.old }
-    requires edits_belong { All (C.meaning content.now).edit_belongs edits.now }
-    ensures delivered { IfOk result (λ happened. IsDelivered happened device.new link.new (delivered_to (C.meaning content.now) edits.now device.old link.old)) }
-    ensures sound { IsSoundDevice (C.meaning content.now) device.new }
-{
-    let Some(request) = link.outstanding() else {
-        return Ok(Happened::Idle);
-    };
-    let Some(told) = device.serve(content, edits, link.session(), request)? else {
-        return Ok(Happened::Idle);
-    };
-    link.take_reply(told.reply)?;
-    Ok(Happened::Replied {
-        reply: told.again,
-        undone: told.undone,
-    })
-}
+use nm_proto::{Content, Request, Tables};
 
 // A device does a request of an operator. One that has a session there doesn't ask for another.
 fn ask_of<C: Content>(
     content: &C,
-    edits: &[C::Edit],
+    tables: &Tables<C>,
     device: &mut Recorded<C>,
     operator: &mut Operator,
     place: usize,
     request: &Request,
 ) -> Result<Happened, NoMemory>
     requires sound { IsSoundDevice (C.meaning content.now) device.old }
-    requires edits_belong { All (C.meaning content.now).edit_belongs edits.now }
-    ensures asked { IfOk result (λ happened. IsAsked happened device.new operator.new (asked_of (C.meaning content.now) edits.now device.old operator.old place request.now)) }
+    requires edits_belong { All (C.meaning content.now).edit_belongs tables.now.edits }
+    ensures unchanged { OnErr result (device.new ≡ device.old) }
+    ensures operator_unchanged { OnErr result (operator.new ≡ operator.old) }
+    ensures asked { IfOk result (λ happened. IsAsked happened device.new operator.new (asked_of (C.meaning content.now) tables.now device.old operator.old place request.now)) }
     ensures sound { IsSoundDevice (C.meaning content.now) device.new }
 {
     let session = operator.session(device, place);
     if asks_again(request, session.is_some()) {
         return Ok(Happened::Idle);
     }
-    reply_to(content, edits, device, operator, place, session, request)
+    reply_to(content, tables, device, operator, place, session, request)
 }
 
 // A device does a request on the session of an operator, or the request for one.
 fn reply_to<C: Content>(
     content: &C,
-    edits: &[C::Edit],
+    tables: &Tables<C>,
     device: &mut Recorded<C>,
     operator: &mut Operator,
     place: usize,
@@ -68,11 +47,13 @@ fn reply_to<C: Content>(
     request: &Request,
 ) -> Result<Happened, NoMemory>
     requires sound { IsSoundDevice (C.meaning content.now) device.old }
-    requires edits_belong { All (C.meaning content.now).edit_belongs edits.now }
-    ensures replied { IfOk result (λ happened. IsAsked happened device.new operator.new (replied_to device.old operator.old place (served (C.meaning content.now) edits.now device.old session request.now))) }
+    requires edits_belong { All (C.meaning content.now).edit_belongs tables.now.edits }
+    ensures unchanged { OnErr result (device.new ≡ device.old) }
+    ensures operator_unchanged { OnErr result (operator.new ≡ operator.old) }
+    ensures replied { IfOk result (λ happened. IsAsked happened device.new operator.new (replied_to device.old operator.old place (served (C.meaning content.now) tables.now device.old session request.now))) }
     ensures sound { IsSoundDevice (C.meaning content.now) device.new }
 {
-    let Some(told) = device.serve(content, edits, session, request)? else {
+    let Some(told) = device.serve(content, tables, session, request)? else {
         return Ok(Happened::Idle);
     };
     operator.keep(place, &told.reply);
@@ -90,6 +71,7 @@ fn leave_from<C: Content>(
     place: usize,
 ) -> Result<Happened, NoMemory>
     requires sound { IsSoundDevice (C.meaning content.now) device.old }
+    ensures unchanged { OnErr result (device.new ≡ device.old) }
     ensures left { IfOk result (λ happened. IsAsked happened device.new operator.now (left_from device.old operator.now place)) }
     ensures sound { IsSoundDevice (C.meaning content.now) device.new }
 {
@@ -121,7 +103,8 @@ fn operator_at(operators: &[Operator], number: usize) -> Option<&Operator>
 
 /// The next request of the course is sent on the link at a place, where one is left.
 pub fn send_at(links: &mut Vec<Link>, course: &Course, place: usize) -> Result<Happened, NoMemory>
-    ensures { IfOk result (λ happened. AreMoved happened links.new.items (links_sent course.now links.old.items place (slice_get links.old.items place))) }
+    ensures unchanged { OnErr result (links.new.items ≡ links.old.items) }
+    ensures sent { IfOk result (λ happened. AreMoved happened links.new.items (links_sent course.now links.old.items place (slice_get links.old.items place))) }
 {
     if place < links.len() {
         links[place].send(course)
@@ -144,14 +127,16 @@ pub fn handle_at(links: &mut Vec<Link>, place: usize, number: usize) -> Happened
 /// The device at a place does the request that is outstanding on its link.
 pub fn deliver_at<C: Content>(
     content: &C,
-    edits: &[C::Edit],
+    tables: &Tables<C>,
     devices: &mut Vec<Recorded<C>>,
     links: &mut Vec<Link>,
     place: usize,
 ) -> Result<Happened, NoMemory>
     requires sound { All (IsSoundDevice (C.meaning content.now)) devices.old.items }
-    requires edits_belong { All (C.meaning content.now).edit_belongs edits.now }
-    ensures delivered { IfOk result (λ happened. AreDelivered happened devices.new.items links.new.items (devices_delivered (C.meaning content.now) edits.now devices.old.items links.old.items place (slice_get links.old.items place) (slice_get devices.old.items place))) }
+    requires edits_belong { All (C.meaning content.now).edit_belongs tables.now.edits }
+    ensures devices_unchanged { OnErr result (devices.new.items ≡ devices.old.items) }
+    ensures links_unchanged { OnErr result (links.new.items ≡ links.old.items) }
+    ensures delivered { IfOk result (λ happened. AreDelivered happened devices.new.items links.new.items (devices_delivered (C.meaning content.now) tables.now devices.old.items links.old.items place (slice_get links.old.items place) (slice_get devices.old.items place))) }
     ensures sound { All (IsSoundDevice (C.meaning content.now)) devices.new.items }
 {
     if place >= links.len() {
@@ -160,13 +145,13 @@ pub fn deliver_at<C: Content>(
     if place >= devices.len() {
         return Ok(Happened::Idle);
     }
-    deliver_to(content, edits, &mut devices[place], &mut links[place])
+    links[place].deliver(content, tables, &mut devices[place])
 }
 
 /// The device at a place does a request of an operator, by its number from 1.
 pub fn ask_at<C: Content>(
     content: &C,
-    edits: &[C::Edit],
+    tables: &Tables<C>,
     devices: &mut Vec<Recorded<C>>,
     operators: &mut Vec<Operator>,
     number: usize,
@@ -174,8 +159,10 @@ pub fn ask_at<C: Content>(
     request: &Request,
 ) -> Result<Happened, NoMemory>
     requires sound { All (IsSoundDevice (C.meaning content.now)) devices.old.items }
-    requires edits_belong { All (C.meaning content.now).edit_belongs edits.now }
-    ensures asked { IfOk result (λ happened. AreAsked happened devices.new.items operators.new.items (devices_asked (C.meaning content.now) edits.now devices.old.items operators.old.items number place request.now (operator_at operators.old.items number) (slice_get devices.old.items place))) }
+    requires edits_belong { All (C.meaning content.now).edit_belongs tables.now.edits }
+    ensures devices_unchanged { OnErr result (devices.new.items ≡ devices.old.items) }
+    ensures operators_unchanged { OnErr result (operators.new.items ≡ operators.old.items) }
+    ensures asked { IfOk result (λ happened. AreAsked happened devices.new.items operators.new.items (devices_asked (C.meaning content.now) tables.now devices.old.items operators.old.items number place request.now (operator_at operators.old.items number) (slice_get devices.old.items place))) }
     ensures sound { All (IsSoundDevice (C.meaning content.now)) devices.new.items }
 {
     if number == 0 {
@@ -190,7 +177,7 @@ pub fn ask_at<C: Content>(
     let operator = &mut operators[number - 1];
     ask_of(
         content,
-        edits,
+        tables,
         &mut devices[place],
         operator,
         place,
@@ -207,6 +194,7 @@ pub fn leave_at<C: Content>(
     place: usize,
 ) -> Result<Happened, NoMemory>
     requires sound { All (IsSoundDevice (C.meaning content.now)) devices.old.items }
+    ensures unchanged { OnErr result (devices.new.items ≡ devices.old.items) }
     ensures left { IfOk result (λ happened. AreAsked happened devices.new.items operators.now (parted devices.old.items operators.now number place (operator_at operators.now number) (slice_get devices.old.items place))) }
     ensures sound { All (IsSoundDevice (C.meaning content.now)) devices.new.items }
 {

@@ -4,14 +4,16 @@ ghost use Rattle.nm_world.specs.World.{IsFirst};
 ghost use Rattle.std.specs.List.{All};
 
 use crate::course::Course;
-use crate::happened::Happened;
+use crate::happened::{Happened, Passed};
 use crate::outcome::{Outcome, outcome_of};
 use crate::world::World;
-use nm_base::{ChangeNo, DeviceNo, EditNo, Label, NoMemory, SessionId};
+use nm_base::{
+    ChangeNo, DEFAULT_TIMEOUT, DeviceMask, DeviceNo, EditNo, Label, MANAGER, NoMemory, SessionId,
+};
 use nm_device::Recorded;
 use nm_proto::{
     Content, DefaultOperation, Event, FlatConfig, FlatContent, FlatEdit, Listed, NumberMap,
-    PlannedEdit, Reply, Request, Show,
+    PlannedEdit, Reply, Request, Show, Tables,
 };
 use std::alloc::Global;
 use std::test::Fail;
@@ -57,8 +59,9 @@ fn edit_of(alloc: Global) -> Result<FlatEdit, NoMemory> {
 fn course_of(alloc: Global, change: ChangeNo) -> Result<Course, NoMemory> {
     Ok(Course {
         change,
-        timeout: 600,
-        user: Label::new(alloc, "netm")?,
+        devices: DeviceMask(3),
+        timeout: DEFAULT_TIMEOUT,
+        user: Label::new(alloc, MANAGER)?,
         token: Label::new(alloc, "netm:1")?,
     })
 }
@@ -79,7 +82,8 @@ fn two_devices(alloc: Global, change: ChangeNo) -> Result<World<FlatContent>, Fa
     let course = course_of(alloc, change)?;
     let plan = [planned(1)?, planned(2)?];
     let content = FlatContent::new(alloc);
-    Ok(World::new(alloc, content, edits, running, course, &plan, 0)?)
+    let tables = Tables::new(edits, Listed::new(alloc));
+    Ok(World::new(alloc, content, tables, running, course, &plan, 0)?)
 }
 
 // Whether a device runs the edited configuration.
@@ -128,8 +132,8 @@ fn one_operator(alloc: Global) -> Result<World<FlatContent>, Fail> {
     let change = ChangeNo::new(1).ok_or("range")?;
     let course = course_of(alloc, change)?;
     let content = FlatContent::new(alloc);
-    let edits = Listed::new(alloc);
-    Ok(World::new(alloc, content, edits, running, course, &[], 1)?)
+    let tables = Tables::new(Listed::new(alloc), Listed::new(alloc));
+    Ok(World::new(alloc, content, tables, running, course, &[], 1)?)
 }
 
 // Operator 1 asks device 1.
@@ -141,8 +145,8 @@ fn asking(device: DeviceNo, request: Request) -> Event {
     }
 }
 
-fn is_reply(happened: &Happened, want: &Reply) -> bool {
-    match happened {
+fn is_reply(passed: &Passed, want: &Reply) -> bool {
+    match &passed.happened {
         Happened::Replied { reply, undone } => !*undone && reply.same(want),
         _ => false,
     }
@@ -153,6 +157,7 @@ fn is_reply(happened: &Happened, want: &Reply) -> bool {
 fn operators_come_and_go(rt: HostRuntime) -> Result<(), Fail> {
     let device = DeviceNo::new(1).ok_or("range")?;
     let user = Label::new(rt.alloc(), "alice")?;
+    let again = user.copy()?;
     let first = SessionId::new(1).ok_or("range")?;
     let mut world = one_operator(rt.alloc())?;
     world.run(&[
@@ -170,9 +175,14 @@ fn operators_come_and_go(rt: HostRuntime) -> Result<(), Fail> {
     let [opened, rows, left, idle] = world.trail() else {
         return Err("not 4 entries")?;
     };
+    assert!(rt;
+        opened
+            .event
+            .same(&asking(device, Request::OpenSession { user: again }))
+    );
     assert!(rt; is_reply(opened, &Reply::Opened(first)));
     assert!(rt; is_reply(rows, &Reply::Rows(1)));
-    assert!(rt; matches!(left, Happened::Left { undone: false }));
-    assert!(rt; matches!(idle, Happened::Idle));
+    assert!(rt; matches!(&left.happened, Happened::Left { undone: false }));
+    assert!(rt; matches!(&idle.happened, Happened::Idle));
     Ok(())
 }

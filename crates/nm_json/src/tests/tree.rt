@@ -1,7 +1,7 @@
 //! The schema tree of the tests.
 
-use nm_base::{Label, NoMemory};
-use nm_tree::{Elements, Groups, Node, NodeKind, Numbers, Reference, Schema, SharedType};
+use nm_base::{Groups, Label, NoMemory, Numbers};
+use nm_tree::{Elements, Node, NodeKind, Reference, Schema, SharedType};
 use nm_types::{LeafType, TypeKind};
 use std::alloc::Global;
 

@@ -4,7 +4,7 @@ use Rattle.std.proofs.lemmas.Option.{cond_some, same_Some, none-some}
 use Rattle.nm_base.specs.declared.tag.Tag.{Tag}
 use Rattle.nm_proto.specs.declared.message.Request.{Request}
 use Rattle.nm_proto.specs.declared.message.Request.TheVariants.{OpenSession, Lock, Unlock, PartialLock, PartialUnlock, Edit, Validate, Commit, CancelCommit, Discard, HasMark, GetConfig, Kill, CloseSession}
-use Rattle.nm_proto.specs.Content.{Meaning, Refusal}
+use Rattle.nm_proto.specs.Content.{Meaning, Refusal, TablesState}
 use Rattle.nm_sessions.specs.Sessions.{is_open}
 use Rattle.nm_device.specs.declared.event.DeviceEvent.{DeviceEvent}
 use Rattle.nm_device.specs.declared.event.DeviceEvent.TheVariants.{Entered, Asked}
@@ -41,15 +41,15 @@ pub record IsEntered {Config : Type 0} (r : RecordedState Config) (request : Req
   pub reply_is : entry.reply ≡ Some s.reply
   pub effect_is : effect_of_event entry.event ≡ effect_of request
 
-module _ {Config TheEdit Node : Type 0} (m : Meaning Config TheEdit Node) (edits : List TheEdit) (r : RecordedState Config) where
-  served_on_enters : (session : Option ℕ) (request : Request) (s : Served Config) → served_on m edits r session request ≡ Some s → IsEntered r request s
+module _ {Config TheEdit Node : Type 0} (m : Meaning Config TheEdit Node) (tables : TablesState TheEdit) (r : RecordedState Config) where
+  served_on_enters : (session : Option ℕ) (request : Request) (s : Served Config) → served_on m tables r session request ≡ Some s → IsEntered r request s
   served_on_enters None request s e = absurd (none-some s e)
   served_on_enters (Some session) request s e =
-      let stepped = device_step m edits r.device session request in
+      let stepped = device_step m tables r.device session request in
       subst (IsEntered r request) (cond_some (is_open r.device.sessions session) (served_by r (Asked session request) stepped) s e).1
       (record { entry = noted (Asked session request) (answered stepped); history_is = refl; reply_is = refl; effect_is = refl })
 
-  served_to_enters : (session : Option ℕ) (request : Request) (user : Option (List ℕ)) (s : Served Config) → opening_user request ≡ user → served_to m edits r session request user ≡ Some s → IsEntered r request s
+  served_to_enters : (session : Option ℕ) (request : Request) (user : Option (List ℕ)) (s : Served Config) → opening_user request ≡ user → served_to m tables r session request user ≡ Some s → IsEntered r request s
   served_to_enters session request None s asks e = served_on_enters session request s e
   served_to_enters session request (Some user) s asks e =
       let stepped = opened r.device user in
@@ -57,7 +57,7 @@ module _ {Config TheEdit Node : Type 0} (m : Meaning Config TheEdit Node) (edits
       (record { entry = noted (Entered user) (answered stepped); history_is = refl; reply_is = refl; effect_is = sym (opening_is_quiet request user asks) })
 
   -- what is served is noted
-  pub served_enters : (session : Option ℕ) (request : Request) (s : Served Config) → served m edits r session request ≡ Some s → IsEntered r request s
+  pub served_enters : (session : Option ℕ) (request : Request) (s : Served Config) → served m tables r session request ≡ Some s → IsEntered r request s
   served_enters session request s e = served_to_enters session request (opening_user request) s refl e
 
   commit_unless_verdict : (session : ℕ) (violation : Option Refusal) (confirmed : Bool) (persist : Option (List ℕ)) → is_verdict (Some (commit_unless r.device session violation confirmed persist).reply) ≡ true
@@ -70,7 +70,7 @@ module _ {Config TheEdit Node : Type 0} (m : Meaning Config TheEdit Node) (edits
 
   -- a commit is answered by Done or an error
   pub commit_has_verdict : (session : Option ℕ) (confirmed : Bool) (timeout : Option ℕ) (persist persist_id : Option (List ℕ)) (s : Served Config)
-      → served m edits r session (Commit confirmed timeout persist persist_id) ≡ Some s → is_verdict (Some s.reply) ≡ true
+      → served m tables r session (Commit confirmed timeout persist persist_id) ≡ Some s → is_verdict (Some s.reply) ≡ true
   commit_has_verdict None confirmed timeout persist persist_id s e = absurd (none-some s e)
   commit_has_verdict (Some session) confirmed timeout persist persist_id s e =
       let form : CommitForm = record { confirmed = confirmed; timeout = timeout; persist = persist; persist_id = persist_id } in

@@ -9,7 +9,7 @@ use Rattle.nm_proto.specs.declared.message.Reply.{Reply}
 use Rattle.nm_proto.specs.declared.message.Request.TheVariants.{Commit}
 use Rattle.nm_proto.specs.declared.plan.PlannedEdit.{PlannedEdit}
 use Rattle.nm_device.specs.declared.event.Noted.{Noted}
-use Rattle.nm_world.specs.declared.link.Link.{Link}
+use Rattle.nm_world.specs.Link.{LinkState}
 use Rattle.nm_world.specs.declared.course.Course.{Course}
 use Rattle.nm_world.specs.declared.outcome.Outcome.{Outcome}
 use Rattle.nm_world.specs.declared.outcome.Outcome.TheVariants.{Never, Pending, Confirmed, Undone}
@@ -119,7 +119,7 @@ module _ (course : Course) (planned : PlannedEdit) where
     confirmed_only_if_journalled : outcome_of course.token history ≡ Confirmed → decided ≡ true
     committed_everywhere : decided ≡ true → outcome_of course.token history ≢ Never
 
-  followed_keeps : (decided : Bool) (link : Link) (history : List Exchange) → IsFollowed course planned decided link history → Keeps decided history
+  followed_keeps : (decided : Bool) (link : LinkState) (history : List Exchange) → IsFollowed course planned decided link history → Keeps decided history
   followed_keeps decided link history f = record {
     confirmed_only_if_journalled = λ confirmed. by_length confirmed (cases_lt 6 (length history));
     committed_everywhere = λ d. six_pending history f.requests_are_noted (ap (λ replies. is_done (slice_get replies 5)) (sym f.replies_are_noted) ∙ acknowledged_done link (f.acknowledged_by_verdict d));
@@ -142,7 +142,7 @@ module _ (course : Course) (planned : PlannedEdit) where
       ∙ noted_as_exchanged (standing_after course.token standing.outcome standing.other (exchange_effect exchange)) exchanges history noted.2
 
   -- a device whose history is what was exchanged keeps the decision
-  pub traced_keeps : (decided : Bool) (link : Link) (history : List Noted) → IsTraced course planned decided link history → KeepsDecision course.token decided history
+  pub traced_keeps : (decided : Bool) (link : LinkState) (history : List Noted) → IsTraced course planned decided link history → KeepsDecision course.token decided history
   traced_keeps decided link history t =
       let same : outcome_noted course.token history ≡ outcome_of course.token t.exchanges = ap (λ (s : Standing). s.outcome) (noted_as_exchanged before_all t.exchanges history t.noted) in
       let k = followed_keeps decided link t.exchanges t.followed in

@@ -8,7 +8,7 @@ use Rattle.nm_proto.specs.declared.message.Reply.{Reply}
 use Rattle.nm_proto.specs.declared.plan.PlannedEdit.{PlannedEdit}
 use Rattle.nm_device.specs.Table.{is_error}
 use Rattle.nm_world.specs.declared.happened.Happened.TheVariants as happened
-use Rattle.nm_world.specs.declared.link.Link.{Link}
+use Rattle.nm_world.specs.Link.{LinkState}
 use Rattle.nm_world.specs.declared.course.Course.{Course}
 use Rattle.nm_world.specs.Course.{unused, is_member, is_done, is_refused, requests_of, next_request, is_acknowledged, wants_acknowledgement}
 use Rattle.nm_world.specs.World.{LinkMoved, with_sent, sent_if, sent_for, sent_on, handled_on}
@@ -17,13 +17,13 @@ use Rattle.nm_world.proofs.Safe.Lists.{beginning_more, beginning_at, append_with
 use Rattle.nm_world.proofs.Safe.Actions.{MaySend}
 
 -- how many replies were handled where the device acknowledged
-pub acknowledged_handled : (link : Link) → is_acknowledged link ≡ true → 6 ≤ link.handled
+pub acknowledged_handled : (link : LinkState) → is_acknowledged link ≡ true → 6 ≤ link.handled
 acknowledged_handled link h = leb-true 6 link.handled (and_parts (nat_le 6 link.handled) (is_done (slice_get link.replies 5)) h).0
 
-pub acknowledged_done : (link : Link) → is_acknowledged link ≡ true → is_done (slice_get link.replies 5) ≡ true
+pub acknowledged_done : (link : LinkState) → is_acknowledged link ≡ true → is_done (slice_get link.replies 5) ≡ true
 acknowledged_done link h = (and_parts (nat_le 6 link.handled) (is_done (slice_get link.replies 5)) h).1
 
-acknowledged_by : (link : Link) → 6 ≤ link.handled → is_done (slice_get link.replies 5) ≡ true → is_acknowledged link ≡ true
+acknowledged_by : (link : LinkState) → 6 ≤ link.handled → is_done (slice_get link.replies 5) ≡ true → is_acknowledged link ≡ true
 acknowledged_by link h d = and_from (nat_le 6 link.handled) (is_done (slice_get link.replies 5)) (le-leb 6 link.handled h) d
 
 -- a device whose sixth reply was handled and isn't a refusal acknowledged
@@ -35,7 +35,7 @@ verdict_done (Some reply) h unrefused = go (or_cases (is_done (Some reply)) (is_
     go (inl done) = done
     go (inr error) = let e = unrefused reply refl in absurd (true≢false (sym error ∙ e))
 
-handled_unrefused : (link : Link) → 6 ≤ link.handled → link.handled ≤ length link.replies → is_refused link ≡ false → is_verdict (slice_get link.replies 5) ≡ true → is_acknowledged link ≡ true
+handled_unrefused : (link : LinkState) → 6 ≤ link.handled → link.handled ≤ length link.replies → is_refused link ≡ false → is_verdict (slice_get link.replies 5) ≡ true → is_acknowledged link ≡ true
 handled_unrefused link h within unrefused verdict = acknowledged_by link h (verdict_done (slice_get link.replies 5) verdict (λ reply at.
     none_at is_error (take link.handled link.replies) 5 reply unrefused (take_within link.handled link.replies 5 (omega arith) ∙ at)))
 
@@ -55,7 +55,7 @@ module _ (course : Course) (planned : PlannedEdit) where
   }
 
   -- the decision comes where the device acknowledged
-  pub decided_followed : (decided : Bool) (link : Link) (history : List Exchange) → IsFollowed course planned decided link history → link.edit ≡ Some planned → wants_acknowledgement link ≡ false → IsFollowed course planned true link history
+  pub decided_followed : (decided : Bool) (link : LinkState) (history : List Exchange) → IsFollowed course planned decided link history → link.edit ≡ Some planned → wants_acknowledgement link ≡ false → IsFollowed course planned true link history
   decided_followed decided link history f member unwanted =
       let there : is_member link ≡ true = ap is_some member in
       record {
@@ -70,7 +70,7 @@ module _ (course : Course) (planned : PlannedEdit) where
         acknowledged_by_verdict = λ _. not-false (is_acknowledged link) (sym (ap (λ b. b && not (is_acknowledged link)) there) ∙ unwanted);
       }
 
-  seventh_decided : (decided : Bool) (link : Link) (history : List Exchange) → IsFollowed course planned decided link history → MaySend decided link → 6 ≤ length link.sent → decided ≡ true
+  seventh_decided : (decided : Bool) (link : LinkState) (history : List Exchange) → IsFollowed course planned decided link history → MaySend decided link → 6 ≤ length link.sent → decided ≡ true
   seventh_decided true link history f may h = refl
   seventh_decided false link history f may h =
       let idle : length link.sent ≤ link.handled = ltb-false link.handled (length link.sent) may.idle in
@@ -79,7 +79,7 @@ module _ (course : Course) (planned : PlannedEdit) where
       let unacknowledged : is_acknowledged link ≡ false = not-true (is_acknowledged link) (and_parts (is_member link) (not (is_acknowledged link)) (may.wanted refl)).1 in
       absurd (true≢false (sym acknowledged ∙ unacknowledged))
 
-  sent_request : (decided : Bool) (link : Link) (history : List Exchange) (request : Option Request) → slice_get (requests_of course planned) (length link.sent) ≡ request
+  sent_request : (decided : Bool) (link : LinkState) (history : List Exchange) (request : Option Request) → slice_get (requests_of course planned) (length link.sent) ≡ request
       → IsFollowed course planned decided link history → MaySend decided link → IsFollowed course planned decided (sent_if link planned request).link history
   sent_request decided link history None e f may = f
   sent_request decided link history (Some request) e f may =
@@ -99,13 +99,13 @@ module _ (course : Course) (planned : PlannedEdit) where
       }
 
   -- one more request is sent
-  pub sent_followed : (decided : Bool) (link : Link) (history : List Exchange) → link.edit ≡ Some planned → IsFollowed course planned decided link history → MaySend decided link → IsFollowed course planned decided (sent_on course link).link history
+  pub sent_followed : (decided : Bool) (link : LinkState) (history : List Exchange) → link.edit ≡ Some planned → IsFollowed course planned decided link history → MaySend decided link → IsFollowed course planned decided (sent_on course link).link history
   sent_followed decided link history member f may =
-      subst (λ (now : Link). IsFollowed course planned decided now history) (sym (ap (λ e. (sent_for course link e).link) member))
+      subst (λ (now : LinkState). IsFollowed course planned decided now history) (sym (ap (λ e. (sent_for course link e).link) member))
       (sent_request decided link history (slice_get (requests_of course planned) (length link.sent)) refl f may)
 
   -- one more reply is handled
-  pub handled_followed : (decided : Bool) (link : Link) (history : List Exchange) (number : ℕ) → IsFollowed course planned decided link history → IsFollowed course planned decided (handled_on link number).link history
+  pub handled_followed : (decided : Bool) (link : LinkState) (history : List Exchange) (number : ℕ) → IsFollowed course planned decided link history → IsFollowed course planned decided (handled_on link number).link history
   handled_followed decided link history number f = cond_both (number == link.handled + 1 && nat_le number (length link.replies)) (record { link = record link { handled = number }; happened = happened.Handled }) (record { link = link; happened = happened.Idle }) (λ (moved : LinkMoved). IsFollowed course planned decided moved.link history)
       (λ h.
       let parts = and_parts (number == link.handled + 1) (nat_le number (length link.replies)) h in
@@ -128,7 +128,7 @@ module _ (course : Course) (planned : PlannedEdit) where
       (λ _. f)
 
   -- one more request is delivered, and its reply sent
-  pub delivered_followed : (decided : Bool) (link : Link) (history : List Exchange) (request : Request) (reply : Reply) → slice_get link.sent (length link.replies) ≡ Some request
+  pub delivered_followed : (decided : Bool) (link : LinkState) (history : List Exchange) (request : Request) (reply : Reply) → slice_get link.sent (length link.replies) ≡ Some request
       → (slice_get (requests_of course planned) 5 ≡ Some request → is_verdict (Some reply) ≡ true)
       → IsFollowed course planned decided link history → IsFollowed course planned decided (record link { replies = link.replies ++ reply ∷ [] }) (history ++ record { request = request; reply = reply } ∷ [])
   delivered_followed decided link history request reply out verdict f =

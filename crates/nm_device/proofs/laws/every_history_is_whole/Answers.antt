@@ -3,4 +3,4 @@ use Rattle.nm_device.proofs.laws.every_history_is_whole.Goals as goal
 
 -- src/laws.rt:11:1
 pub returns : goal.returns
-returns g c edits running events valid = every_history (g.C.Content.meaning c.args.content.now) edits running events valid
+returns g c tables running events valid = every_history (g.C.Content.meaning c.args.content.now) tables running events valid

@@ -2,7 +2,7 @@ use Rattle.std.proofs.Common.{inl, length}
 use Rattle.nm_journal.specs.Fits.{ReadsWithOrWithout}
 use Rattle.nm_disk.specs.Moments.{and_then, weaker}
 use Rattle.nm_journal.proofs.Told.{some_told}
-use Rattle.nm_journal.proofs.Append.{on_ok_two, within, first_torn, first_done, second_torn, second_done}
+use Rattle.nm_journal.proofs.Append.{on_ok_two, within, first_torn, first_done, second_torn, second_done, written_both, has_length_push}
 use Rattle.nm_journal.proofs.steps.write_record.Goals as goal
 
 pub write_and_sync-requires : goal.write_and_sync-requires
@@ -31,7 +31,7 @@ returns-clause-any_moment g c = λ some.
     let staging = first_done (g.D.Disk.told disk) (g.D.Disk.told mid) (g.D.Disk.may_leave mid) entries entry c.block_of.result (λ bytes tells. c.requires.fits some bytes (g.met.D.Disk.as_read disk bytes tells))
     c.block_of.ensures.block c.in_ok-write_and_sync.ensures.written c.in_ok-write_and_sync.ensures.durable some in
     let second = weaker g.D.Disk.moment g.D.Disk.might_have_left g.D.Disk.may_leave mid new _ P
-    (second_torn entries entry (g.D.Disk.told mid) (g.D.Disk.may_leave mid) c.requires.follows c.block_of.ensures.read_back staging) (c.write_and_sync-2.ensures.any_moment (some_told (g.D.Disk.told mid) staging.bytes staging.tells)) in
+    (second_torn entries entry (g.D.Disk.told mid) (g.D.Disk.may_leave mid) c.requires.may.follows c.block_of.ensures.read_back staging) (c.write_and_sync-2.ensures.any_moment (some_told (g.D.Disk.told mid) staging.bytes staging.tells)) in
     and_then g.D.Disk.moment g.D.Disk.might_have_left g.D.Disk.may_leave disk mid new P first second
 
 pub returns-clause-added : goal.returns-clause-added
@@ -45,5 +45,19 @@ returns-clause-added g c =
     (λ written durable some image left.
     let staging = first_done (g.D.Disk.told disk) (g.D.Disk.told mid) (g.D.Disk.may_leave mid) entries entry c.block_of.result (λ bytes tells. c.requires.fits some bytes (g.met.D.Disk.as_read disk bytes tells))
     c.block_of.ensures.block c.in_ok-write_and_sync.ensures.written c.in_ok-write_and_sync.ensures.durable some in
-    second_done entries entry (g.D.Disk.told mid) (g.D.Disk.told new) (g.D.Disk.may_leave mid) (g.D.Disk.may_leave new) c.requires.follows c.block_of.ensures.read_back staging written durable image left)
+    second_done entries entry (g.D.Disk.told mid) (g.D.Disk.told new) (g.D.Disk.may_leave mid) (g.D.Disk.may_leave new) c.requires.may.follows c.block_of.ensures.read_back staging written durable image left)
     c.write_and_sync-2.ensures.written c.write_and_sync-2.ensures.durable
+
+pub returns-clause-written : goal.returns-clause-written
+returns-clause-written g c =
+    let disk = c.args.disk.now in
+    let fits = within (g.D.Disk.told disk) c.args.entries.now (λ bytes tells. c.requires.fits (some_told (g.D.Disk.told disk) bytes tells) bytes (g.met.D.Disk.as_read disk bytes tells)) in
+    on_ok_two c.write_and_sync-2.result
+    (λ written again. written_both (g.D.Disk.told disk) (g.D.Disk.told c.write_and_sync.new.disk) (g.D.Disk.told c.write_and_sync-2.new.disk) c.args.entries.now c.args.entry.now c.block_of.result c.block_of.ensures.block fits c.in_ok-write_and_sync.ensures.written written)
+    c.write_and_sync-2.ensures.written c.write_and_sync-2.ensures.written
+
+pub returns-clause-length : goal.returns-clause-length
+returns-clause-length g c =
+    on_ok_two c.write_and_sync-2.result
+    (λ written again has. has_length_push (g.D.Disk.told c.args.disk.now) (g.D.Disk.told c.write_and_sync-2.new.disk) c.args.entries.now c.args.entry.now written has)
+    (returns-clause-written g c) (returns-clause-written g c)

@@ -1,7 +1,7 @@
-use Rattle.std.proofs.Common.{◌≡◌, ◌+◌, ◌≤◌, inl, List, length, vec_len, vec_capacity, sym, ap, subst, arith, rules}
+use Rattle.std.proofs.Common.{◌≡◌, ◌+◌, ◌≤◌, inl, Some, List, ◌∙◌, length, vec_len, vec_capacity, sym, ap, subst, arith, rules}
 use Rattle.std.specs.Option.{IfSome}
 use Rattle.nm_proto.specs.declared.journal.Entry.{Entry}
-use Rattle.nm_journal.specs.Fits.{ReadsAs, IsRead}
+use Rattle.nm_journal.specs.Fits.{ReadsAs, IsRead, closed_behind}
 use Rattle.nm_journal.specs.declared.fault.JournalFault.TheVariants.{NoMemory}
 use Rattle.nm_journal.proofs.Bound.{at_most}
 use Rattle.nm_journal.proofs.Reopen.{while_read, while_closed, not_memory}
@@ -41,3 +41,11 @@ pub returns-in-Err-close-clause-any_moment : goal.returns-in-Err-close-clause-an
 returns-in-Err-close-clause-any_moment g c =
     let read = subst (λ (entries : List Entry). IfSome (g.D.Disk.told c.args.disk.now) (IsRead entries c.in-Ok.size (g.D.Disk.may_leave c.read_back.new.disk))) (sym c.deref.ensures.value) c.in-Ok.ensures.read in
     while_closed g.D.Disk.moment g.D.Disk.might_have_left g.D.Disk.may_leave g.D.Disk.told c.args.disk.now c.read_back.new.disk c.close.new.disk c.deref.result.now c.in-Ok.size read c.read_back.ensures.any_moment c.read_back.ensures.same c.close.ensures.any_moment
+
+pub returns-in-Ok-close-clause-written : goal.returns-in-Ok-close-clause-written
+returns-in-Ok-close-clause-written g c =
+    let old = g.D.Disk.told c.args.disk.now in
+    let new = g.D.Disk.told c.close.new.disk in
+    let same : c.extend_from_slice.new.self.items ≡ c.read_back.new.entries.items = search rules in
+    subst (λ (entries : List Entry). IfSome old (λ bytes. new ≡ Some (closed_behind entries bytes))) (c.deref.ensures.value ∙ sym same)
+    (subst (λ o. IfSome o (λ bytes. new ≡ Some (closed_behind c.deref.result.now bytes))) c.read_back.ensures.same c.in-Ok-close.ensures.written)

@@ -6,5 +6,5 @@ use Rattle.nm_world.proofs.world.World.rounds.Given as goal
 abbrev pub invariant-loop : goal.invariant-loop
 invariant-loop g l =
     (l.self ≡ with_state l.fn.self l.self.state)
-    × (rounds (g.C.Content.meaning l.fn.self.content) l.fn.self.edits (l.turns - l.counter) l.fn.self.course l.self.state
-    ≡ rounds (g.C.Content.meaning l.fn.self.content) l.fn.self.edits l.turns l.fn.self.course l.fn.self.state)
+    × (rounds (g.C.Content.meaning l.fn.self.content) l.fn.self.tables (l.turns - l.counter) l.fn.self.course l.self.state l.change
+    ≡ rounds (g.C.Content.meaning l.fn.self.content) l.fn.self.tables l.turns l.fn.self.course l.fn.self.state l.change)

@@ -1,0 +1,336 @@
+//! What stands at a moment, and what each elementary event does to it. It is apart from the trail, so that the trail's room
+//! outlasts an event.
+
+ghost use Rattle.std.specs.Prelude.{◌≡◌, ◌≤◌, ◌-◌, IfOk, None, map, replicate, slice_get};
+ghost use Rattle.std.specs.List.{All};
+ghost use Rattle.nm_device.specs.History.{recorded};
+ghost use Rattle.nm_world.specs.World.{planned_for, links_from};
+
+use crate::course::{Action, Course, is_submitted, next_action};
+use crate::happened::Happened;
+use crate::link::Link;
+use crate::operator::Operator;
+use crate::steps::{ask_at, deliver_at, handle_at, leave_at, send_at};
+use nm_base::NoMemory;
+use nm_device::Recorded;
+use nm_proto::{Content, Entry, Event, Listed, PlannedEdit, Request, Tables, Verdict};
+use std::alloc::Global;
+use std::marker::Model;
+
+/// The devices, the manager's links to them, its journal for one change set, and the operators beside it.
+pub(crate) struct Scene<C: Content + Drop> {
+    content: C,
+    tables: Tables<C>,
+    course: Course,
+    // Device d and its link stand at place d - 1.
+    devices: Vec<Recorded<C>>,
+    links: Vec<Link>,
+    entries: Vec<Entry>,
+    operators: Vec<Operator>,
+}
+
+impl<C: Content + Drop> Drop for Scene<C> {
+    fn drop(self) {
+        let Scene {
+            content,
+            tables,
+            course,
+            devices,
+            links,
+            entries,
+            operators,
+        } = self;
+        drop(content);
+        drop(tables);
+        drop(course);
+        drop(devices);
+        drop(links);
+        drop(entries);
+        drop(operators);
+    }
+}
+
+impl<C: Content + Drop> Model for Scene<C> {
+    ghost use Rattle.std.specs.List.{All};
+    ghost use Rattle.nm_world.specs.World.{Staged, IsSoundDevice};
+
+    ghost Value = { Staged C C.Config C.Edit };
+
+    ghost view = { λ w. record {
+      content = w.content;
+      tables = w.tables;
+      course = w.course;
+      state = record { devices = w.devices.items; links = w.links.items; entries = w.entries.items; operators = w.operators.items };
+    } };
+
+    ghost invariant = { λ w. All (IsSoundDevice (C.meaning w.content)) w.devices.items × All (C.meaning w.content).edit_belongs w.tables.edits };
+}
+
+impl<C: Content + Drop> Scene<C> {
+    ghost use Rattle.nm_world.specs.World.{begin, IsSoundDevice, IsFirst};
+
+    // Before anything happened, with so many operators.
+    pub(crate) fn new(
+        alloc: Global,
+        content: C,
+        tables: Tables<C>,
+        running: Listed<C::Config>,
+        course: Course,
+        planned: &[PlannedEdit],
+        operators: usize,
+    ) -> Result<Scene<C>, NoMemory>
+        requires running { All (IsFirst (C.meaning content)) running }
+        requires edits { All (C.meaning content).edit_belongs tables.edits }
+        ensures { IfOk result (λ w. w ≡ record { content = content; tables = tables; course = course; state = begin running planned.now operators }) }
+    {
+        let links = fresh_links(alloc, running.len(), planned)?;
+        let operators = fresh_operators(alloc, operators, running.len())?;
+        let devices = fresh_devices(alloc, running)?;
+        Ok(Scene {
+            content,
+            tables,
+            course,
+            devices,
+            links,
+            entries: Vec::new(alloc),
+            operators,
+        })
+    }
+
+    pub(crate) fn content(&self) -> &C
+        ensures { result.now ≡ self.now.content }
+    {
+        &self.content
+    }
+
+    pub(crate) fn course(&self) -> &Course
+        ensures { result.now ≡ self.now.course }
+    {
+        &self.course
+    }
+
+    pub(crate) fn devices(&self) -> &[Recorded<C>]
+        ensures value { result.now ≡ self.now.state.devices }
+        ensures sound { All (IsSoundDevice (C.meaning self.now.content)) self.now.state.devices }
+    {
+        self.devices.as_slice()
+    }
+
+    pub(crate) fn links(&self) -> &[Link]
+        ensures { result.now ≡ self.now.state.links }
+    {
+        self.links.as_slice()
+    }
+
+    pub(crate) fn entries(&self) -> &[Entry]
+        ensures { result.now ≡ self.now.state.entries }
+    {
+        self.entries.as_slice()
+    }
+}
+
+// The elementary events. Where there is no memory, nothing changes.
+impl<C: Content + Drop> Scene<C> {
+    ghost use Rattle.std.specs.Prelude.{slice_get};
+    ghost use Rattle.nm_world.specs.World.{Comes, submitted, turned, acted, sent_at, answered, delivered, asked, left, elementary};
+
+    // Submits the change set, once.
+    fn submit(&mut self) -> Result<Happened, NoMemory>
+        ensures { Comes result self.old self.new (submitted self.old.course self.old.state) }
+    {
+        if is_submitted(&self.entries) {
+            return Ok(Happened::Idle);
+        }
+        self.entries.push(Entry::Started {
+            change: self.course.change,
+            devices: self.course.devices,
+            timeout: Some(self.course.timeout),
+        })?;
+        Ok(Happened::Started)
+    }
+
+    // Does one action of the manager.
+    fn turn(&mut self) -> Result<Happened, NoMemory>
+        ensures { Comes result self.old self.new (turned self.old.course self.old.state) }
+    {
+        let action = next_action(&self.entries, &self.links);
+        self.act(action)
+    }
+
+    fn act(&mut self, action: Action) -> Result<Happened, NoMemory>
+        ensures { Comes result self.old self.new (acted self.old.course self.old.state action) }
+    {
+        match action {
+            Action::Wait => Ok(Happened::Idle),
+            Action::Send { place } => self.send(place),
+            Action::Decide => {
+                self.entries.push(Entry::Decided {
+                    change: self.course.change,
+                    verdict: Verdict::Commit,
+                })?;
+                Ok(Happened::Decided(Verdict::Commit))
+            }
+            Action::Finish => {
+                self.entries.push(Entry::Ended {
+                    change: self.course.change,
+                    kept: self.course.devices,
+                })?;
+                Ok(Happened::Ended)
+            }
+        }
+    }
+
+    // Sends the next request on the link at a place.
+    fn send(&mut self, place: usize) -> Result<Happened, NoMemory>
+        ensures { Comes result self.old self.new (sent_at self.old.course self.old.state place (slice_get self.old.state.links place)) }
+    {
+        let happened = send_at(&mut self.links, &self.course, place)?;
+        Ok(happened)
+    }
+
+    // The device at a place, from 0, does the request that is outstanding on its link, and sends its reply.
+    fn deliver(&mut self, place: usize) -> Result<Happened, NoMemory>
+        ensures { Comes result self.old self.new (delivered (C.meaning self.old.content) self.old.tables self.old.state place) }
+    {
+        let happened = deliver_at(
+            &self.content,
+            &self.tables,
+            &mut self.devices,
+            &mut self.links,
+            place,
+        )?;
+        Ok(happened)
+    }
+
+    // The manager handles a reply of the link at a place, from 0, by its number from 1. Any but the next one changes
+    // nothing.
+    fn answer(&mut self, place: usize, number: usize) -> Result<Happened, NoMemory>
+        ensures { Comes result self.old self.new (answered self.old.state place number) }
+    {
+        Ok(handle_at(&mut self.links, place, number))
+    }
+
+    // An operator, by its number from 1, asks the device at a place, from 0.
+    fn ask(
+        &mut self,
+        operator: usize,
+        place: usize,
+        request: &Request,
+    ) -> Result<Happened, NoMemory>
+        ensures { Comes result self.old self.new (asked (C.meaning self.old.content) self.old.tables self.old.state operator place request.now) }
+    {
+        let happened = ask_at(
+            &self.content,
+            &self.tables,
+            &mut self.devices,
+            &mut self.operators,
+            operator,
+            place,
+            request,
+        )?;
+        Ok(happened)
+    }
+
+    // The session that an operator, by its number from 1, has on the device at a place, from 0, is lost.
+    fn leave(&mut self, operator: usize, place: usize) -> Result<Happened, NoMemory>
+        ensures { Comes result self.old self.new (left self.old.state operator place) }
+    {
+        let happened = leave_at(
+            &self.content,
+            &mut self.devices,
+            &self.operators,
+            operator,
+            place,
+        )?;
+        Ok(happened)
+    }
+
+    // Does an elementary event.
+    pub(crate) fn come(&mut self, event: &Event) -> Result<Happened, NoMemory>
+        ensures { Comes result self.old self.new (elementary (C.meaning self.old.content) self.old.tables self.old.course self.old.state event.now) }
+    {
+        match event {
+            Event::Submit { .. } => self.submit(),
+            Event::Turn { .. } => self.turn(),
+            Event::Deliver {
+                device,
+                link: 1,
+                ..
+            } => self.deliver(usize::from(device.get()) - 1),
+            Event::Answer {
+                device,
+                link: 1,
+                number,
+                ..
+            } => self.answer(usize::from(device.get()) - 1, *number as usize),
+            Event::Foreign {
+                operator,
+                device,
+                request,
+            } => self.ask(*operator as usize, usize::from(device.get()) - 1, request),
+            Event::Leave { operator, device } => {
+                self.leave(*operator as usize, usize::from(device.get()) - 1)
+            }
+            Event::Deliver { .. }
+            | Event::Answer { .. }
+            | Event::Break { .. }
+            | Event::Lose { .. }
+            | Event::Advance { .. }
+            | Event::Restart { .. }
+            | Event::Forget { .. }
+            | Event::Crash
+            | Event::Renew { .. }
+            | Event::Round { .. } => Ok(Happened::Idle),
+        }
+    }
+}
+
+// So many operators, without sessions on so many devices.
+#[tactic(auto, using(crate::proofs::Rounds::repeating))]
+fn fresh_operators(alloc: Global, count: usize, devices: usize) -> Result<Vec<Operator>, NoMemory>
+    ensures { IfOk result (λ operators. operators.items ≡ replicate count (replicate devices None)) }
+{
+    let mut operators = Vec::new(alloc);
+    for _ in 0..count {
+        operators.push(Operator::new(alloc, devices)?)?;
+    }
+    Ok(operators)
+}
+
+// The edit of a device in a plan.
+fn planned_for(device: usize, planned: &[PlannedEdit]) -> Option<PlannedEdit>
+    ensures { result ≡ planned_for device planned.now }
+{
+    for edit in planned {
+        if usize::from(edit.device.get()) == device {
+            return Some(*edit);
+        }
+    }
+    None
+}
+
+// A link that nothing was sent on, for each of so many devices.
+#[tactic(auto, using(crate::proofs::Rounds::linking))]
+fn fresh_links(alloc: Global, count: usize, planned: &[PlannedEdit]) -> Result<Vec<Link>, NoMemory>
+    ensures { IfOk result (λ links. links.items ≡ links_from 1 count planned.now) }
+{
+    let mut links = Vec::new(alloc);
+    for place in 0..count {
+        links.push(Link::new(alloc, planned_for(place + 1, planned)))?;
+    }
+    Ok(links)
+}
+
+// A fresh device for each running configuration.
+fn fresh_devices<C: Content>(
+    alloc: Global,
+    mut running: Listed<C::Config>,
+) -> Result<Vec<Recorded<C>>, NoMemory>
+    ensures { IfOk result (λ devices. devices.items ≡ map recorded running) }
+{
+    let mut devices = Vec::new(alloc);
+    while let Some(config) = running.take_first() {
+        devices.push(Recorded::new(alloc, config))?;
+    }
+    Ok(devices)
+}
