@@ -1,0 +1,10 @@
+pub mod Orders
+pub mod Answers
+pub mod Tells
+pub mod Said
+pub mod Exact
+pub mod Keeping
+pub mod Counts
+pub mod Ranges
+pub mod Samples
+pub mod Placed

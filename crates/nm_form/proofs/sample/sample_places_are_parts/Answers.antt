@@ -1,0 +1,6 @@
+use Rattle.nm_form.specs.Sample.{sample_form}
+use Rattle.nm_form.proofs.Placed.{placed}
+use Rattle.nm_form.proofs.sample.sample_places_are_parts.Goals as goal
+
+pub returns : goal.returns
+returns c = λ whole cause place wrong. placed sample_form whole cause place wrong.0 wrong.1

@@ -1,0 +1,10 @@
+pub mod Order
+pub mod Form
+pub mod Says
+pub mod Wrong
+pub mod Read
+pub mod Leafs
+pub mod Kept
+pub mod Exact
+pub mod Places
+pub mod Sample

@@ -1,0 +1,71 @@
+//! Faults of a part of a JSON value, with what a lower reader told where it found them.
+
+ghost use Rattle.std.specs.Prelude.{◌≡◌};
+ghost use Rattle.nm_form.specs.declared.fault.ReadError.TheVariants.{NoMemory};
+
+use nm_base::Label;
+use nm_proto::Listed;
+use nm_reading::{ScenarioKind, Step};
+use std::alloc::{AllocError, AllocFailed};
+
+/// Where a lower reader found a fault inside the text that it was given.
+#[derive(Drop)]
+pub enum InnerPlace {
+    /// So many bytes from the text's beginning.
+    Byte(u64),
+    /// At a path of its own.
+    Path(Label),
+}
+
+/// What a lower reader told of a module's text, a configuration, an edit or a path.
+#[derive(Drop)]
+pub struct Inner {
+    /// The lower reader's own word for the fault.
+    pub what: Label,
+    pub place: InnerPlace,
+}
+
+/// Why a part is wrong: the kind of the fault, and what a lower reader told, where one found it.
+#[derive(Drop)]
+pub struct Cause {
+    pub kind: ScenarioKind,
+    pub inner: Option<Inner>,
+}
+
+/// The first fault of a part: its cause and its place, the way from the part to what is faulty in it.
+#[derive(Drop)]
+pub struct Fault {
+    pub cause: Cause,
+    pub place: Listed<Step>,
+}
+
+/// Why a part isn't read.
+#[derive(Drop)]
+pub enum ReadError {
+    Bad(Fault),
+    NoMemory,
+}
+
+impl From<nm_base::NoMemory> for ReadError {
+    ghost from_gives = { λ _ error. error ≡ NoMemory };
+
+    fn from(_error: nm_base::NoMemory) -> ReadError {
+        ReadError::NoMemory
+    }
+}
+
+impl From<AllocError> for ReadError {
+    ghost from_gives = { λ _ error. error ≡ NoMemory };
+
+    fn from(_error: AllocError) -> ReadError {
+        ReadError::NoMemory
+    }
+}
+
+impl<T: Drop> From<AllocFailed<T>> for ReadError {
+    ghost from_gives = { λ _ error. error ≡ NoMemory };
+
+    fn from(_error: AllocFailed<T>) -> ReadError {
+        ReadError::NoMemory
+    }
+}
