@@ -135,7 +135,7 @@ fn world_of(
     let content = FlatContent::new(alloc);
     let tables = Tables::new(edits, Listed::new(alloc));
     let course = course_of(alloc, plan)?;
-    let mut world = World::new(
+    let world = World::new(
         alloc,
         content,
         tables,
@@ -144,8 +144,7 @@ fn world_of(
         plan.edits.as_slice(),
         operators,
     )?;
-    world.run(events)?;
-    Ok(world)
+    world.run(events)
 }
 
 // The text and the status of a world with a change set.

@@ -207,13 +207,14 @@ impl<C: Content + Drop> World<C> {
         }
     }
 
-    /// Does what the events say, in order. Where there is no memory it ends between two elementary events.
-    pub fn run(&mut self, events: &[Event]) -> Result<(), NoMemory>
-        ensures { OnOk result (self.new ≡ with_state self.old (run (C.meaning self.old.content) self.old.tables self.old.course self.old.state events.now)) }
+    /// Does what the events say, in order, and gives the world back; where there is no memory it is gone.
+    pub fn run(self, events: &[Event]) -> Result<World<C>, NoMemory>
+        ensures { IfOk result (λ world. world ≡ with_state self (run (C.meaning self.content) self.tables self.course self.state events.now)) }
     {
+        let mut world = self;
         for event in events {
-            self.step(event)?;
+            world.step(event)?;
         }
-        Ok(())
+        Ok(world)
     }
 }

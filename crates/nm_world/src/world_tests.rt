@@ -118,8 +118,8 @@ fn eighteen_rounds_confirm(rt: HostRuntime) -> Result<(), Fail> {
         (17, 2, Outcome::Confirmed),
         (18, 3, Outcome::Confirmed),
     ] {
-        let mut world = two_devices(rt.alloc(), change)?;
-        world.run(&[Event::Submit { change }, Event::Round { change, turns }])?;
+        let world = two_devices(rt.alloc(), change)?;
+        let world = world.run(&[Event::Submit { change }, Event::Round { change, turns }])?;
         assert_eq!(rt; world.entries().len(), entries);
         assert!(rt; all_run_edited(rt.alloc(), &world, outcome)?);
     }
@@ -159,8 +159,8 @@ fn operators_come_and_go(rt: HostRuntime) -> Result<(), Fail> {
     let user = Label::new(rt.alloc(), "alice")?;
     let again = user.copy()?;
     let first = SessionId::new(1).ok_or("range")?;
-    let mut world = one_operator(rt.alloc())?;
-    world.run(&[
+    let world = one_operator(rt.alloc())?;
+    let world = world.run(&[
         asking(device, Request::OpenSession { user }),
         asking(device, Request::GetConfig),
         Event::Leave {

@@ -5,6 +5,6 @@ use Rattle.nm_world.proofs.world.World.run.Given as goal
 -- the events that are left lead from here where all of them lead from the beginning
 abbrev pub invariant-loop-event : goal.invariant-loop-event
 invariant-loop-event g l =
-    (l.self ≡ with_state l.fn.self l.self.state)
-    × (run (g.C.Content.meaning l.fn.self.content) l.fn.self.tables l.fn.self.course l.self.state (drop l.event-index l.events)
+    (l.world ≡ with_state l.fn.self l.world.state)
+    × (run (g.C.Content.meaning l.fn.self.content) l.fn.self.tables l.fn.self.course l.world.state (drop l.event-index l.events)
     ≡ run (g.C.Content.meaning l.fn.self.content) l.fn.self.tables l.fn.self.course l.fn.self.state l.fn.events)
