@@ -80,7 +80,8 @@ impl Journal {
         ensures entries { IfOk result (λ opened. IfSome (D.told disk.old) (ReadsAs opened.1.items)) }
         ensures in_order { IfOk result (λ opened. IsInOrder opened.1.items) }
         ensures fits { IfOk result (λ opened. Fits D.told D.may_leave opened.0 disk.new) }
-        ensures written { IfOk result (λ opened. IfSome (D.told disk.old) (λ bytes. D.told disk.new ≡ Some (closed_behind opened.1.items bytes))) }
+        ensures written { IfOk result (λ opened. IfSome (D.told disk.old)
+            (λ bytes. D.told disk.new ≡ Some (closed_behind opened.1.items bytes))) }
         ensures length { IfOk result (λ opened. HasLength (D.told disk.new) opened.1.items) }
 
         ensures damaged { (offset : ℕ) → result ≡ Err (Damaged offset) → IfSome (D.told disk.old) (λ bytes. entries_of bytes ≡ Err offset) × (D.told disk.new ≡ D.told disk.old) }
@@ -122,7 +123,8 @@ impl Journal {
         requires fits { Fits D.told D.may_leave self.old disk.old }
 
         ensures added { OnOk result (self.new ≡ record self.old { entries = self.old.entries ++ entry ∷ [] }) }
-        ensures written { OnOk result (D.told disk.new ≡ told_with_piece (D.told disk.old) (16 * length self.old.entries) (open_record entry)) }
+        ensures written { OnOk result
+            (D.told disk.new ≡ told_with_piece (D.told disk.old) (16 * length self.old.entries) (open_record entry)) }
         ensures length { OnOk result (HasLength (D.told disk.old) self.old.entries → HasLength (D.told disk.new) self.new.entries) }
 
         ensures stopped { (result ≡ Err Stopped) ↔ IsSome self.old.failed }

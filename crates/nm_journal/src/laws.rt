@@ -17,7 +17,8 @@ pub fn a_crash_between_calls_leaves_the_entries<D: Disk>(journal: &Journal, disk
     requires fits { Fits D.told D.may_leave journal.now disk.now }
     requires told { IsSome (D.told disk.now) }
     ensures running { journal.now.failed ≡ None → (image : List ℕ) → D.may_leave disk.now image → ReadsAs journal.now.entries image }
-    ensures stopped { (entry : Entry) → journal.now.failed ≡ Some entry → (image : List ℕ) → D.may_leave disk.now image → ReadsWithOrWithout journal.now.entries entry image }
+    ensures stopped { (entry : Entry) → journal.now.failed ≡ Some entry
+        → (image : List ℕ) → D.may_leave disk.now image → ReadsWithOrWithout journal.now.entries entry image }
 {}
 
 /// The record that is written of an entry stands for it.

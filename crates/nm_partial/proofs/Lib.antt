@@ -1,0 +1,3 @@
+pub mod Numbered
+pub mod Failing
+pub mod Changed
