@@ -1,0 +1,5 @@
+pub mod Stages
+pub mod Told
+pub mod Course
+pub mod Rightly
+pub mod Moves

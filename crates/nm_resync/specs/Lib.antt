@@ -1,0 +1,2 @@
+pub mod Resync
+pub mod Known
