@@ -3,6 +3,7 @@ use Rattle.std.proofs.Common.{◌≡◌, ℕ, List, Option, Some, None, refl, sy
 use Rattle.std.specs.Option.{IsSome, IfSome, is_some}
 use Rattle.std.proofs.lemmas.Bool.{false≢true}
 use Rattle.nm_disk.specs.Image.{told_with_piece}
+use Rattle.nm_journal.specs.Fits.{OfImage}
 
 pub told_still : (before after : Option (List ℕ)) (at : ℕ) (piece : List ℕ) → after ≡ told_with_piece before at piece → IsSome before → IsSome after
 told_still None after at piece same some = absurd (false≢true some)
@@ -38,3 +39,8 @@ holds_if_told told P bytes tells if_some = subst (λ o. IfSome o P) tells if_som
 pub if_told_weaker : (told : Option (List ℕ)) (P Q : List ℕ → Type 0) → ((bytes : List ℕ) → told ≡ Some bytes → P bytes → Q bytes) → IfSome told P → IfSome told Q
 if_told_weaker None P Q f if_some = tt
 if_told_weaker (Some bytes) P Q f if_some = f bytes refl if_some
+
+-- what holds of the bytes that were read, and of those that are told
+pub of_image : (told : Option (List ℕ)) (P : List ℕ → Type 0) (read : List ℕ) → P read → IfSome told P → OfImage told P
+of_image None P read holds if_some = record { image = read; stored = tt; holds = holds }
+of_image (Some bytes) P read holds if_some = record { image = bytes; stored = refl; holds = if_some }

@@ -1,5 +1,5 @@
 -- What a disk may hold of a journal (this project's own).
-use Rattle.std.specs.Prelude.{◌≡◌, ◌⊎◌, ℕ, ◌*◌, ◌+◌, ◌<◌, List, [], ◌∷◌, ◌++◌, length, take, Option, Some, None, IsSome, IfSome, Ok, slice_index}
+use Rattle.std.specs.Prelude.{◌≡◌, ◌⊎◌, ℕ, ◌*◌, ◌+◌, ◌<◌, List, [], ◌∷◌, ◌++◌, length, take, Option, Some, None, IsSome, IfSome, Ok, Err, slice_index}
 use Rattle.nm_disk.specs.Image.{IsTorn, LeavesOnly}
 use Rattle.nm_proto.specs.declared.journal.Entry.{Entry}
 use Rattle.nm_journal.specs.Entries.{entries_of}
@@ -55,3 +55,13 @@ closed_behind entries bytes = take (16 * length entries) bytes ++ 0 ∷ []
 -- where a disk tells its bytes, they are the records of as many entries and a gate behind them
 abbrev pub HasLength : Option (List ℕ) → List Entry → Type 0
 HasLength told entries = IfSome told (λ bytes. length bytes ≡ 16 * length entries + 1)
+
+-- some bytes of which P holds, those that a disk tells where it tells them
+pub record OfImage (told : Option (List ℕ)) (P : List ℕ → Type 0) : Type 0 where
+  pub image : List ℕ
+  pub stored : IfSome told (λ bytes. bytes ≡ image)
+  pub holds : P image
+
+-- bytes that are damaged at an offset
+abbrev pub IsDamagedAt : ℕ → List ℕ → Type 0
+IsDamagedAt offset bytes = entries_of bytes ≡ Err offset

@@ -7,8 +7,8 @@ ghost use Rattle.nm_journal.specs.Entries.{may_follow, has_record, comes_next, s
 use nm_base::{ChangeNo, DeviceMask, DeviceNo};
 use nm_proto::{AbortCause, Entry, Verdict};
 
-// Whether an entry has a record and may come next after these.
-pub(crate) fn may_follow(before: &[Entry], entry: &Entry) -> bool
+/// Whether an entry has a record and may come next after these. It takes time as there are entries.
+pub fn may_follow(before: &[Entry], entry: &Entry) -> bool
     ensures { result ≡ may_follow before.now entry.now }
 {
     has_record(entry) && comes_next(before, entry)
@@ -94,7 +94,8 @@ fn is_ended(before: &[Entry], change: ChangeNo) -> bool
     before.iter().any(|earlier| ends(change, earlier))
 }
 
-fn starts(change: ChangeNo, entry: &Entry) -> bool
+/// Whether an entry starts the change set.
+pub fn starts(change: ChangeNo, entry: &Entry) -> bool
     ensures { result ≡ starts change entry.now }
 {
     match entry {
@@ -129,7 +130,8 @@ fn starts_over(change: ChangeNo, kept: DeviceMask, entry: &Entry) -> bool
     }
 }
 
-fn decides(change: ChangeNo, entry: &Entry) -> bool
+/// Whether an entry decides the change set.
+pub fn decides(change: ChangeNo, entry: &Entry) -> bool
     ensures { result ≡ decides change entry.now }
 {
     match entry {
@@ -150,7 +152,8 @@ fn aborts(change: ChangeNo, entry: &Entry) -> bool
     }
 }
 
-fn ends(change: ChangeNo, entry: &Entry) -> bool
+/// Whether an entry ends the change set.
+pub fn ends(change: ChangeNo, entry: &Entry) -> bool
     ensures { result ≡ ends change entry.now }
 {
     match entry {

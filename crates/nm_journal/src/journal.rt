@@ -1,17 +1,17 @@
 //! The journal's calls: open, append, and what it holds.
-ghost use Rattle.std.specs.Prelude.{◌≡◌, ◌≢◌, ◌⊎◌, ◌↔◌, ◌<◌, ◌*◌, ◌++◌, [], ◌∷◌, List, ℕ, Some, None, Ok, Err, length, OnOk, OnErr, IfOk, IfErr, IfSome, IsSome, is_some};
+ghost use Rattle.std.specs.Prelude.{◌≡◌, ◌≢◌, ◌⊎◌, ◌↔◌, ◌<◌, ◌≤◌, ◌*◌, ◌++◌, [], ◌∷◌, List, ℕ, Some, None, Ok, Err, length, OnOk, OnErr, IfOk, IfErr, IfSome, IsSome, is_some};
 ghost use Rattle.nm_base.specs.Count.{Rose};
 ghost use Rattle.nm_disk.specs.Image.{told_with_piece, LeavesOnly, AnyMoment};
 ghost use Rattle.nm_disk.specs.Keeps.{KeepsDisk};
 ghost use Rattle.nm_journal.specs.Keeps.{KeepsJournal};
 ghost use Rattle.nm_journal.specs.Record.{open_record};
 ghost use Rattle.nm_journal.specs.Entries.{entries_of, MayAppend, IsInOrder};
-ghost use Rattle.nm_journal.specs.Fits.{Fits, HasLength, closed_behind, ReadsAs, ReadsWithOrWithout, WasThereOrReadsAs};
+ghost use Rattle.nm_journal.specs.Fits.{Fits, HasLength, IsDamagedAt, OfImage, closed_behind, ReadsAs, ReadsWithOrWithout, WasThereOrReadsAs};
 ghost use Rattle.nm_journal.specs.declared.fault.JournalFault.TheVariants.{Damaged, DiskFault, NotEmpty, NoMemory, Stopped};
 
 use crate::fault::JournalFault;
 use crate::reading::{MOST_BYTES, MOST_ENTRIES};
-use crate::steps::{begin, close, read_back, write_record};
+use crate::steps::{begin, close, look_at, read_back, write_record};
 use nm_disk::Disk;
 use nm_proto::Entry;
 use std::alloc::Global;
@@ -166,5 +166,31 @@ impl Journal {
         ensures { result ≡ is_some self.now.failed }
     {
         self.failed.is_some()
+    }
+}
+
+/// The entries of the journal that a disk holds, which stays as it is.
+///
+/// It takes the room of all entries first.
+pub fn read_disk<D: Disk>(alloc: Global, disk: &mut D) -> Result<Vec<Entry>, JournalFault>
+    // The bytes that are read are those that the disk tells, where it tells them.
+    ensures entries { IfOk result (λ entries. OfImage (D.told disk.old) (ReadsAs entries.items)) }
+    ensures in_order { IfOk result (λ entries. IsInOrder entries.items) }
+
+    ensures damaged { (offset : ℕ) → result ≡ Err (Damaged offset) → OfImage (D.told disk.old) (IsDamagedAt offset) }
+    ensures disk_fault { result ≡ Err DiskFault → Rose (D.faults disk.old) (D.faults disk.new) }
+    ensures no_memory { result ≡ Err NoMemory → disk.new ≡ disk.old }
+    ensures no_other { IfErr result (λ fault. ((fault ≡ DiskFault) ⊎ ((offset : ℕ) × (fault ≡ Damaged offset))) ⊎ (fault ≡ NoMemory)) }
+
+    // Nothing is written: the bytes stay, and a crash leaves what it might have left before.
+    ensures same { D.told disk.new ≡ D.told disk.old }
+    ensures any_moment { IsSome (D.told disk.old) → AnyMoment D.moment D.might_have_left disk.old disk.new (D.may_leave disk.old) }
+    ensures count { D.faults disk.old ≤ D.faults disk.new }
+{
+    let mut entries = Vec::with_capacity(alloc, MOST_ENTRIES)?;
+    let mut bytes = vec![in alloc; 0; MOST_BYTES]?;
+    match look_at(disk, &mut bytes, &mut entries) {
+        Ok(_) => Ok(entries),
+        Err(fault) => Err(fault),
     }
 }

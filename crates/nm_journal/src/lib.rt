@@ -15,5 +15,6 @@ mod steps;
 mod tests;
 
 pub use fault::JournalFault;
-pub use journal::Journal;
+pub use follow::{decides, ends, may_follow, starts};
+pub use journal::{Journal, read_disk};
 pub use reading::read_entries;

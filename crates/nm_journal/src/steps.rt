@@ -1,11 +1,11 @@
 //! What the calls of a journal do to its disk, step by step, and what a crash leaves at each moment.
 ghost use Rattle.std.specs.Prelude.{◌≡◌, ◌≢◌, ◌⊎◌, ◌≤◌, ◌<◌, ◌+◌, ◌*◌, ◌^◌, ◌++◌, [], ◌∷◌, true, List, ℕ, Some, min, length, take, OnOk, OnErr, IfOk, IfSome, IsSome, IfErr, Ok, Err, vec_capacity};
 ghost use Rattle.nm_base.specs.Count.{Rose};
-ghost use Rattle.nm_disk.specs.Image.{told_with_piece, LeavesOnly, IsPerhapsCut, AnyMoment};
+ghost use Rattle.nm_disk.specs.Image.{told_with_piece, LeavesOnly, IsPerhapsCut, NoNewImage, AnyMoment};
 ghost use Rattle.nm_disk.specs.Keeps.{KeepsDisk};
 ghost use Rattle.nm_journal.specs.Record.{open_record};
 ghost use Rattle.nm_journal.specs.Entries.{entries_of, MayAppend, IsInOrder};
-ghost use Rattle.nm_journal.specs.Fits.{EndsAtGate, HasLength, closed_behind, ReadsAs, ReadsWithOrWithout, MayTear, IsRead};
+ghost use Rattle.nm_journal.specs.Fits.{EndsAtGate, HasLength, IsDamagedAt, OfImage, closed_behind, ReadsAs, ReadsWithOrWithout, MayTear, IsRead};
 ghost use Rattle.nm_journal.specs.declared.fault.JournalFault.TheVariants.{Damaged, DiskFault, NotEmpty};
 
 use crate::fault::JournalFault;
@@ -51,19 +51,18 @@ pub(crate) fn write_record<D: Disk>(
     write_and_sync(disk, gate, &[1])
 }
 
-// Brings the bytes onto the disk and reads as many of them as the piece has, or fewer where there are
-// no more. Answers how many there are, and how many were read.
-pub(crate) fn read_front<D: Disk>(disk: &mut D, into: &mut [u8]) -> Result<(u64, usize), Failed>
+// Reads as many bytes as the piece has, or fewer where there are no more. Answers how many there are, and how many were
+// read.
+fn read_some<D: Disk>(disk: &mut D, into: &mut [u8]) -> Result<(u64, usize), Failed>
     ensures within { IfOk result (λ sizes. sizes.1 ≤ length into.new) }
     ensures size { IfOk result (λ sizes. IfSome (D.told disk.old) (λ bytes. sizes.0 ≡ length bytes)) }
     ensures front { IfOk result (λ sizes. IfSome (D.told disk.old) (λ bytes. take sizes.1 into.new ≡ take (length into.old) bytes)) }
     ensures same { D.told disk.new ≡ D.told disk.old }
-    ensures durable { OnOk result (IfSome (D.told disk.old) (λ bytes. LeavesOnly bytes (D.may_leave disk.new))) }
+    ensures crash { IsSome (D.told disk.old) → NoNewImage (D.may_leave disk.old) (D.may_leave disk.new) }
     ensures any_moment { IsSome (D.told disk.old) → AnyMoment D.moment D.might_have_left disk.old disk.new (D.may_leave disk.old) }
     ensures count { D.faults disk.old ≤ D.faults disk.new }
     ensures failed { OnErr result (Rose (D.faults disk.old) (D.faults disk.new)) }
 {
-    disk.sync()?;
     let size = disk.len()?;
     let count = size.min(into.len() as u64) as usize;
     let read = disk.read(0, &mut into[..count])?;
@@ -87,7 +86,40 @@ fn cut_behind<D: Disk>(disk: &mut D, end: u64, size: u64) -> Result<(), Failed>
     Ok(())
 }
 
-// Reads the entries of a disk into an empty list, and answers how many bytes the disk holds.
+// Reads the entries of a disk into an empty list, and answers how many bytes the disk holds. The disk stays as it is.
+pub(crate) fn look_at<D: Disk>(
+    disk: &mut D,
+    bytes: &mut [u8],
+    entries: &mut Vec<Entry>,
+) -> Result<u64, JournalFault>
+    requires piece { length bytes.old ≡ 3089 }
+    requires empty { entries.old.items ≡ [] }
+    requires room { 192 ≤ vec_capacity entries.old }
+    ensures size { IfOk result (λ size. IfSome (D.told disk.old) (λ told. size ≡ length told)) }
+    ensures read { OnOk result (IfSome (D.told disk.old) (ReadsAs entries.new.items)) }
+    ensures in_order { IsInOrder entries.new.items }
+    ensures room { 192 ≤ vec_capacity entries.new }
+    ensures read_some { OnOk result (OfImage (D.told disk.old) (ReadsAs entries.new.items)) }
+    ensures damaged { (offset : ℕ) → result ≡ Err (Damaged offset) → IfSome (D.told disk.old) (λ told. entries_of told ≡ Err offset) }
+    ensures damaged_some { (offset : ℕ) → result ≡ Err (Damaged offset) → OfImage (D.told disk.old) (IsDamagedAt offset) }
+    ensures disk_fault { result ≡ Err DiskFault → Rose (D.faults disk.old) (D.faults disk.new) }
+    ensures no_other { IfErr result (λ fault. (fault ≡ DiskFault) ⊎ ((offset : ℕ) × (fault ≡ Damaged offset))) }
+    ensures same { D.told disk.new ≡ D.told disk.old }
+    ensures crash { IsSome (D.told disk.old) → NoNewImage (D.may_leave disk.old) (D.may_leave disk.new) }
+    ensures any_moment { IsSome (D.told disk.old) → AnyMoment D.moment D.might_have_left disk.old disk.new (D.may_leave disk.old) }
+    ensures count { D.faults disk.old ≤ D.faults disk.new }
+{
+    let (size, count) = match read_some(disk, bytes) {
+        Ok(sizes) => sizes,
+        Err(_) => return Err(JournalFault::DiskFault),
+    };
+    match read_into(&bytes[..count], entries) {
+        Ok(()) => Ok(size),
+        Err(offset) => Err(JournalFault::Damaged { offset }),
+    }
+}
+
+// Brings the bytes onto the disk, and reads its entries into an empty list. Answers how many bytes the disk holds.
 pub(crate) fn read_back<D: Disk>(
     disk: &mut D,
     bytes: &mut [u8],
@@ -106,14 +138,10 @@ pub(crate) fn read_back<D: Disk>(
     ensures any_moment { IsSome (D.told disk.old) → AnyMoment D.moment D.might_have_left disk.old disk.new (D.may_leave disk.old) }
     ensures count { D.faults disk.old ≤ D.faults disk.new }
 {
-    let (size, count) = match read_front(disk, bytes) {
-        Ok(sizes) => sizes,
-        Err(_) => return Err(JournalFault::DiskFault),
-    };
-    match read_into(&bytes[..count], entries) {
-        Ok(()) => Ok(size),
-        Err(offset) => Err(JournalFault::Damaged { offset }),
+    if disk.sync().is_err() {
+        return Err(JournalFault::DiskFault);
     }
+    look_at(disk, bytes, entries)
 }
 
 // Closes the list behind its last record: takes away what stands there, and writes a closed gate.

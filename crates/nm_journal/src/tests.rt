@@ -52,6 +52,8 @@ fn a_whole_run_is_written_and_read(rt: HostRuntime) -> Result<(), Fail> {
     let read = read_entries(rt.alloc(), &WHOLE)?;
     assert!(rt; read.as_slice() == journal.entries());
     assert_eq!(rt; read.len(), 3);
+    let looked = read_disk(rt.alloc(), &mut disk)?;
+    assert!(rt; looked.as_slice() == journal.entries());
     let (_, again) = Journal::reopen(rt.alloc(), &mut disk)?;
     assert!(rt; again.as_slice() == journal.entries());
     assert_eq!(rt; disk.bytes(), WHOLE.as_slice());
