@@ -1,0 +1,5 @@
+pub mod Lists
+pub mod Queues
+pub mod Slots
+pub mod Moments
+pub mod Kept

@@ -1,0 +1,4 @@
+pub mod Requests
+pub mod Slot
+pub mod Queues
+pub mod Manager

@@ -1,0 +1,42 @@
+//! What a call of the manager does, and why it can't.
+
+ghost use Rattle.std.specs.Prelude.{◌≡◌};
+
+use nm_base::DeviceNo;
+use nm_proto::Verdict;
+use thiserror::Error;
+
+/// What a call did (this project's own).
+#[derive(Clone, Copy, Debug, PartialEq, Eq)]
+pub enum Action {
+    /// Nothing: it didn't apply, or there was nothing to do.
+    Idle,
+    /// The change set was submitted.
+    Started,
+    /// A request was sent on a link, by its number from 1.
+    Sent { device: DeviceNo, link: u32 },
+    /// A reply was handled.
+    Handled,
+    /// The manager's side of a link ended.
+    Broken,
+    /// The verdict came into the journal.
+    Decided(Verdict),
+    /// The change set ended.
+    Ended,
+    /// What was known of the change set was lost.
+    Forgot,
+}
+
+/// Why a call of the manager that writes its journal, or reads it, can't be done.
+#[derive(Debug, Drop, Error)]
+pub enum TurnFault {
+    /// The journal's disk failed. The manager has failed then.
+    #[error("the journal's disk failed")]
+    DiskFault,
+    /// The record at this offset, in bytes, is none of this manager's. The manager has failed then.
+    #[error("the journal is damaged at byte {offset}")]
+    Damaged { offset: u64 },
+    /// Memory ran out.
+    #[error("out of memory")]
+    NoMemory,
+}

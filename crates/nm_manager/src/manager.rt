@@ -1,0 +1,505 @@
+//! The manager's calls.
+
+ghost use Rattle.std.specs.Prelude.{◌≡◌, ◌≤◌, ◌<◌, ◌-◌, length, ◌⊎◌, ◌*◌, ℕ, IfSome, position, slice_get, Err, Some, None, IsSome, option_copied, IfOk, IfErr, OnOk, OnErr, [], true, false, is_ok};
+ghost use Rattle.std.specs.List.{All};
+ghost use Rattle.nm_base.specs.Count.{Rose};
+ghost use Rattle.nm_disk.specs.Image.{AnyMoment};
+ghost use Rattle.nm_disk.specs.Keeps.{KeepsDisk};
+ghost use Rattle.nm_journal.specs.Fits.{Fits, ReadsAs, ReadsWithOrWithout, IsDamagedAt, WasThereOrReadsAs};
+ghost use Rattle.nm_journal.specs.Keeps.{KeepsJournal};
+ghost use Rattle.nm_wire.specs.Wire.{outstanding_at, session_at, is_open_at, counts_of, link_at};
+ghost use Rattle.nm_manager.specs.Requests.{IsWellFormed};
+ghost use Rattle.nm_manager.specs.Manager.{slots_from, slot_at, sent_by, decided_by, finishes, FailsAt, MayRead, acts, start_at, entry_of, entry_next, start_anew, fault_of, change_of, is_strange};
+ghost use Rattle.nm_proto.specs.declared.journal.Entry.TheVariants.{Decided, Ended};
+ghost use Rattle.nm_manager.specs.declared.action.TurnFault.TheVariants as fault;
+
+use crate::action::{Action, TurnFault};
+use crate::ledger::Ledger;
+use crate::slot::Slot;
+use nm_base::{ChangeNo, DeviceMask, DeviceNo, NoMemory, SessionId};
+use nm_decider::NextAction;
+use nm_disk::Disk;
+use nm_journal::{Journal, JournalFault};
+use nm_proto::{Ask, ChangePlan, Entry, Listed, Reply, Request, Verdict};
+use nm_recovery::{is_ended_in, is_started, verdict_in};
+use nm_wire::Wire;
+use std::alloc::Global;
+use std::marker::Model;
+
+/// The manager of all change sets: its journal, and for each change set its links and what it knows.
+#[derive(Drop)]
+pub struct Manager {
+    alloc: Global,
+    // Change set c and what is kept of it stand at place c - 1.
+    plans: Listed<ChangePlan>,
+    slots: Vec<Slot>,
+    ledger: Ledger,
+}
+
+impl Model for Manager {
+    ghost use Rattle.std.specs.Prelude.{◌≡◌, ◌≤◌, length};
+    ghost use Rattle.std.specs.List.{All};
+    ghost use Rattle.nm_manager.specs.Requests.{IsWellFormed};
+    ghost use Rattle.nm_manager.specs.Manager.{Managing};
+
+    ghost Value = { Managing };
+
+    ghost view = { λ m. record {
+      plans = m.plans;
+      failed = m.ledger.failed;
+      has_failed = m.ledger.has_failed;
+      state = record { entries = m.ledger.entries; slots = m.slots.items };
+    } };
+
+    ghost invariant = { λ m. (length m.slots.items ≡ length m.plans) × All IsWellFormed m.plans × (length m.plans ≤ 64) };
+}
+
+impl Manager {
+    ghost use Rattle.nm_manager.specs.Manager.{fresh_manager, with_state, journal_of, failed_at, start_of, submitted};
+
+    /// A manager to which nothing was submitted, with a journal that holds nothing.
+    pub fn new(
+        alloc: Global,
+        changes: Listed<ChangePlan>,
+        journal: Journal,
+    ) -> Result<Manager, NoMemory>
+        requires well_formed { All IsWellFormed changes }
+        requires few { length changes ≤ 64 }
+        requires empty { journal ≡ record { entries = []; failed = None } }
+        ensures { IfOk result (λ manager. manager ≡ fresh_manager changes) }
+    {
+        let slots = fresh_slots(alloc, changes.as_slice())?;
+        Ok(Manager {
+            alloc,
+            plans: changes,
+            slots,
+            ledger: Ledger::new(journal),
+        })
+    }
+
+    /// Submits a change set: it comes into the journal, and into the queues of its devices. Idle exactly where it was submitted
+    /// before.
+    pub fn submit<D: Disk>(&mut self, disk: &mut D, change: ChangeNo) -> Result<Action, TurnFault>
+        requires given { change ≤ length self.old.plans }
+        requires going { self.old.has_failed ≡ false }
+        requires fits { Fits D.told D.may_leave (journal_of self.old) disk.old }
+        ensures stepped { IfOk result (λ action. record { action = action; state = self.new.state } ≡ submitted self.old.plans self.old.state change) }
+        ensures others { OnOk result (self.new ≡ with_state self.old self.new.state) }
+        ensures fault { IfErr result (λ why. why ≡ fault.DiskFault) }
+        ensures disk_fault { OnErr result (Rose (D.faults disk.old) (D.faults disk.new)) }
+        ensures failed { OnErr result (FailsAt (start_at self.old.plans change) self.old self.new) }
+        ensures keeps { KeepsJournal D.told D.faults D.may_leave (journal_of self.new) disk.old disk.new }
+        // A crash at any moment of the call leaves the entries from before it, with the new one or without.
+        ensures any_moment { IsSome (D.told disk.old) → AnyMoment D.moment D.might_have_left disk.old disk.new (MayRead self.old.state.entries (start_at self.old.plans change)) }
+    {
+        let plan = &self.plans.as_slice()[place_of(change)];
+        let entry = Entry::Started {
+            change,
+            devices: plan.devices(),
+            timeout: Some(plan.timeout),
+        };
+        if self.ledger.enter(disk, entry)? {
+            Ok(Action::Started)
+        } else {
+            Ok(Action::Idle)
+        }
+    }
+}
+
+// What the manager does, one action at a time.
+impl Manager {
+    ghost use Rattle.nm_manager.specs.Manager.{with_state, journal_of, failed_at, turned, received, broken, forgotten, renewed};
+
+    /// Does one action for a change set: asks a device, decides, or ends it. Idle where the change set isn't ready, and where
+    /// there is nothing to do.
+    ///
+    /// A verdict is in the journal before anything that rests on it is sent. Where memory ran out nothing has changed.
+    pub fn turn<D: Disk>(&mut self, disk: &mut D, change: ChangeNo) -> Result<Action, TurnFault>
+        requires given { change ≤ length self.old.plans }
+        requires going { self.old.has_failed ≡ false }
+        requires fits { Fits D.told D.may_leave (journal_of self.old) disk.old }
+        ensures stepped { IfOk result (λ action. record { action = action; state = self.new.state } ≡ turned self.old.plans self.old.state change) }
+        ensures others { OnOk result (self.new ≡ with_state self.old self.new.state) }
+        ensures keeps { KeepsJournal D.told D.faults D.may_leave (journal_of self.new) disk.old disk.new }
+        ensures no_memory { result ≡ Err fault.NoMemory → (self.new ≡ self.old) × (disk.new ≡ disk.old) }
+        ensures disk_fault { result ≡ Err fault.DiskFault → Rose (D.faults disk.old) (D.faults disk.new) }
+        ensures failed { result ≡ Err fault.DiskFault → FailsAt (entry_next self.old.state change) self.old self.new }
+        // A crash at any moment of the call leaves the entries from before it, with the new one or without.
+        ensures any_moment { IsSome (D.told disk.old) → AnyMoment D.moment D.might_have_left disk.old disk.new (MayRead self.old.state.entries (entry_next self.old.state change)) }
+        ensures no_other { IfErr result (λ why. (why ≡ fault.NoMemory) ⊎ (why ≡ fault.DiskFault)) }
+    {
+        if !self.ledger.is_ready(change) {
+            return Ok(Action::Idle);
+        }
+        let action = self.slots[place_of(change)].course().next_action();
+        self.act(disk, change, &action)
+    }
+
+    // Does this action for a change set.
+    fn act<D: Disk>(
+        &mut self,
+        disk: &mut D,
+        change: ChangeNo,
+        action: &NextAction,
+    ) -> Result<Action, TurnFault>
+        requires given { change ≤ length self.old.plans }
+        requires going { self.old.has_failed ≡ false }
+        requires whole { self.old.failed ≡ None }
+        requires fits { Fits D.told D.may_leave (journal_of self.old) disk.old }
+        ensures stepped { IfOk result (λ done. record { action = done; state = self.new.state } ≡ acts self.old.plans self.old.state change action.now) }
+        ensures others { OnOk result (self.new ≡ with_state self.old self.new.state) }
+        ensures keeps { KeepsJournal D.told D.faults D.may_leave (journal_of self.new) disk.old disk.new }
+        ensures no_memory { result ≡ Err fault.NoMemory → (self.new ≡ self.old) × (disk.new ≡ disk.old) }
+        ensures disk_fault { result ≡ Err fault.DiskFault → Rose (D.faults disk.old) (D.faults disk.new) }
+        ensures failed { result ≡ Err fault.DiskFault → FailsAt (entry_of change action.now) self.old self.new }
+        ensures any_moment { IsSome (D.told disk.old) → AnyMoment D.moment D.might_have_left disk.old disk.new (MayRead self.old.state.entries (entry_of change action.now)) }
+        ensures no_other { IfErr result (λ why. (why ≡ fault.NoMemory) ⊎ (why ≡ fault.DiskFault)) }
+    {
+        match action {
+            NextAction::Wait => Ok(Action::Idle),
+            NextAction::Send { device, ask } => match self.send(change, *device, *ask) {
+                Ok(action) => Ok(action),
+                Err(_) => Err(TurnFault::NoMemory),
+            },
+            NextAction::Decide(verdict) => self.decide(disk, change, *verdict),
+            NextAction::Finish { kept } => self.finish(disk, change, *kept),
+        }
+    }
+
+    // Asks this of a device.
+    fn send(&mut self, change: ChangeNo, device: DeviceNo, ask: Ask) -> Result<Action, NoMemory>
+        requires given { change ≤ length self.old.plans }
+        ensures stepped { IfOk result (λ action. record { action = action; state = self.new.state } ≡ sent_by self.old.state change (slice_get self.old.plans (change - 1)) (slot_at self.old.state change) device ask) }
+        ensures others { OnOk result (self.new ≡ with_state self.old self.new.state) }
+        ensures unchanged { OnErr result (self.new ≡ self.old) }
+    {
+        let plan = &self.plans.as_slice()[place_of(change)];
+        self.slots[place_of(change)].send(self.alloc, plan, self.ledger.entries(), device, ask)
+    }
+
+    // The verdict comes into the journal, and then to the course.
+    fn decide<D: Disk>(
+        &mut self,
+        disk: &mut D,
+        change: ChangeNo,
+        verdict: Verdict,
+    ) -> Result<Action, TurnFault>
+        requires given { change ≤ length self.old.plans }
+        requires going { self.old.has_failed ≡ false }
+        requires fits { Fits D.told D.may_leave (journal_of self.old) disk.old }
+        ensures stepped { IfOk result (λ action. record { action = action; state = self.new.state } ≡ decided_by self.old.state change verdict (slot_at self.old.state change)) }
+        ensures others { OnOk result (self.new ≡ with_state self.old self.new.state) }
+        ensures failed { OnErr result (self.new ≡ failed_at self.old (Decided change verdict)) }
+        ensures any_moment { IsSome (D.told disk.old) → AnyMoment D.moment D.might_have_left disk.old disk.new (ReadsWithOrWithout self.old.state.entries (Decided change verdict)) }
+        ensures fault { IfErr result (λ why. why ≡ fault.DiskFault) }
+        ensures disk_fault { OnErr result (Rose (D.faults disk.old) (D.faults disk.new)) }
+        ensures keeps { KeepsJournal D.told D.faults D.may_leave (journal_of self.new) disk.old disk.new }
+    {
+        let entry = Entry::Decided { change, verdict };
+        if !self.ledger.enter(disk, entry)? {
+            return Ok(Action::Idle);
+        }
+        self.slots[place_of(change)].decide(verdict);
+        Ok(Action::Decided(verdict))
+    }
+
+    // The change set ends.
+    fn finish<D: Disk>(
+        &mut self,
+        disk: &mut D,
+        change: ChangeNo,
+        kept: DeviceMask,
+    ) -> Result<Action, TurnFault>
+        requires going { self.old.has_failed ≡ false }
+        requires fits { Fits D.told D.may_leave (journal_of self.old) disk.old }
+        ensures stepped { IfOk result (λ action. record { action = action; state = self.new.state } ≡ finishes self.old.state (Ended change kept)) }
+        ensures others { OnOk result (self.new ≡ with_state self.old self.new.state) }
+        ensures failed { OnErr result (self.new ≡ failed_at self.old (Ended change kept)) }
+        ensures any_moment { IsSome (D.told disk.old) → AnyMoment D.moment D.might_have_left disk.old disk.new (ReadsWithOrWithout self.old.state.entries (Ended change kept)) }
+        ensures fault { IfErr result (λ why. why ≡ fault.DiskFault) }
+        ensures disk_fault { OnErr result (Rose (D.faults disk.old) (D.faults disk.new)) }
+        ensures keeps { KeepsJournal D.told D.faults D.may_leave (journal_of self.new) disk.old disk.new }
+    {
+        if !self.ledger.enter(disk, Entry::Ended { change, kept })? {
+            return Ok(Action::Idle);
+        }
+        Ok(Action::Ended)
+    }
+
+    /// Handles a reply of a link, by its number from 1. Idle where it isn't the next one on the current link. It takes no
+    /// memory.
+    pub fn receive(&mut self, change: ChangeNo, device: DeviceNo, link: u32, number: u32) -> Action
+        requires given { change ≤ length self.old.plans }
+        ensures stepped { record { action = result; state = self.new.state } ≡ received self.old.state change device link number }
+        ensures entries { self.new.state.entries ≡ self.old.state.entries }
+        ensures others { self.new ≡ with_state self.old self.new.state }
+    {
+        self.slots[place_of(change)].receive(device, link, number)
+    }
+
+    /// Ends the manager's side of the current link to a device. Idle exactly where there is none. It takes no memory.
+    pub fn break_link(&mut self, change: ChangeNo, device: DeviceNo) -> Action
+        requires given { change ≤ length self.old.plans }
+        ensures stepped { record { action = result; state = self.new.state } ≡ broken self.old.state change device }
+        ensures entries { self.new.state.entries ≡ self.old.state.entries }
+        ensures others { self.new ≡ with_state self.old self.new.state }
+    {
+        self.slots[place_of(change)].break_link(device)
+    }
+
+    /// Loses what is known of a change set that was submitted and isn't ended: it goes on from its verdict in the journal, or
+    /// with its memory lost where there is none. Idle for any other. It takes no memory.
+    pub fn forget(&mut self, change: ChangeNo) -> Action
+        requires given { change ≤ length self.old.plans }
+        ensures stepped { record { action = result; state = self.new.state } ≡ forgotten self.old.plans self.old.state change }
+        ensures entries { self.new.state.entries ≡ self.old.state.entries }
+        ensures others { self.new ≡ with_state self.old self.new.state }
+    {
+        let entries = self.ledger.entries();
+        if !is_started(entries, change) || is_ended_in(entries, change) {
+            return Action::Idle;
+        }
+        let verdict = verdict_in(entries, change);
+        let devices = self.plans.as_slice()[place_of(change)].devices();
+        self.slots[place_of(change)].forget(devices, verdict);
+        Action::Forgot
+    }
+
+    /// Sets the timer of the pending commit of a device anew (RFC 6241 section 8.4.1), where the change set is ready, undecided and
+    /// without trouble, and the device has acknowledged and awaits no reply. Else Idle.
+    pub fn renew(&mut self, change: ChangeNo, device: DeviceNo) -> Result<Action, NoMemory>
+        requires given { change ≤ length self.old.plans }
+        ensures stepped { IfOk result (λ action. record { action = action; state = self.new.state } ≡ renewed self.old.plans self.old.state change device) }
+        ensures entries { self.new.state.entries ≡ self.old.state.entries }
+        ensures others { OnOk result (self.new ≡ with_state self.old self.new.state) }
+        ensures unchanged { OnErr result (self.new ≡ self.old) }
+    {
+        if !self.ledger.is_ready(change) {
+            return Ok(Action::Idle);
+        }
+        let plan = &self.plans.as_slice()[place_of(change)];
+        self.slots[place_of(change)].renew(self.alloc, plan, self.ledger.entries(), device)
+    }
+}
+
+// The manager starts anew.
+impl Manager {
+    ghost use Rattle.nm_manager.specs.Manager.{journal_of, recovered, is_strange, IsStrangeAt};
+
+    /// Reads the journal again, as after a crash: all that is known is lost, no link is current, and each change set that was
+    /// submitted and isn't ended goes on from its verdict in the journal, or with its memory lost where there is none.
+    ///
+    /// Where it can't, the manager has failed until it can, and nothing else has changed. It takes the room for the entries first.
+    pub fn recover<D: Disk>(&mut self, disk: &mut D) -> Result<(), TurnFault>
+        ensures recovered { OnOk result (self.new ≡ recovered self.old self.new.state.entries) }
+        ensures read { OnOk result (IfSome (D.told disk.old) (ReadsAs self.new.state.entries)) }
+        ensures given { OnOk result (position (is_strange self.old.plans) self.new.state.entries ≡ None) }
+        ensures fits { OnOk result (Fits D.told D.may_leave (journal_of self.new) disk.new) }
+        ensures failed { OnErr result (self.new ≡ record self.old { has_failed = true }) }
+        ensures damaged { (offset : ℕ) → result ≡ Err (fault.Damaged offset)
+            → IfSome (D.told disk.old) (IsDamagedAt offset) ⊎ IsStrangeAt self.old.plans (D.told disk.old) offset }
+        ensures disk_fault { result ≡ Err fault.DiskFault → Rose (D.faults disk.old) (D.faults disk.new) }
+        ensures no_memory { result ≡ Err fault.NoMemory → disk.new ≡ disk.old }
+        // A crash during the call leaves an image that was there, or one that reads as the same list.
+        ensures any_moment { IfSome (D.told disk.old) (λ bytes. AnyMoment D.moment D.might_have_left disk.old disk.new (WasThereOrReadsAs (D.may_leave disk.old) bytes)) }
+        ensures keeps { KeepsDisk D.told D.faults disk.old disk.new }
+    {
+        match Journal::reopen(self.alloc, disk) {
+            Ok((journal, _)) => self.start_anew(journal),
+            Err(fault) => {
+                self.ledger.fail();
+                Err(fault_of(&fault))
+            }
+        }
+    }
+
+    // Goes on from a journal that was reopened.
+    fn start_anew(&mut self, journal: Journal) -> Result<(), TurnFault>
+        requires whole { journal.failed ≡ None }
+        ensures recovered { OnOk result (self.new ≡ recovered self.old journal.entries) }
+        ensures given { OnOk result (position (is_strange self.old.plans) journal.entries ≡ None) }
+        ensures failed { OnErr result (self.new ≡ record self.old { has_failed = true }) }
+        ensures damaged { IfErr result (λ why. (place : ℕ) × (position (is_strange self.old.plans) journal.entries ≡ Some place) × (why ≡ fault.Damaged (16 * place))) }
+    {
+        if let Some(place) = first_strange(self.plans.as_slice(), journal.entries()) {
+            self.ledger.fail();
+            return Err(TurnFault::Damaged {
+                offset: 16 * place as u64,
+            });
+        }
+        all_anew(&mut self.slots, self.plans.as_slice(), journal.entries());
+        self.ledger = Ledger::reopened(journal);
+        Ok(())
+    }
+}
+
+// The links of a change set to a device.
+impl Manager {
+    ghost use Rattle.nm_manager.specs.Manager.{with_state, wire_in, told_on, lost_on};
+
+    /// The request that a link has outstanding, and None exactly where there is none, or no such link, or the device's side is
+    /// closed.
+    pub fn outstanding(&self, change: ChangeNo, device: DeviceNo, link: u32) -> Option<&Request>
+        requires given { change ≤ length self.now.plans }
+        ensures { option_copied result ≡ outstanding_at (wire_in self.now.state change device) link }
+    {
+        self.wire(change, device).outstanding(link)
+    }
+
+    /// The device answers the request that a link has outstanding. It takes no memory.
+    pub fn delivered(&mut self, change: ChangeNo, device: DeviceNo, link: u32, reply: Reply)
+        requires given { change ≤ length self.old.plans }
+        requires outstanding { IsSome (outstanding_at (wire_in self.old.state change device) link) }
+        ensures told { self.new ≡ with_state self.old (told_on self.old.state change device link reply) }
+        ensures entries { self.new.state.entries ≡ self.old.state.entries }
+    {
+        self.slots[place_of(change)].delivered(device, link, reply);
+    }
+
+    /// The device's side of a link ends, and what was outstanding on it is dropped. Answers whether it was open.
+    pub fn drop_link(&mut self, change: ChangeNo, device: DeviceNo, link: u32) -> bool
+        requires given { change ≤ length self.old.plans }
+        ensures value { result ≡ is_open_at (wire_in self.old.state change device) link }
+        ensures lost { self.new ≡ with_state self.old (lost_on self.old.state change device link) }
+        ensures entries { self.new.state.entries ≡ self.old.state.entries }
+    {
+        self.slots[place_of(change)].drop_link(device, link)
+    }
+
+    /// How many links were made.
+    pub fn links(&self, change: ChangeNo, device: DeviceNo) -> u32
+        requires given { change ≤ length self.now.plans }
+        ensures { result ≡ length (wire_in self.now.state change device).links }
+    {
+        self.wire(change, device).links()
+    }
+
+    /// Whether the device's side of a link is open.
+    pub fn is_open(&self, change: ChangeNo, device: DeviceNo, link: u32) -> bool
+        requires given { change ≤ length self.now.plans }
+        ensures { result ≡ is_open_at (wire_in self.now.state change device) link }
+    {
+        self.wire(change, device).is_open(link)
+    }
+
+    /// The number of the current link, and None exactly where there is none.
+    pub fn current(&self, change: ChangeNo, device: DeviceNo) -> Option<u32>
+        requires given { change ≤ length self.now.plans }
+        ensures { result ≡ (wire_in self.now.state change device).current }
+    {
+        self.wire(change, device).current()
+    }
+
+    /// How many replies were sent on a link, and how many of them were handled, both 0 where it wasn't made.
+    pub fn replies(&self, change: ChangeNo, device: DeviceNo, link: u32) -> (u32, u32)
+        requires given { change ≤ length self.now.plans }
+        ensures { result ≡ counts_of (link_at (wire_in self.now.state change device) link) }
+    {
+        self.wire(change, device).replies(link)
+    }
+
+    /// The session of the first Opened that was sent on a link, and None exactly where none was.
+    pub fn session_of(&self, change: ChangeNo, device: DeviceNo, link: u32) -> Option<SessionId>
+        requires given { change ≤ length self.now.plans }
+        ensures { result ≡ session_at (wire_in self.now.state change device) link }
+    {
+        self.wire(change, device).session_of(link)
+    }
+
+    /// The entries of the journal, the first of them first.
+    pub fn entries(&self) -> &[Entry]
+        ensures { result.now ≡ self.now.state.entries }
+    {
+        self.ledger.entries()
+    }
+
+    /// Whether the manager has failed: its journal takes no more.
+    pub fn has_failed(&self) -> bool
+        ensures { result ≡ self.now.has_failed }
+    {
+        self.ledger.has_failed()
+    }
+
+    // The links to a device.
+    fn wire(&self, change: ChangeNo, device: DeviceNo) -> &Wire
+        requires given { change ≤ length self.now.plans }
+        ensures { result.now ≡ wire_in self.now.state change device }
+    {
+        &self.slots[place_of(change)].side(device).wire
+    }
+}
+
+// The place of a change set.
+fn place_of(change: ChangeNo) -> usize
+    ensures { result ≡ change - 1 }
+{
+    change.get() as usize - 1
+}
+
+// Why the journal couldn't be reopened.
+fn fault_of(fault: &JournalFault) -> TurnFault
+    ensures { result ≡ fault_of fault.now }
+{
+    match fault {
+        JournalFault::Damaged { offset } => TurnFault::Damaged { offset: *offset },
+        JournalFault::NoMemory => TurnFault::NoMemory,
+        JournalFault::NotEmpty { .. } | JournalFault::DiskFault | JournalFault::Stopped => {
+            TurnFault::DiskFault
+        }
+    }
+}
+
+// The place of the first entry that is of no change set of these, or starts one for other devices than its own.
+fn first_strange(plans: &[ChangePlan], entries: &[Entry]) -> Option<usize>
+    ensures { result ≡ position (is_strange plans.now) entries.now }
+{
+    entries.iter().position(|entry| is_strange(plans, entry))
+}
+
+fn is_strange(plans: &[ChangePlan], entry: &Entry) -> bool
+    ensures { result ≡ is_strange plans.now entry.now }
+{
+    let Some(plan) = plans.get(place_of(change_of(entry))) else {
+        return true;
+    };
+    match entry {
+        Entry::Started { devices, .. } => devices.0 != plan.devices().0,
+        Entry::Decided { .. } | Entry::Ended { .. } => false,
+    }
+}
+
+fn change_of(entry: &Entry) -> ChangeNo
+    ensures { result ≡ change_of entry.now }
+{
+    match entry {
+        Entry::Started { change, .. }
+        | Entry::Decided { change, .. }
+        | Entry::Ended { change, .. } => *change,
+    }
+}
+
+// All memory of each change set is lost.
+fn all_anew(slots: &mut Vec<Slot>, plans: &[ChangePlan], entries: &[Entry])
+    requires each { length slots.old.items ≡ length plans.now }
+    requires few { length plans.now ≤ 64 }
+    ensures anew { slots.new.items ≡ start_anew entries.now 1 plans.now slots.old.items }
+    ensures each { length slots.new.items ≡ length plans.now }
+{
+    for place in 0..plans.len() {
+        let change = ChangeNo::new(place as u32 + 1).unwrap();
+        slots[place].start_anew(entries, change, plans[place].devices());
+    }
+}
+
+// What is kept of change sets of which none is submitted.
+fn fresh_slots(alloc: Global, plans: &[ChangePlan]) -> Result<Vec<Slot>, NoMemory>
+    requires few { length plans.now ≤ 64 }
+    ensures { IfOk result (λ slots. slots.items ≡ slots_from 1 plans.now) }
+{
+    let mut slots = Vec::with_capacity(alloc, plans.len())?;
+    for place in 0..plans.len() {
+        let change = ChangeNo::new(place as u32 + 1).unwrap();
+        slots.push(Slot::new(alloc, change, plans[place].devices())?)?;
+    }
+    Ok(slots)
+}
