@@ -1,28 +1,51 @@
-//! The program `netm`: `console` over the process's own words, standard input and standard output.
+//! The program `netm`: `console` over the process's own words, standard input, standard output and journal.
 #![tactic(auto)]
 
 #[cfg(test)]
 mod tables;
 
 use nm_base::NoMemory;
+use nm_console::command::journal_path;
 use nm_console::console::console;
 use nm_console::status::Status;
+use nm_disk::{AnyDisk, FileDisk, MemoryDisk};
 use nm_io::{StdSink, StdSource};
 use std::alloc::Global;
 use std::process::ExitCode;
 use std::{env, io};
 
 fn main(rt: HostRuntime) -> ExitCode {
-    let alloc = rt.alloc();
-    let status = match words(&rt, alloc) {
-        Ok(words) => {
-            let mut input = StdSource::new(rt.stdin());
-            let mut output = StdSink::new(rt.stdout());
-            console(alloc, words.as_slice(), &mut input, &mut output)
-        }
+    let status = match run(rt, rt.alloc()) {
+        Ok(status) => status,
         Err(NoMemory) => Status::NoMemory,
     };
     ExitCode::from(status.code())
+}
+
+fn run(rt: HostRuntime, alloc: Global) -> Result<Status, NoMemory> {
+    let words = words(&rt, alloc)?;
+    let mut journal = disk(rt, alloc, words.as_slice())?;
+    let mut input = StdSource::new(rt.stdin());
+    let mut output = StdSink::new(rt.stdout());
+    Ok(console(
+        alloc,
+        words.as_slice(),
+        &mut input,
+        &mut output,
+        &mut journal,
+    ))
+}
+
+// The file that the words name, and else an empty disk in memory, which no command uses yet.
+fn disk(
+    rt: HostRuntime,
+    alloc: Global,
+    words: &[String],
+) -> Result<AnyDisk<HostRuntime>, NoMemory> {
+    match journal_path(alloc, words)? {
+        Some(path) => Ok(AnyDisk::File(FileDisk::at(rt, path))),
+        None => Ok(AnyDisk::Memory(MemoryDisk::with_limit(alloc, 0, 0)?)),
+    }
 }
 
 // The words after the program's name. Words that aren't UTF-8 are no words of the program, and so are none at all.

@@ -7,6 +7,7 @@ mod limits;
 mod members;
 mod modules;
 mod operators;
+mod pending;
 mod pointers;
 mod replay;
 mod requests;
@@ -14,6 +15,7 @@ mod whole;
 mod yang;
 
 use nm_console::console::console;
+use nm_disk::MemoryDisk;
 use nm_io::{MemorySink, MemorySource};
 use std::alloc::Global;
 use std::test::Fail;
@@ -37,7 +39,14 @@ fn written(alloc: Global, command: &str, bytes: &[u8]) -> Result<(u8, String), F
     let bytes = Vec::from_slice(alloc, bytes)?;
     let mut input = MemorySource::new(bytes, Vec::new(alloc));
     let mut output = MemorySink::new(alloc, 8192, Vec::new(alloc))?;
-    let status = console(alloc, words.as_slice(), &mut input, &mut output);
+    let mut journal = MemoryDisk::with_limit(alloc, 0, 0)?;
+    let status = console(
+        alloc,
+        words.as_slice(),
+        &mut input,
+        &mut output,
+        &mut journal,
+    );
     let text = str::from_utf8(output.taken())?;
     Ok((status.code(), String::from_str(alloc, text)?))
 }

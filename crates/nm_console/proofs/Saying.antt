@@ -1,7 +1,7 @@
 -- What is said without the bytes of the input, and what is said where there were too many.
 use Rattle.std.proofs.Common.{◌≡◌, ℕ, ◌<◌, ◌+◌, List, [], length, true, false, Option, Some, None, Result, Ok, Err, IfSome, unwrap_or, replicate, cond, refl, sym, ap, ◌∙◌, subst, arith, lt-ltb}
 use Rattle.std.proofs.lemmas.List.{length-replicate}
-use Rattle.nm_proto.specs.FlatContent.{flat_meaning}
+use Rattle.nm_proto.specs.FlatContent.{flat_meaning, flat_laws}
 use Rattle.nm_proto.specs.declared.kind.ScenarioKind.TheVariants.{TooLong}
 use Rattle.nm_reading.specs.declared.fault.Fault.{Fault}
 use Rattle.nm_reading.specs.Reading.{◌>>=◌, here}
@@ -19,9 +19,12 @@ use Rattle.nm_refusals.proofs.KeptWhole.{bytes_keep, flat_bytes_good}
 use Rattle.nm_world.proofs.Safe.{run_is_safe}
 use Rattle.nm_console.specs.declared.status.Status.{Status}
 use Rattle.nm_console.specs.declared.command.Command.{Command}
-use Rattle.nm_console.specs.declared.command.Command.TheVariants.{Check, Replay}
+use Rattle.nm_console.specs.declared.command.Command.TheVariants.{Check, Replay, Journal}
 use Rattle.nm_console.specs.Refusal.{of_whole}
-use Rattle.nm_console.specs.Console.{Answer, AreFirst, Tells, Says, IsTold, IsOnly, IsKnown, RunsSafely, RunsSafelyBy, faulted, checked, replayed, usage_told, course_of, plan_of, tables_of}
+use Rattle.nm_journal.specs.Entries.{entries_of}
+use Rattle.nm_journal.specs.Fits.{OfImage}
+use Rattle.nm_console.specs.Words.{reads_input}
+use Rattle.nm_console.specs.Console.{Answer, AreFirst, Tells, TellsJournal, Says, IsTold, IsOnly, IsKnown, RunsSafely, RunsSafelyBy, faulted, checked, journalled, replayed, usage_told, course_of, plan_of, tables_of}
 use Rattle.nm_console.proofs.Valid.{devices_valid}
 
 held : (left : Option (List ℕ)) (other : List ℕ) → IfSome left (λ told. told ≡ unwrap_or left other)
@@ -32,7 +35,7 @@ held (Some told) other = refl
 safe_by : (s : Scenario) (body : Body) → AreFirst body → RunsSafelyBy body s
 safe_by s (Flat devices edits) valid = record {
   valid = valid;
-  safe = run_is_safe flat_meaning (tables_of edits) (course_of (plan_of s.changes)) devices (plan_of s.changes).edits (length s.operators) s.events;
+  safe = run_is_safe flat_meaning flat_laws (tables_of edits s.selects) (course_of (plan_of s.changes)) devices (plan_of s.changes).edits (length s.operators) s.events;
 }
 safe_by s (Yang modules schema devices) valid = tt
 
@@ -52,29 +55,39 @@ tells_one : (given : Answer) (status other : Status) (text words : List ℕ) →
 tells_one given status other text words a b = (sym b.status_is ∙ a.status_is, sym b.text_is ∙ a.text_is)
 
 -- what bytes read as is one, and so is what is told of it
-only : (command : Option Command) (bytes : List ℕ) (status : Status) (text : List ℕ) → IsTold command bytes status text → IsOnly command bytes status text
-only None bytes status text a other words b = tells_one usage_told status other text words a b
-only (Some Check) bytes status text a other words b =
+only : (command : Option Command) (bytes image : List ℕ) (status : Status) (text : List ℕ) → IsTold command bytes image status text → IsOnly command bytes image status text
+only None bytes image status text a other words b = tells_one usage_told status other text words a b
+only (Some Check) bytes image status text a other words b =
     tells_one (checked a.outcome) status other text words a.tells (subst (λ outcome. Tells (checked outcome) other words) (one_of_bytes bytes b.outcome a.outcome b.reads a.reads) b.tells)
-only (Some Replay) bytes status text a other words b = tells_one (replayed (flat_scenario_of bytes)) status other text words a b
+only (Some Replay) bytes image status text a other words b = tells_one (replayed (flat_scenario_of bytes)) status other text words a b
+only (Some Journal) bytes image status text a other words b = tells_one (journalled (entries_of image)) status other text words a b
 
 -- what the program says to bytes is safe, no other answer is told of them, and what is read of them is known
-says : (left : Option (List ℕ)) (command : Option Command) (bytes : List ℕ) (status : Status) (text : List ℕ) → IfSome left (λ told. told ≡ bytes) → IsTold command bytes status text → Says left command status text
-says left command bytes status text h tells = record {
+says : (left stored : Option (List ℕ)) (command : Option Command) (bytes image : List ℕ) (status : Status) (text : List ℕ)
+    → IfSome left (λ told. told ≡ bytes) → IfSome stored (λ told. told ≡ image) → IsTold command bytes image status text → Says left stored command status text
+says left stored command bytes image status text h k tells = record {
   bytes = bytes;
   held = h;
+  image = image;
+  kept = k;
   tells = tells;
-  only = only command bytes status text tells;
+  only = only command bytes image status text tells;
   safe = safe bytes (flat_scenario_of bytes) refl;
   checked_known = known_of bytes;
   replayed_known = flat_known bytes (flat_scenario_of bytes) refl;
 }
 
-pub bytes_say : (left : Option (List ℕ)) (command : Command) (bytes : List ℕ) (status : Status) (text : List ℕ) → IfSome left (λ told. told ≡ bytes) → IsTold (Some command) bytes status text → Says left (Some command) status text
-bytes_say left command bytes status text h tells = says left (Some command) bytes status text h tells
+pub bytes_say : (left stored : Option (List ℕ)) (command : Command) (bytes : List ℕ) (status : Status) (text : List ℕ)
+    → IfSome left (λ told. told ≡ bytes) → ((image : List ℕ) → IsTold (Some command) bytes image status text) → Says left stored (Some command) status text
+bytes_say left stored command bytes status text h tells =
+    says left stored (Some command) bytes (unwrap_or stored []) status text h (held stored []) (tells (unwrap_or stored []))
 
-pub usage_says : (left : Option (List ℕ)) (status : Status) (text : List ℕ) → Tells usage_told status text → Says left None status text
-usage_says left status text tells = says left None (unwrap_or left []) status text (held left []) tells
+pub usage_says : (left stored : Option (List ℕ)) (status : Status) (text : List ℕ) → Tells usage_told status text → Says left stored None status text
+usage_says left stored status text tells = says left stored None (unwrap_or left []) (unwrap_or stored []) status text (held left []) (held stored []) tells
+
+-- what a journal tells is said whatever the input is
+pub journal_says : (left stored : Option (List ℕ)) (status : Status) (text : List ℕ) → OfImage stored (λ image. TellsJournal image status text) → Says left stored (Some Journal) status text
+journal_says left stored status text of = says left stored (Some Journal) (unwrap_or left []) of.image status text (held left []) of.stored of.holds
 
 whole_of-too_long : (bytes : List ℕ) → byte_limit < length bytes → whole_of bytes ≡ here TooLong
 unfolding whole_of
@@ -83,14 +96,16 @@ whole_of-too_long bytes long = ap (λ t. cond t (here TooLong) (parsed (json_of 
 scenario_of-too_long : (bytes : List ℕ) → byte_limit < length bytes → flat_scenario_of bytes ≡ here TooLong
 scenario_of-too_long bytes long = ap (λ whole. whole >>= flat_whole_at) (whole_of-too_long bytes long)
 
--- too many bytes are told of by every command in the same way
-long_told : (command : Command) (bytes : List ℕ) (status : Status) (text : List ℕ) → byte_limit < length bytes → Tells (faulted (of_whole TooLong)) status text → IsTold (Some command) bytes status text
-long_told Check bytes status text long tells = record {
+-- too many bytes are told of by every command that reads them in the same way
+long_told : (command : Command) (bytes image : List ℕ) (status : Status) (text : List ℕ) → reads_input (Some command) ≡ true → byte_limit < length bytes
+    → Tells (faulted (of_whole TooLong)) status text → IsTold (Some command) bytes image status text
+long_told Check bytes image status text reads long tells = record {
   outcome = here TooLong;
   reads = subst (λ whole. ReadsWhole whole (here TooLong)) (sym (whole_of-too_long bytes long)) refl;
   tells = tells;
 }
-long_told Replay bytes status text long tells = subst (λ read. Tells (replayed read) status text) (sym (scenario_of-too_long bytes long)) tells
+long_told Replay bytes image status text reads long tells = subst (λ read. Tells (replayed read) status text) (sym (scenario_of-too_long bytes long)) tells
+long_told Journal bytes image status text reads long tells = absurd cc
 
 -- so many bytes
 many : ℕ → List ℕ
@@ -111,8 +126,10 @@ too_long : (left : Option (List ℕ)) → IfSome left (λ told. byte_limit < len
 too_long None h = length-more
 too_long (Some told) h = h
 
-pub too_long_says : (left : Option (List ℕ)) (command : Command) (status : Status) (text : List ℕ) → IfSome left (λ told. byte_limit < length told) → Tells (faulted (of_whole TooLong)) status text → Says left (Some command) status text
-too_long_says left command status text h tells =
-    says left (Some command) (unwrap_or left more) status text (held left more) (long_told command (unwrap_or left more) status text (too_long left h) tells)
+pub too_long_says : (left stored : Option (List ℕ)) (command : Command) (status : Status) (text : List ℕ) → reads_input (Some command) ≡ true
+    → IfSome left (λ told. byte_limit < length told) → Tells (faulted (of_whole TooLong)) status text → Says left stored (Some command) status text
+too_long_says left stored command status text reads h tells =
+    says left stored (Some command) (unwrap_or left more) (unwrap_or stored []) status text (held left more) (held stored [])
+    (long_told command (unwrap_or left more) (unwrap_or stored []) status text reads (too_long left h) tells)
 
-pub ruleset saying = (usage_says, too_long_says)
+pub ruleset saying = (usage_says, too_long_says, journal_says)

@@ -17,7 +17,7 @@ use Rattle.nm_events.specs.Limits.{device_limit}
 use Rattle.nm_scenario.specs.declared.scenario.Scenario.{Scenario}
 use Rattle.nm_scenario.specs.Changes.{changes_read_at}
 use Rattle.nm_scenario.specs.Devices.{knows_device, valid_only, running_at, device_at, devices_at}
-use Rattle.nm_scenario.specs.Flat.{cells_at, flat_edit_at}
+use Rattle.nm_scenario.specs.Flat.{cells_at, flat_edit}
 use Rattle.nm_scenario.specs.Head.{flat_head_at}
 use Rattle.nm_scenario.specs.Scenario.{flat_scenario, flat_scenario_at, flat_scenario_of, flat_whole_at, rest_at, whole_of}
 use Rattle.nm_world.specs.World.{IsFirst}
@@ -115,7 +115,7 @@ scenario_ok part s e =
     let modules = bound (optional (codes "modules") tt (empty_list_at (here BadValue)) part) _ s e in
     let devices = bound (required (codes "devices") devices_at part) _ s modules.after in
     let changes = bound (optional (codes "changes") [] (changes_read_at devices.first) part) _ s devices.after in
-    let rest = bound (rest_at flat_edit_at (length changes.first) (length devices.first) part) _ s changes.after in
+    let rest = bound (rest_at flat_edit part) _ s changes.after in
     let last : Read (flat_scenario devices.first changes.first rest.first) ≡ Read s = rest.after in
     subst (λ (s : Scenario). AreFirst s.body) (same_Ok last) (member_ok (codes "devices") (get (codes "devices") part) devices.first devices.is)
 

@@ -10,11 +10,13 @@ use Rattle.nm_proto.specs.Plan.{devices_in}
 use Rattle.nm_proto.specs.declared.plan.ChangePlan.{ChangePlan}
 use Rattle.nm_proto.specs.declared.plan.Event.{Event}
 use Rattle.nm_proto.specs.declared.flat.FlatEdit.{FlatEdit}
+use Rattle.nm_proto.specs.declared.flat.FlatNode.{FlatNode}
 use Rattle.nm_proto.specs.Flat.{FlatState, flat_text}
 use Rattle.nm_proto.specs.FlatContent.{flat_meaning}
 use Rattle.nm_proto.specs.declared.kind.ScenarioKind.TheVariants.{NotBuilt}
 use Rattle.nm_reading.specs.declared.fault.Fault.{Fault}
 use Rattle.nm_reading.specs.declared.fault.Step.TheVariants.{Name}
+use Rattle.nm_reading.specs.Reading.{plain}
 use Rattle.nm_scenario.specs.declared.scenario.Body.{Body}
 use Rattle.nm_scenario.specs.declared.scenario.Body.TheVariants.{Flat, Yang}
 use Rattle.nm_scenario.specs.declared.scenario.Scenario.{Scenario}
@@ -23,14 +25,17 @@ use Rattle.nm_refusals.specs.Told.{ToldOfBytes}
 use Rattle.nm_refusals.specs.Kept.{ScenarioKeeps}
 use Rattle.nm_world.specs.declared.course.Course.{Course}
 use Rattle.nm_world.specs.World.{WorldState, IsFirst, start, run}
-use Rattle.nm_world.specs.Outcome.{IsSafe}
+use Rattle.nm_world.specs.Safe.{IsSafe}
 use Rattle.nm_report.specs.Text.{devices_text, world_text}
 use Rattle.nm_report.specs.Check.{check_text}
+use Rattle.nm_report.specs.Journal.{journal_text}
+use Rattle.nm_journal.specs.Entries.{entries_of}
+use Rattle.nm_proto.specs.declared.journal.Entry.{Entry}
 use Rattle.nm_console.specs.declared.status.Status.{Status}
 use Rattle.nm_console.specs.declared.status.Status.TheVariants as status
 use Rattle.nm_console.specs.declared.command.Command.{Command}
-use Rattle.nm_console.specs.declared.command.Command.TheVariants.{Check, Replay}
-use Rattle.nm_console.specs.Refusal.{usage_text, fault_text}
+use Rattle.nm_console.specs.declared.command.Command.TheVariants.{Check, Replay, Journal}
+use Rattle.nm_console.specs.Refusal.{damaged_text, usage_text, fault_text}
 use Rattle.nm_console.specs.Rows.{cells_told, rows_told}
 use Rattle.nm_console.specs.Status.{is_whole, world_status}
 
@@ -55,34 +60,34 @@ abbrev pub plan_of : List ChangePlan → ChangePlan
 plan_of [] = no_plan
 plan_of (plan ∷ plans) = plan
 
--- what requests name by number: edits, and no selections
-abbrev pub tables_of : List FlatEdit → TablesState FlatEdit
-tables_of edits = record { edits = edits; selects = [] }
+-- what requests name by number: edits, and the texts of selections
+abbrev pub tables_of : List FlatEdit → List (List (List ℕ)) → TablesState FlatEdit
+tables_of edits selects = record { edits = edits; selects = selects }
 
 -- the world of flat contents that the events of a scenario with so many operators lead to
-abbrev pub world_from : List FlatState → List FlatEdit → ChangePlan → ℕ → List Event → WorldState FlatState
-world_from devices edits plan operators events = run flat_meaning (tables_of edits) (course_of plan) (start devices plan.edits operators) events
+abbrev pub world_from : List FlatState → TablesState FlatEdit → ChangePlan → ℕ → List Event → WorldState FlatState FlatNode
+world_from devices tables plan operators events = run flat_meaning tables (course_of plan) (start devices plan.edits operators) events
 
 -- the world's text and status, where there is a change set
-abbrev pub world_told : Bool → Course → WorldState FlatState → Answer
+abbrev pub world_told : Bool → Course → WorldState FlatState FlatNode → Answer
 world_told trace course w = record { status = world_status course w; text = world_text flat_text trace course w }
 
 -- and where there is none
-abbrev pub devices_told : Bool → WorldState FlatState → Answer
+abbrev pub devices_told : Bool → WorldState FlatState FlatNode → Answer
 devices_told trace w = record { status = status.Ok; text = devices_text flat_text trace w.trail w.devices }
 
 -- what is told of flat contents with these change sets, so many operators and these events
-abbrev pub told_with : List FlatState → List FlatEdit → List ChangePlan → ℕ → List Event → Bool → Answer
-told_with devices edits [] operators events trace = devices_told trace (world_from devices edits no_plan operators events)
-told_with devices edits (plan ∷ plans) operators events trace = world_told trace (course_of plan) (world_from devices edits plan operators events)
+abbrev pub told_with : List FlatState → TablesState FlatEdit → List ChangePlan → ℕ → List Event → Bool → Answer
+told_with devices tables [] operators events trace = devices_told trace (world_from devices tables no_plan operators events)
+told_with devices tables (plan ∷ plans) operators events trace = world_told trace (course_of plan) (world_from devices tables plan operators events)
 
 -- YANG contents aren't replayed yet
 abbrev pub not_replayed : Fault
-not_replayed = record { kind = NotBuilt; place = Name (codes "contents") ∷ [] }
+not_replayed = record { cause = plain NotBuilt; place = Name (codes "contents") ∷ [] }
 
 -- what is told of a scenario with these contents
 abbrev pub told_by : Body → Scenario → Answer
-told_by (Flat devices edits) s = told_with devices edits s.changes (length s.operators) s.events s.trace
+told_by (Flat devices edits) s = told_with devices (tables_of edits s.selects) s.changes (length s.operators) s.events s.trace
 told_by (Yang modules schema devices) s = faulted not_replayed
 
 -- what is told of a scenario that was read
@@ -93,6 +98,17 @@ told s = told_by s.body s
 abbrev pub replayed : Result Scenario Fault → Answer
 replayed (Err fault) = faulted fault
 replayed (Ok s) = told s
+
+-- journal: the text of its entries, or where it is damaged
+abbrev pub listed : List Entry → Answer
+listed entries = record { status = status.Ok; text = journal_text entries }
+
+abbrev pub damaged : ℕ → Answer
+damaged offset = record { status = status.Journal; text = damaged_text offset }
+
+abbrev pub journalled : Result (List Entry) ℕ → Answer
+journalled (Ok entries) = listed entries
+journalled (Err offset) = damaged offset
 
 -- words that are no command's
 abbrev pub usage_told : Answer
@@ -129,11 +145,16 @@ pub record IsToldOfCheck (bytes : List ℕ) (status : Status) (text : List ℕ) 
   pub reads : ReadsBytes bytes outcome
   pub tells : Tells (checked outcome) status text
 
--- what the program tells to its command and its input
-abbrev pub IsTold : Option Command → List ℕ → Status → List ℕ → Type 0
-IsTold None bytes status text = Tells usage_told status text
-IsTold (Some Check) bytes status text = IsToldOfCheck bytes status text
-IsTold (Some Replay) bytes status text = Tells (replayed (flat_scenario_of bytes)) status text
+-- what journal tells of the bytes of a disk
+abbrev pub TellsJournal : List ℕ → Status → List ℕ → Type 0
+TellsJournal image status text = Tells (journalled (entries_of image)) status text
+
+-- what the program tells to its command, its input, and the bytes of the journal's disk
+abbrev pub IsTold : Option Command → List ℕ → List ℕ → Status → List ℕ → Type 0
+IsTold None bytes image status text = Tells usage_told status text
+IsTold (Some Check) bytes image status text = IsToldOfCheck bytes status text
+IsTold (Some Replay) bytes image status text = Tells (replayed (flat_scenario_of bytes)) status text
+IsTold (Some Journal) bytes image status text = TellsJournal image status text
 
 -- devices of flat contents begin with valid configurations
 abbrev pub AreFirst : Body → Type 0
@@ -143,7 +164,8 @@ AreFirst (Yang modules schema devices) = Unit {0}
 -- the world that a scenario of these devices and edits leads to is safe, and its devices begin with valid configurations
 pub record IsSafeRun (devices : List FlatState) (edits : List FlatEdit) (s : Scenario) : Type 0 where
   pub valid : All (IsFirst flat_meaning) devices
-  pub safe : IsSafe flat_meaning (tables_of edits) (course_of (plan_of s.changes)) devices (length s.operators) (world_from devices edits (plan_of s.changes) (length s.operators) s.events)
+  pub safe : IsSafe flat_meaning (tables_of edits s.selects) (course_of (plan_of s.changes)) devices (length s.operators) s.events
+      (world_from devices (tables_of edits s.selects) (plan_of s.changes) (length s.operators) s.events)
 
 -- the same by the contents, of which flat ones alone are run
 abbrev pub RunsSafelyBy : Body → Scenario → Type 0
@@ -160,29 +182,31 @@ abbrev pub IsKnown : Bool → List ℕ → Result Scenario Fault → Type 0
 IsKnown built bytes (Err fault) = ToldOfBytes built bytes fault
 IsKnown built bytes (Ok s) = ScenarioKeeps s
 
--- a status and a text are the only ones that are told to a command and an input
-abbrev pub IsOnly : Option Command → List ℕ → Status → List ℕ → Type 0
-IsOnly command bytes status text = (other : Status) (words : List ℕ) → IsTold command bytes other words → (other ≡ status) × (words ≡ text)
+-- a status and a text are the only ones that are told to a command, an input and a disk
+abbrev pub IsOnly : Option Command → List ℕ → List ℕ → Status → List ℕ → Type 0
+IsOnly command bytes image status text = (other : Status) (words : List ℕ) → IsTold command bytes image other words → (other ≡ status) × (words ≡ text)
 
--- a status and a text that answer some bytes, those that the source told where it tells them, and no others do
-pub record Says (left : Option (List ℕ)) (command : Option Command) (status : Status) (text : List ℕ) : Type 0 where
+-- a status and a text that answer some bytes of an input and of a disk, those that each told where it tells them, and no others do
+pub record Says (left stored : Option (List ℕ)) (command : Option Command) (status : Status) (text : List ℕ) : Type 0 where
   pub bytes : List ℕ
   pub held : IfSome left (λ told. told ≡ bytes)
-  pub tells : IsTold command bytes status text
-  pub only : IsOnly command bytes status text
+  pub image : List ℕ
+  pub kept : IfSome stored (λ told. told ≡ image)
+  pub tells : IsTold command bytes image status text
+  pub only : IsOnly command bytes image status text
   pub safe : RunsSafely (flat_scenario_of bytes)
   pub checked_known : (outcome : Result Scenario Fault) → ReadsBytes bytes outcome → IsKnown true bytes outcome
   pub replayed_known : IsKnown false bytes (flat_scenario_of bytes)
 
 -- the whole answer to some bytes was written, and nothing else
-pub record Answers (left : Option (List ℕ)) (command : Option Command) (before after : Option (List ℕ)) (status : Status) : Type 0 where
+pub record Answers (left stored : Option (List ℕ)) (command : Option Command) (before after : Option (List ℕ)) (status : Status) : Type 0 where
   pub text : List ℕ
-  pub says : Says left command status text
+  pub says : Says left stored command status text
   pub written : after ≡ append_known before text
 
 -- a front of the answer to some bytes was written, and not all of it
-pub record CutOff (left : Option (List ℕ)) (command : Option Command) (before after : Option (List ℕ)) : Type 0 where
+pub record CutOff (left stored : Option (List ℕ)) (command : Option Command) (before after : Option (List ℕ)) : Type 0 where
   pub status : Status
   pub text : List ℕ
-  pub says : Says left command status text
+  pub says : Says left stored command status text
   pub begun : Begins before text after

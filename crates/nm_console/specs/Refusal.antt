@@ -1,9 +1,10 @@
 -- What the program says where its words or its input are refused (this project's own): one line, with a newline.
-use Rattle.std.specs.Prelude.{ℕ, List, [], ◌++◌, codes}
+use Rattle.std.specs.Prelude.{ℕ, List, [], ◌++◌, codes, decimal}
 use Rattle.nm_proto.specs.declared.kind.ScenarioKind.{ScenarioKind}
 use Rattle.nm_reading.specs.declared.fault.Fault.{Fault}
 use Rattle.nm_proto.specs.Kind.{kind_word}
 use Rattle.nm_reading.specs.Pointer.{pointer_of}
+use Rattle.nm_reading.specs.Reading.{plain}
 
 -- what the words of the program are
 abbrev pub usage_text : List ℕ
@@ -11,8 +12,16 @@ usage_text = codes "usage: netm check, replay, run, make, stress, journal\n"
 
 -- a fault of the whole input
 abbrev pub of_whole : ScenarioKind → Fault
-of_whole kind = record { kind = kind; place = [] }
+of_whole kind = record { cause = plain kind; place = [] }
 
 -- the line of a fault: its kind, and its place as a JSON pointer (RFC 6901)
 abbrev pub fault_text : Fault → List ℕ
-fault_text fault = codes "scenario " ++ kind_word fault.kind ++ codes " " ++ pointer_of fault.place ++ codes "\n"
+fault_text fault = codes "scenario " ++ kind_word fault.cause.kind ++ codes " " ++ pointer_of fault.place ++ codes "\n"
+
+-- a place in a journal, at the end of a line
+abbrev pub offset_text : ℕ → List ℕ
+offset_text offset = decimal offset ++ codes "\n"
+
+-- the line of a damaged journal, with the place of the first byte of the record that can't be read
+abbrev pub damaged_text : ℕ → List ℕ
+damaged_text offset = codes "journal damaged " ++ offset_text offset

@@ -15,6 +15,8 @@ status_code status.Usage = 2
 status_code status.Scenario = 3
 status_code status.ReadFault = 4
 status_code status.WriteFault = 5
+status_code status.DiskFault = 6
+status_code status.Journal = 7
 status_code status.NoMemory = 8
 status_code status.Unsettled = 10
 
@@ -26,6 +28,8 @@ is_whole status.Usage = true
 is_whole status.Scenario = true
 is_whole status.ReadFault = false
 is_whole status.WriteFault = false
+is_whole status.DiskFault = false
+is_whole status.Journal = true
 is_whole status.NoMemory = false
 is_whole status.Unsettled = true
 
@@ -35,5 +39,5 @@ status_for (report ∷ reports) differ = status.Unsettled
 status_for [] (report ∷ reports) = status.Differ
 status_for [] [] = status.Ok
 
-abbrev pub world_status : {Config : Type 0} → Course → WorldState Config → Status
+abbrev pub world_status : {Config Node : Type 0} → Course → WorldState Config Node → Status
 world_status course w = status_for (unsettled (is_submitted w.entries) (reports_of course w)) (differing (is_decided w.entries) (reports_of course w))

@@ -1,16 +1,18 @@
-ghost use Rattle.std.specs.Prelude.{◌≡◌, IfOk, IsErrOf, Some, IsTrue, IsSome};
+ghost use Rattle.std.specs.Prelude.{◌≡◌, List, ℕ, Option, IfOk, IsErrOf, Some, IsTrue, true, false};
 ghost use Rattle.nm_base.specs.Count.{Rose};
-ghost use Rattle.nm_console.specs.Words.{command_of, texts_of};
+ghost use Rattle.nm_console.specs.Words.{command_of, reads_input, texts_of};
 ghost use Rattle.nm_console.specs.Status.{is_whole};
 ghost use Rattle.nm_console.specs.Console.{Answers, CutOff, IsTold, Says, Tells, usage_told};
 
 use crate::check::check_bytes;
 use crate::command::{Command, command_of};
+use crate::journal::{JournalStop, journal_answer};
 use crate::refusal::USAGE;
 use crate::replay::replay_bytes;
 use crate::said::{Said, say_whole_fault};
 use crate::status::Status;
 use nm_base::NoMemory;
+use nm_disk::Disk;
 use nm_io::{ReadAllFault, Sink, Source, read_all, write_all};
 use nm_report::text::put;
 use nm_scenario::{BYTE_LIMIT, ScenarioKind};
@@ -20,38 +22,49 @@ use std::alloc::Global;
 #[derive(Clone, Copy, Debug, PartialEq, Eq)]
 enum Stop {
     ReadFault,
+    DiskFault,
     NoMemory,
 }
 
-/// The program: reads its input where its words ask for it, and writes the answer at once.
+/// The program: reads its input or its journal where its words ask for it, and writes the answer at once.
 ///
-/// The words are those after the program's name. Nothing is written before the answer is whole in memory, so that
-/// only a failed write leaves a part of it.
-pub fn console<S: Source, K: Sink>(
+/// The words are those after the program's name, and `journal` is the disk at the path that they name, if they do.
+/// Nothing is written before the answer is whole in memory, so that only a failed write leaves a part of it.
+pub fn console<S: Source, K: Sink, D: Disk>(
     alloc: Global,
     words: &[String],
     input: &mut S,
     output: &mut K,
+    journal: &mut D,
 ) -> Status
-    // The answer to the words and the input was written, and nothing else.
+    // The answer to the words, the input and the journal was written, and nothing else.
     ensures answered { IsTrue (is_whole result)
-        → Answers (S.left input.old) (command_of (texts_of words.now)) (K.taken output.old) (K.taken output.new) result }
+        → Answers (S.left input.old) (D.told journal.old) (command_of (texts_of words.now)) (K.taken output.old) (K.taken output.new) result }
 
     // The input failed: nothing was written.
     ensures read_fault { result ≡ Status.ReadFault
-        → IsSome (command_of (texts_of words.now)) × Rose (S.faults input.old) (S.faults input.new) × (K.taken output.new ≡ K.taken output.old) }
+        → IsTrue (reads_input (command_of (texts_of words.now))) × Rose (S.faults input.old) (S.faults input.new) × (K.taken output.new ≡ K.taken output.old) }
 
     // The output failed: a front of the answer was written.
     ensures write_fault { result ≡ Status.WriteFault
         → Rose (K.faults output.old) (K.faults output.new)
-        × CutOff (S.left input.old) (command_of (texts_of words.now)) (K.taken output.old) (K.taken output.new) }
+        × CutOff (S.left input.old) (D.told journal.old) (command_of (texts_of words.now)) (K.taken output.old) (K.taken output.new) }
+
+    // The journal's disk failed: nothing was written.
+    ensures disk_fault { result ≡ Status.DiskFault
+        → (command_of (texts_of words.now) ≡ Some Command.Journal) × Rose (D.faults journal.old) (D.faults journal.new) × (K.taken output.new ≡ K.taken output.old) }
 
     // Memory ran out: nothing was written.
     ensures no_memory { result ≡ Status.NoMemory → K.taken output.new ≡ K.taken output.old }
+
+    // The input stays where the command doesn't read it, and the journal always.
+    ensures unread { reads_input (command_of (texts_of words.now)) ≡ false → input.new ≡ input.old }
+    ensures journal_stays { D.told journal.new ≡ D.told journal.old }
 {
-    let said = match say(alloc, command_of(words), input) {
+    let said = match say(alloc, command_of(words), input, journal) {
         Ok(said) => said,
         Err(Stop::ReadFault) => return Status::ReadFault,
+        Err(Stop::DiskFault) => return Status::DiskFault,
         Err(Stop::NoMemory) => return Status::NoMemory,
     };
     match write_all(output, said.text.as_slice()) {
@@ -62,18 +75,33 @@ pub fn console<S: Source, K: Sink>(
 
 // What is to be said.
 #[tactic(auto, using(crate::proofs::Saying::saying))]
-fn say<S: Source>(alloc: Global, command: Option<Command>, input: &mut S) -> Result<Said, Stop>
-    ensures says { IfOk result (λ said. Says (S.left input.old) command said.status said.text.items) }
+fn say<S: Source, D: Disk>(
+    alloc: Global,
+    command: Option<Command>,
+    input: &mut S,
+    journal: &mut D,
+) -> Result<Said, Stop>
+    ensures says { IfOk result (λ said. Says (S.left input.old) (D.told journal.old) command said.status said.text.items) }
     ensures whole { IfOk result (λ said. IsTrue (is_whole said.status)) }
     ensures read_fault { IsErrOf result Stop.ReadFault
-        → IsSome command × Rose (S.faults input.old) (S.faults input.new) }
+        → IsTrue (reads_input command) × Rose (S.faults input.old) (S.faults input.new) }
+    ensures disk_fault { IsErrOf result Stop.DiskFault
+        → (command ≡ Some Command.Journal) × Rose (D.faults journal.old) (D.faults journal.new) }
+    ensures unread { reads_input command ≡ false → input.new ≡ input.old }
+    ensures journal_stays { D.told journal.new ≡ D.told journal.old }
 {
     match command {
         None => match say_usage(alloc) {
             Ok(said) => Ok(said),
             Err(_) => Err(Stop::NoMemory),
         },
-        Some(command) => say_input(alloc, command, input),
+        Some(Command::Check) => say_input(alloc, Command::Check, input),
+        Some(Command::Replay) => say_input(alloc, Command::Replay, input),
+        Some(Command::Journal) => match journal_answer(alloc, journal) {
+            Ok(said) => Ok(said),
+            Err(JournalStop::DiskFault) => Err(Stop::DiskFault),
+            Err(JournalStop::NoMemory) => Err(Stop::NoMemory),
+        },
     }
 }
 
@@ -88,12 +116,14 @@ fn say_usage(alloc: Global) -> Result<Said, NoMemory>
     })
 }
 
-// Reads the scenario to its end, and answers it.
+// Reads the scenario to its end, and answers it. It doesn't look at a journal.
 #[tactic(auto, using(crate::proofs::Saying::saying))]
 fn say_input<S: Source>(alloc: Global, command: Command, input: &mut S) -> Result<Said, Stop>
-    ensures says { IfOk result (λ said. Says (S.left input.old) (Some command) said.status said.text.items) }
+    requires reads { reads_input (Some command) ≡ true }
+    ensures says { IfOk result (λ said. (stored : Option (List ℕ)) → Says (S.left input.old) stored (Some command) said.status said.text.items) }
     ensures whole { IfOk result (λ said. IsTrue (is_whole said.status)) }
     ensures read_fault { IsErrOf result Stop.ReadFault → Rose (S.faults input.old) (S.faults input.new) }
+    ensures no_disk_fault { IsErrOf result Stop.DiskFault → ⊥ }
 {
     match read_all(alloc, input, BYTE_LIMIT) {
         Ok(bytes) => match say_bytes(alloc, command, bytes.as_slice()) {
@@ -111,11 +141,13 @@ fn say_input<S: Source>(alloc: Global, command: Command, input: &mut S) -> Resul
 
 // The answer of a command to the bytes of a scenario.
 fn say_bytes(alloc: Global, command: Command, bytes: &[u8]) -> Result<Said, NoMemory>
-    ensures told { IfOk result (λ said. IsTold (Some command) bytes.now said.status said.text.items) }
+    requires reads { reads_input (Some command) ≡ true }
+    ensures told { IfOk result (λ said. (image : List ℕ) → IsTold (Some command) bytes.now image said.status said.text.items) }
     ensures whole { IfOk result (λ said. IsTrue (is_whole said.status)) }
 {
     match command {
         Command::Check => check_bytes(alloc, bytes),
         Command::Replay => replay_bytes(alloc, bytes),
+        Command::Journal => unreachable!(),
     }
 }

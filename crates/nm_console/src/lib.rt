@@ -1,7 +1,7 @@
-//! The program's commands, from the bytes of a scenario to the bytes of its text.
+//! The program's commands, from the bytes of a scenario or of a journal to the bytes of its text.
 //!
-//! Stands on the reader of scenarios, on the world and its report, and on sources and sinks. `console` is the top call:
-//! its contract says which bytes it writes for which bytes it reads.
+//! Stands on the reader of scenarios, on the world and its report, on the journal, and on sources, sinks and disks.
+//! `console` is the top call: its contract says which bytes it writes for which bytes it reads.
 #![tactic(auto)]
 
 pub mod check;
@@ -9,6 +9,9 @@ pub mod check;
 mod check_tests;
 pub mod command;
 pub mod console;
+pub mod journal;
+#[cfg(test)]
+mod journal_tests;
 #[cfg(test)]
 mod limit_tests;
 pub mod refusal;

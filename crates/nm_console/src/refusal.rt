@@ -1,7 +1,7 @@
 ghost use Rattle.std.specs.Prelude.{◌≡◌, ◌++◌, OnOk};
-ghost use Rattle.nm_console.specs.Refusal.{fault_text};
+ghost use Rattle.nm_console.specs.Refusal.{damaged_text, fault_text, offset_text};
 
-use nm_base::NoMemory;
+use nm_base::{NoMemory, write_decimal};
 use nm_reading::{Fault, write_place};
 use nm_report::text::put;
 use std::alloc::Global;
@@ -14,8 +14,23 @@ pub fn write_fault(alloc: Global, out: &mut Vec<u8>, fault: &Fault) -> Result<()
     ensures { OnOk result (out.new.items ≡ out.old.items ++ fault_text fault.now) }
 {
     put(out, "scenario ")?;
-    put(out, fault.kind.word())?;
+    put(out, fault.cause.kind.word())?;
     put(out, " ")?;
     write_place(alloc, out, fault.place.as_slice())?;
+    put(out, "\n")
+}
+
+/// The line of a journal that is damaged from this byte on.
+pub fn write_damaged(out: &mut Vec<u8>, offset: u64) -> Result<(), NoMemory>
+    ensures { OnOk result (out.new.items ≡ out.old.items ++ damaged_text offset) }
+{
+    put(out, "journal damaged ")?;
+    write_offset(out, offset)
+}
+
+fn write_offset(out: &mut Vec<u8>, offset: u64) -> Result<(), NoMemory>
+    ensures { OnOk result (out.new.items ≡ out.old.items ++ offset_text offset) }
+{
+    write_decimal(offset, out)?;
     put(out, "\n")
 }

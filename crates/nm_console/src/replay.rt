@@ -5,13 +5,14 @@ ghost use Rattle.std.specs.List.{All};
 ghost use Rattle.nm_proto.specs.FlatContent.{flat_meaning};
 ghost use Rattle.nm_scenario.specs.Scenario.{flat_scenario_of};
 ghost use Rattle.nm_world.specs.World.{IsFirst, run, start};
-ghost use Rattle.nm_console.specs.Console.{AreFirst, Tells, course_of, devices_told, faulted, no_plan, not_replayed, replayed, tables_of, told, told_with, world_told};
+ghost use Rattle.nm_console.specs.Console.{AreFirst, Tells, course_of, devices_told, faulted, no_plan, not_replayed, replayed, told, told_with, world_told};
 
 use crate::said::{Said, say_fault};
 use crate::status::{Status, status_for};
 use nm_base::token::token_of;
 use nm_base::{ChangeNo, DEFAULT_TIMEOUT, Label, MANAGER, NoMemory};
-use nm_proto::{ChangePlan, Event, FlatConfig, FlatContent, FlatEdit, Listed, Tables};
+use nm_proto::{ChangePlan, Event, FlatConfig, FlatContent, Listed, Tables};
+use nm_reading::Cause;
 use nm_refusals::read_flat_scenario;
 use nm_report::{differing, reports_of, unsettled, write_devices, write_world};
 use nm_scenario::{Body, Fault, ReadError, Scenario, ScenarioKind, Step};
@@ -40,13 +41,14 @@ fn say_scenario(alloc: Global, scenario: Scenario) -> Result<Said, NoMemory>
         changes,
         operators,
         events,
+        selects,
         trace,
     } = scenario;
     match body {
         Body::Flat { devices, edits } => say_flat(
             alloc,
             devices,
-            edits,
+            Tables::new(edits, selects),
             changes,
             operators.len(),
             events.as_slice(),
@@ -63,7 +65,10 @@ fn say_unbuilt(alloc: Global) -> Result<Said, NoMemory>
     let mut place = Listed::new(alloc);
     place.push(Step::Name(Label::new(alloc, "contents")?))?;
     let fault = Fault {
-        kind: ScenarioKind::NotBuilt,
+        cause: Cause {
+            kind: ScenarioKind::NotBuilt,
+            inner: None,
+        },
         place,
     };
     say_fault(alloc, &fault)
@@ -73,23 +78,23 @@ fn say_unbuilt(alloc: Global) -> Result<Said, NoMemory>
 fn say_flat(
     alloc: Global,
     devices: Listed<FlatConfig>,
-    edits: Listed<FlatEdit>,
+    tables: Tables<FlatContent>,
     mut changes: Listed<ChangePlan>,
     operators: usize,
     events: &[Event],
     trace: bool,
 ) -> Result<Said, NoMemory>
     requires { All (IsFirst flat_meaning) devices }
-    ensures { IfOk result (λ said. Tells (told_with devices edits changes operators events.now trace) said.status said.text.items) }
+    ensures { IfOk result (λ said. Tells (told_with devices tables changes operators events.now trace) said.status said.text.items) }
 {
     match changes.take_first() {
         None => {
             let none = no_plan(alloc);
-            let world = world_of(alloc, devices, edits, &none, operators, events)?;
+            let world = world_of(alloc, devices, tables, &none, operators, events)?;
             say_devices(alloc, trace, &world)
         }
         Some(plan) => {
-            let world = world_of(alloc, devices, edits, &plan, operators, events)?;
+            let world = world_of(alloc, devices, tables, &plan, operators, events)?;
             say_world(alloc, trace, &world)
         }
     }
@@ -123,17 +128,16 @@ fn course_of(alloc: Global, plan: &ChangePlan) -> Result<Course, NoMemory>
 fn world_of(
     alloc: Global,
     devices: Listed<FlatConfig>,
-    edits: Listed<FlatEdit>,
+    tables: Tables<FlatContent>,
     plan: &ChangePlan,
     operators: usize,
     events: &[Event],
 ) -> Result<World<FlatContent>, NoMemory>
     requires { All (IsFirst flat_meaning) devices }
     ensures course { IfOk result (λ w. w.course ≡ course_of plan.now) }
-    ensures state { IfOk result (λ w. w.state ≡ run flat_meaning (tables_of edits) (course_of plan.now) (start devices plan.now.edits operators) events.now) }
+    ensures state { IfOk result (λ w. w.state ≡ run flat_meaning tables (course_of plan.now) (start devices plan.now.edits operators) events.now) }
 {
     let content = FlatContent::new(alloc);
-    let tables = Tables::new(edits, Listed::new(alloc));
     let course = course_of(alloc, plan)?;
     let world = World::new(
         alloc,

@@ -6,7 +6,7 @@ use crate::refusal::write_fault;
 use crate::status::Status;
 use nm_base::NoMemory;
 use nm_proto::Listed;
-use nm_reading::{Fault, ScenarioKind};
+use nm_reading::{Cause, Fault, ScenarioKind};
 use std::alloc::Global;
 
 /// A status and a text.
@@ -33,7 +33,7 @@ pub fn say_whole_fault(alloc: Global, kind: ScenarioKind) -> Result<Said, NoMemo
     ensures { IfOk result (λ said. Tells (faulted (of_whole kind)) said.status said.text.items) }
 {
     let fault = Fault {
-        kind,
+        cause: Cause { kind, inner: None },
         place: Listed::new(alloc),
     };
     say_fault(alloc, &fault)

@@ -18,6 +18,10 @@ pub enum Status {
     ReadFault,
     /// The output failed.
     WriteFault,
+    /// The journal's disk failed. Nothing was written.
+    DiskFault,
+    /// The journal is damaged.
+    Journal,
     /// Memory ran out. Nothing was written.
     NoMemory,
     /// The text was written whole, and a device of a change set is not settled.
@@ -38,6 +42,8 @@ impl Status {
             Status::Scenario => 3,
             Status::ReadFault => 4,
             Status::WriteFault => 5,
+            Status::DiskFault => 6,
+            Status::Journal => 7,
             Status::NoMemory => 8,
             Status::Unsettled => 10,
         }

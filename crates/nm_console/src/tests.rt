@@ -1,5 +1,6 @@
 use crate::console::console;
 use crate::status::Status;
+use nm_disk::MemoryDisk;
 use nm_io::{MemorySink, MemorySource, SureSink, SureSource};
 use std::alloc::Global;
 use std::test::Fail;
@@ -7,7 +8,7 @@ use std::test::Fail;
 // A status and what was written.
 type Ended = (Status, Vec<u8>);
 
-fn listed(alloc: Global, words: &[&str]) -> Result<Vec<String>, Fail> {
+pub fn listed(alloc: Global, words: &[&str]) -> Result<Vec<String>, Fail> {
     let mut list = Vec::new(alloc);
     for word in words {
         list.push(String::from_str(alloc, word)?)?;
@@ -27,7 +28,14 @@ pub fn run(
     let bytes = Vec::from_slice(alloc, text.as_bytes())?;
     let mut input = MemorySource::new(bytes, Vec::from_slice(alloc, reads)?);
     let mut output = MemorySink::new(alloc, 4096, Vec::from_slice(alloc, writes)?)?;
-    let status = console(alloc, words.as_slice(), &mut input, &mut output);
+    let mut journal = MemoryDisk::with_limit(alloc, 16, 1)?;
+    let status = console(
+        alloc,
+        words.as_slice(),
+        &mut input,
+        &mut output,
+        &mut journal,
+    );
     Ok((status, Vec::from_slice(alloc, output.taken())?))
 }
 
@@ -97,11 +105,13 @@ fn failing_streams(rt: HostRuntime) -> Result<(), Fail> {
 fn sure_streams(rt: HostRuntime) -> Result<(), Fail> {
     let words = listed(rt.alloc(), &["replay"])?;
     let bytes = Vec::from_slice(rt.alloc(), EMPTY.as_bytes())?;
+    let mut journal = MemoryDisk::with_limit(rt.alloc(), 16, 1)?;
     let status = console(
         rt.alloc(),
         words.as_slice(),
         &mut SureSource::new(bytes),
         &mut SureSink::new(),
+        &mut journal,
     );
     assert_eq!(rt; status, Status::Ok);
     assert_eq!(rt; status.code(), 0);

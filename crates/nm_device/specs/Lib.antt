@@ -1,5 +1,6 @@
-pub mod Pending
 pub mod Device
 pub mod Commit
+pub mod Undoing
+pub mod Cancel
+pub mod Part
 pub mod Table
-pub mod History

@@ -1,6 +1,6 @@
 -- What a device does with each request: its tests in order, the first that fails answers, and then what it does
 -- (RFC 6241 sections 7 and 8).
-use Rattle.std.specs.Prelude.{ℕ, List, Bool, true, false, Option, Some, None, slice_get, Result, Ok, Err, if◌then◌else◌}
+use Rattle.std.specs.Prelude.{◌≡◌, ℕ, List, Bool, true, false, not, ◌&&◌, Option, Some, None, IfSome, is_some, slice_get, Result, Ok, Err, if◌then◌else◌}
 use Rattle.nm_base.specs.declared.tag.Tag.TheVariants.{InUse, OperationFailed, ResourceDenied}
 use Rattle.nm_proto.specs.declared.message.Store.{Store}
 use Rattle.nm_proto.specs.declared.message.Store.TheVariants.{Running, Candidate}
@@ -11,91 +11,86 @@ use Rattle.nm_proto.specs.declared.message.Request.TheVariants.{OpenSession, Loc
 use Rattle.nm_proto.specs.declared.message.Reply.{Reply}
 use Rattle.nm_proto.specs.declared.message.Reply.TheVariants.{Done, Opened, LockId, Mark, Rows, Error}
 use Rattle.nm_proto.specs.Content.{Meaning, Refusal, counted_rows, TablesState}
-use Rattle.nm_sessions.specs.Sessions.{next_id, entered, left}
-use Rattle.nm_locks.specs.Locks.{owner_of, with_owner, is_owner, without_session}
+use Rattle.nm_sessions.specs.Sessions.{next_id, entered}
+use Rattle.nm_locks.specs.Locks.{owner_of, with_owner, is_owner}
+use Rattle.nm_partial.specs.Partial.{least_owner}
 use Rattle.nm_stores.specs.Stores.{StoresState, candidate_of, is_modified, with_candidate, discarded}
-use Rattle.nm_device.specs.Pending.{is_stranger}
-use Rattle.nm_device.specs.Device.{DeviceState, Stepped, answer, done, refuse, deny_lock, refuse_at, is_held_by_other, with_stores}
+use Rattle.nm_pending.specs.Pending.{is_stranger}
+use Rattle.nm_device.specs.Device.{DeviceState, Stepped, answer, done, refuse, deny_lock, refuse_at, is_held_by_other, is_dropped, with_stores}
 use Rattle.nm_device.specs.Commit.{commit_by}
+use Rattle.nm_device.specs.Undoing.{ended}
+use Rattle.nm_device.specs.Cancel.{cancel_by, kill_by}
+use Rattle.nm_device.specs.Part.{part_locked, part_unlocked}
 
 module _ {Config : Type 0} where
-  -- a session opens with an id one above the last, unless as many are open as may be or no id is left
-  -- (RFC 6241 section 8.1)
-  abbrev pub open_with : DeviceState Config → Option ℕ → List ℕ → Stepped Config
-  open_with s None user = refuse s ResourceDenied
-  open_with s (Some session) user = answer (Opened session) (record s { sessions = entered s.sessions user })
-
-  abbrev pub opened : DeviceState Config → List ℕ → Stepped Config
-  opened s user = open_with s (next_id s.sessions) user
-
-  abbrev pub with_lock : DeviceState Config → Store → ℕ → DeviceState Config
-  with_lock s store session = record s { locks = with_owner s.locks store (Some session) }
-
-  -- a lock that anybody holds is denied. While a commit is pending, so is that of running to who is no author of it
-  -- (RFC 6241 section 7.5)
-  abbrev pub lock_running : DeviceState Config → ℕ → Option ℕ → Stepped Config
-  lock_running s session (Some holder) = deny_lock s holder
-  lock_running s session None = if is_stranger s.pending session then deny_lock s 0 else done (with_lock s Running session)
-
-  -- and that of candidate, where candidate is modified (RFC 6241 section 7.5)
-  abbrev pub lock_candidate : DeviceState Config → ℕ → Option ℕ → Stepped Config
-  lock_candidate s session (Some holder) = deny_lock s holder
-  lock_candidate s session None = if is_modified s.stores then deny_lock s 0 else done (with_lock s Candidate session)
-
-  abbrev pub locked : DeviceState Config → ℕ → Store → Stepped Config
-  locked s session Running = lock_running s session (owner_of s.locks Running)
-  locked s session Candidate = lock_candidate s session (owner_of s.locks Candidate)
-
   -- the stores after a lock is given back: with that of candidate go the changes (RFC 6241 section 8.3.5.2)
   abbrev pub stores_unlocked : StoresState Config → Store → StoresState Config
   stores_unlocked stores Running = stores
   stores_unlocked stores Candidate = discarded stores
 
+module _ {Config Node : Type 0} where
+  -- a session opens with an id one above the last, unless as many are open as may be or no id is left
+  -- (RFC 6241 section 8.1)
+  abbrev pub open_with : DeviceState Config Node → Option ℕ → List ℕ → Stepped Config Node
+  open_with s None user = refuse s ResourceDenied
+  open_with s (Some session) user = answer (Opened session) (record s { sessions = entered s.sessions user })
+
+  abbrev pub opened : DeviceState Config Node → List ℕ → Stepped Config Node
+  opened s user = open_with s (next_id s.sessions) user
+
+  abbrev pub with_lock : DeviceState Config Node → Store → ℕ → DeviceState Config Node
+  with_lock s store session = record s { locks = with_owner s.locks store (Some session) }
+
+  -- a lock that anybody holds is denied. That of running is too while anybody has a part of it locked, the asker included
+  -- (RFC 5717 section 2.5; that the holder of the least lock-id is named is this project's own), and while a commit is
+  -- pending of which the asker is no author (RFC 6241 section 7.5)
+  abbrev pub lock_running : DeviceState Config Node → ℕ → Option ℕ → Option ℕ → Stepped Config Node
+  lock_running s session (Some holder) partial = deny_lock s holder
+  lock_running s session None (Some owner) = deny_lock s owner
+  lock_running s session None None = if is_stranger s.pending session then deny_lock s 0 else done (with_lock s Running session)
+
+  -- and that of candidate, where candidate is modified (RFC 6241 section 7.5)
+  abbrev pub lock_candidate : DeviceState Config Node → ℕ → Option ℕ → Stepped Config Node
+  lock_candidate s session (Some holder) = deny_lock s holder
+  lock_candidate s session None = if is_modified s.stores then deny_lock s 0 else done (with_lock s Candidate session)
+
+  abbrev pub locked : DeviceState Config Node → ℕ → Store → Stepped Config Node
+  locked s session Running = lock_running s session (owner_of s.locks Running) (least_owner s.partials)
+  locked s session Candidate = lock_candidate s session (owner_of s.locks Candidate)
+
   -- only the owner gives a lock back (RFC 6241 section 7.6)
-  abbrev pub unlocked : DeviceState Config → ℕ → Store → Stepped Config
+  abbrev pub unlocked : DeviceState Config Node → ℕ → Store → Stepped Config Node
   unlocked s session store =
       if is_owner (owner_of s.locks store) session then done (record s { locks = with_owner s.locks store None; stores = stores_unlocked s.stores store })
       else refuse s OperationFailed
 
   -- what an edit makes of candidate (RFC 6241 section 7.2)
-  abbrev pub edit_gives : DeviceState Config → Result Config Refusal → Stepped Config
+  abbrev pub edit_gives : DeviceState Config Node → Result Config Refusal → Stepped Config Node
   edit_gives s (Ok config) = done (with_stores s (with_candidate s.stores config))
   edit_gives s (Err refusal) = refuse_at s refusal
 
   -- candidate is valid, or the first violation answers (RFC 6241 section 8.6)
-  abbrev pub validated : DeviceState Config → Option Refusal → Stepped Config
+  abbrev pub validated : DeviceState Config Node → Option Refusal → Stepped Config Node
   validated s None = done s
   validated s (Some refusal) = refuse_at s refusal
 
   -- candidate equals running again (RFC 6241 section 8.3.4.2), unless another session holds its lock (this project's own)
-  abbrev pub discard_by : DeviceState Config → ℕ → Stepped Config
+  abbrev pub discard_by : DeviceState Config Node → ℕ → Stepped Config Node
   discard_by s session = if is_held_by_other s Candidate session then refuse s InUse else done (with_stores s (discarded s.stores))
-
-  -- the stores after the end of a session: with its lock of candidate go the changes (RFC 6241 section 8.3.5.2)
-  abbrev pub stores_left : StoresState Config → Bool → StoresState Config
-  stores_left stores held = if held then discarded stores else stores
-
-  -- a session ends, and its locks with it (RFC 6241 sections 7.5 and 7.8)
-  abbrev pub ended : DeviceState Config → ℕ → DeviceState Config
-  ended s session = record s {
-    sessions = left s.sessions session;
-    locks = without_session s.locks session;
-    stores = stores_left s.stores (is_owner (owner_of s.locks Candidate) session);
-  }
 
 module _ {Config TheEdit Node : Type 0} (m : Meaning Config TheEdit Node) (tables : TablesState TheEdit) where
   -- an edit of a number that the tables lack is refused
-  abbrev pub edit_at : DeviceState Config → Option TheEdit → DefaultOperation → Option Marks → Stepped Config
+  abbrev pub edit_at : DeviceState Config Node → Option TheEdit → DefaultOperation → Option Marks → Stepped Config Node
   edit_at s None operation marks = refuse s OperationFailed
   edit_at s (Some edit) operation marks = edit_gives s (m.edited (candidate_of s.stores) edit operation marks)
 
   -- another's lock of candidate keeps everybody else out (RFC 6241 section 7.5)
-  abbrev pub edit_by : DeviceState Config → ℕ → ℕ → DefaultOperation → Option Marks → Stepped Config
+  abbrev pub edit_by : DeviceState Config Node → ℕ → ℕ → DefaultOperation → Option Marks → Stepped Config Node
   edit_by s session number operation marks =
       if is_held_by_other s Candidate session then refuse s InUse else edit_at s (slice_get tables.edits number) operation marks
 
-  -- a request of an open session. The requests that aren't built yet are refused
-  abbrev pub device_step : DeviceState Config → ℕ → Request → Stepped Config
+  -- a request of an open session. Who has one doesn't ask for another
+  abbrev pub device_step : DeviceState Config Node → ℕ → Request → Stepped Config Node
   device_step s session (Lock store) = locked s session store
   device_step s session (Unlock store) = unlocked s session store
   device_step s session (Edit edit operation marks) = edit_by s session edit.0 operation marks
@@ -105,12 +100,12 @@ module _ {Config TheEdit Node : Type 0} (m : Meaning Config TheEdit Node) (table
   device_step s session Discard = discard_by s session
   device_step s session (HasMark change) = answer (Mark (m.has_mark s.stores.running change)) s
   device_step s session GetConfig = answer (Rows (counted_rows (m.rows s.stores.running))) s
-  device_step s session CloseSession = done (ended s session)
+  device_step s session CloseSession = done (ended m s session)
   device_step s session (OpenSession user) = refuse s OperationFailed
-  device_step s session (PartialLock select) = refuse s OperationFailed
-  device_step s session (PartialUnlock id) = refuse s OperationFailed
-  device_step s session (CancelCommit persist_id) = refuse s OperationFailed
-  device_step s session (Kill other) = refuse s OperationFailed
+  device_step s session (PartialLock select) = part_locked m s session (slice_get tables.selects select.0)
+  device_step s session (PartialUnlock id) = part_unlocked s session id
+  device_step s session (CancelCommit persist_id) = cancel_by m s session persist_id
+  device_step s session (Kill other) = kill_by m s session other
 
 -- ---- words on requests and replies
 
@@ -131,6 +126,26 @@ takes_no_memory GetConfig = true
 takes_no_memory (Kill session) = true
 takes_no_memory CloseSession = true
 
+-- the user who asks for a session
+abbrev pub opening_user : Request → Option (List ℕ)
+opening_user (OpenSession user) = Some user
+opening_user (Lock store) = None
+opening_user (Unlock store) = None
+opening_user (PartialLock select) = None
+opening_user (PartialUnlock id) = None
+opening_user (Edit edit operation marks) = None
+opening_user Validate = None
+opening_user (Commit confirmed timeout persist persist_id) = None
+opening_user (CancelCommit persist_id) = None
+opening_user Discard = None
+opening_user (HasMark change) = None
+opening_user GetConfig = None
+opening_user (Kill session) = None
+opening_user CloseSession = None
+
+abbrev pub is_opening : Request → Bool
+is_opening request = is_some (opening_user request)
+
 abbrev pub is_commit : Request → Bool
 is_commit (Commit confirmed timeout persist persist_id) = true
 is_commit (OpenSession user) = false
@@ -147,6 +162,27 @@ is_commit GetConfig = false
 is_commit (Kill session) = false
 is_commit CloseSession = false
 
+-- a commit or a cancel: what ends a pending commit as it is asked to
+abbrev pub asks_for_end : Request → Bool
+asks_for_end (Commit confirmed timeout persist persist_id) = true
+asks_for_end (CancelCommit persist_id) = true
+asks_for_end (OpenSession user) = false
+asks_for_end (Lock store) = false
+asks_for_end (Unlock store) = false
+asks_for_end (PartialLock select) = false
+asks_for_end (PartialUnlock id) = false
+asks_for_end (Edit edit operation marks) = false
+asks_for_end Validate = false
+asks_for_end Discard = false
+asks_for_end (HasMark change) = false
+asks_for_end GetConfig = false
+asks_for_end (Kill session) = false
+asks_for_end CloseSession = false
+
+-- a request undid a pending commit, other than by a cancel: one was pending before it and none is after it
+abbrev pub undid : {Config Node : Type 0} → Request → DeviceState Config Node → DeviceState Config Node → Bool
+undid request old new = is_dropped old new && not (asks_for_end request)
+
 abbrev pub is_error : Reply → Bool
 is_error Done = false
 is_error (Opened session) = false
@@ -162,3 +198,10 @@ is_done (LockId id) = false
 is_done (Mark there) = false
 is_done (Rows count) = false
 is_done (Error tag session path) = false
+
+-- what a request does to running: a commit that was done makes it what candidate was just before, an undoing what it was
+-- before the commit that began what is undone, and nothing else changes it (RFC 6241 sections 8.3 and 8.4)
+pub record Moves {Config Node : Type 0} (request : Request) (reply : Reply) (old new : DeviceState Config Node) : Type 0 where
+  pub committed : is_commit request ≡ true → is_done reply ≡ true → new.stores.running ≡ candidate_of old.stores
+  pub undone : is_commit request ≡ false → is_dropped old new ≡ true → IfSome old.pending (λ p. new.stores.running ≡ p.before)
+  pub stays : (is_commit request && is_done reply) ≡ false → is_dropped old new ≡ false → new.stores.running ≡ old.stores.running

@@ -1,24 +1,27 @@
-ghost use Rattle.std.specs.Prelude.{◌≡◌, IfOk, OnOk, OnErr, IsOk, true, false, ◌&&◌, None};
+ghost use Rattle.std.specs.Prelude.{◌≡◌, IfOk, OnOk, OnErr, IsOk, true, false, ◌&&◌, None, is_some};
 ghost use Rattle.std.specs.List.{All};
 ghost use Rattle.nm_proto.specs.Message.{holds_text};
-ghost use Rattle.nm_device.specs.Table.{is_commit, is_done, is_error, takes_no_memory};
+ghost use Rattle.nm_device.specs.Table.{is_commit, is_done, is_error, is_opening, takes_no_memory};
 
-use crate::pending::Pending;
 use nm_base::{Label, NoMemory, SessionId, Tag};
 use nm_locks::GlobalLocks;
+use nm_partial::PartialLocks;
+use nm_pending::Pending;
 use nm_proto::{Content, Reply, Request, Store, Tables};
 use nm_sessions::{EnterFault, Sessions};
 use nm_stores::Stores;
 use std::alloc::Global;
 use std::marker::Model;
 
-/// A device: its datastores, sessions, global locks and pending confirmed commit (RFC 6241 sections 7 and 8).
+/// A device: its datastores, sessions, global and partial locks and pending confirmed commit (RFC 6241 sections 7 and 8,
+/// RFC 5717).
 pub struct Device<C: Content> {
     pub(crate) alloc: Global,
     pub(crate) stores: Stores<C>,
     pub(crate) sessions: Sessions,
     pub(crate) locks: GlobalLocks,
-    pub(crate) pending: Option<Pending>,
+    pub(crate) partials: PartialLocks<C>,
+    pub(crate) pending: Option<Pending<C>>,
     // In seconds.
     pub(crate) clock: u64,
 }
@@ -30,26 +33,31 @@ impl<C: Content> Drop for Device<C> {
             stores,
             sessions,
             locks,
+            partials,
             pending,
             clock: _,
         } = self;
         drop(stores);
         drop(sessions);
         drop(locks);
+        drop(partials);
         drop(pending);
     }
 }
 
 impl<C: Content> Model for Device<C> {
+    ghost use Rattle.std.specs.Option.{option_map};
+    ghost use Rattle.nm_pending.specs.Pending.{filled};
     ghost use Rattle.nm_device.specs.Device.{DeviceState};
 
-    ghost Value = { DeviceState C.Config };
+    ghost Value = { DeviceState C.Config C.Node };
 
     ghost view = { λ d. record {
       stores = d.stores;
       sessions = d.sessions;
       locks = d.locks;
-      pending = d.pending;
+      partials = d.partials;
+      pending = option_map (filled d.stores.running) d.pending;
       clock = d.clock;
     } };
 }
@@ -57,17 +65,20 @@ impl<C: Content> Model for Device<C> {
 impl<C: Content> Device<C> {
     ghost use Rattle.nm_sessions.specs.Sessions.{is_open};
     ghost use Rattle.nm_stores.specs.Stores.{candidate_of};
-    ghost use Rattle.nm_device.specs.Device.{fresh_device};
+    ghost use Rattle.nm_device.specs.Device.{fresh_device, IsInTime};
 
     /// A device with a running configuration and nothing else. It takes no memory.
+    #[tactic(auto, unfolding(crate::specs::Device::IsInTime))]
     pub fn new(alloc: Global, running: C::Config) -> Device<C>
-        ensures { result ≡ fresh_device running }
+        ensures fresh { result ≡ fresh_device running }
+        ensures in_time { IsInTime result.clock }
     {
         Device {
             alloc,
             stores: Stores::new(running),
             sessions: Sessions::new(alloc),
             locks: GlobalLocks::new(),
+            partials: PartialLocks::new(alloc),
             pending: None,
             clock: 0,
         }
@@ -94,6 +105,13 @@ impl<C: Content> Device<C> {
         self.clock
     }
 
+    /// Whether a commit is pending.
+    pub fn is_pending(&self) -> bool
+        ensures { result ≡ is_some self.now.pending }
+    {
+        self.pending.is_some()
+    }
+
     /// Whether the session is open.
     pub fn has_session(&self, session: SessionId) -> bool
         ensures { result ≡ is_open self.now.sessions session }
@@ -104,15 +122,13 @@ impl<C: Content> Device<C> {
 
 impl<C: Content> Device<C> {
     ghost use Rattle.nm_sessions.specs.Sessions.{is_open};
-    ghost use Rattle.nm_device.specs.Device.{Does, IsSound};
-    ghost use Rattle.nm_device.specs.Table.{opened, ended, device_step};
-    ghost use Rattle.nm_stores.specs.Stores.{candidate_of};
-    ghost use Rattle.nm_device.specs.History.{is_opening};
+    ghost use Rattle.nm_device.specs.Device.{Does, IsInTime, IsSound};
+    ghost use Rattle.nm_device.specs.Table.{opened, device_step, Moves};
 
     /// Opens a session for a user (RFC 6241 section 8.1), or refuses it with resource-denied.
     pub fn open_session(&mut self, user: Label) -> Result<Reply, NoMemory>
         ensures opened { Does result self.old self.new (opened self.old user) }
-        ensures stores { self.new.stores ≡ self.old.stores }
+        ensures only_sessions { self.new ≡ record self.old { sessions = self.new.sessions } }
         ensures without_text { IfOk result (λ reply. holds_text reply ≡ false) }
     {
         match self.sessions.enter(user) {
@@ -134,18 +150,47 @@ impl<C: Content> Device<C> {
         requires edits_belong { All (C.meaning content.now).edit_belongs tables.now.edits }
         requires open { is_open self.old.sessions session ≡ true }
         requires asks { is_opening request.now ≡ false }
+        requires in_time { IsInTime self.old.clock }
         ensures stepped { Does result self.old self.new (device_step (C.meaning content.now) tables.now self.old session request.now) }
         ensures no_memory { takes_no_memory request.now ≡ true → IsOk result }
         ensures unchanged { OnErr result (self.new ≡ self.old) }
         ensures error_changes_nothing { IfOk result (λ reply. is_error reply ≡ true → self.new ≡ self.old) }
         ensures text_is_an_error { IfOk result (λ reply. holds_text reply ≡ true → is_error reply ≡ true) }
-        ensures committed { IfOk result (λ reply. is_commit request.now ≡ true → is_done reply ≡ true → self.new.stores.running ≡ candidate_of self.old.stores) }
-        ensures only_commits { IfOk result (λ reply. (is_commit request.now && is_done reply) ≡ false → self.new.stores.running ≡ self.old.stores.running) }
+        ensures moves { IfOk result (λ reply. Moves request.now reply self.old self.new) }
+        ensures clock { self.new.clock ≡ self.old.clock }
         ensures sound { IsSound (C.meaning content.now) self.new }
+    {
+        self.answer(content, tables, session, request)
+    }
+}
+
+impl<C: Content> Device<C> {
+    ghost use Rattle.nm_device.specs.Device.{Does, IsInTime, IsSound};
+    ghost use Rattle.nm_device.specs.Table.{device_step};
+
+    // One request, by its own function.
+    fn answer(
+        &mut self,
+        content: &C,
+        tables: &Tables<C>,
+        session: SessionId,
+        request: &Request,
+    ) -> Result<Reply, NoMemory>
+        requires sound { IsSound (C.meaning content.now) self.old }
+        requires edits_belong { All (C.meaning content.now).edit_belongs tables.now.edits }
+        requires in_time { IsInTime self.old.clock }
+        ensures stepped { Does result self.old self.new (device_step (C.meaning content.now) tables.now self.old session request.now) }
+        ensures no_memory { takes_no_memory request.now ≡ true → IsOk result }
+        ensures unchanged { OnErr result (self.new ≡ self.old) }
+        ensures error_changes_nothing { IfOk result (λ reply. is_error reply ≡ true → self.new ≡ self.old) }
+        ensures text_is_an_error { IfOk result (λ reply. holds_text reply ≡ true → is_error reply ≡ true) }
+        ensures clock { self.new.clock ≡ self.old.clock }
     {
         match request {
             Request::Lock { store } => Ok(self.lock(*store, session)),
             Request::Unlock { store } => Ok(self.unlock(*store, session)),
+            Request::PartialLock { select } => self.lock_part(content, tables, session, *select),
+            Request::PartialUnlock { id } => Ok(self.unlock_part(session, *id)),
             Request::Edit {
                 edit,
                 default_operation,
@@ -158,30 +203,17 @@ impl<C: Content> Device<C> {
                 persist,
                 persist_id,
             } => self.commit(content, session, *confirmed, *timeout, persist, persist_id),
+            Request::CancelCommit { persist_id } => Ok(self.cancel(content, session, persist_id)),
             Request::Discard => Ok(self.discard(session)),
             Request::HasMark { change } => Ok(Reply::Mark(content.has_mark(
                 self.stores.running(),
                 *change,
             ))),
             Request::GetConfig => Ok(Reply::Rows(content.rows(self.stores.running()))),
-            Request::CloseSession => Ok(self.close(session)),
-            Request::OpenSession { .. }
-            | Request::PartialLock { .. }
-            | Request::PartialUnlock { .. }
-            | Request::CancelCommit { .. }
-            | Request::Kill { .. } => Ok(refuse(Tag::OperationFailed)),
+            Request::Kill { session: other } => Ok(self.kill(content, session, *other)),
+            Request::CloseSession => Ok(self.close(content, session)),
+            Request::OpenSession { .. } => Ok(refuse(Tag::OperationFailed)),
         }
-    }
-
-    /// Loses an open session (RFC 6241 section 8.4.1), and tells whether that undid a pending commit.
-    pub fn lose(&mut self, session: SessionId) -> bool
-        requires open { is_open self.old.sessions session ≡ true }
-        ensures ended { self.new ≡ ended self.old session }
-        ensures undone { result ≡ false }
-        ensures running { self.new.stores.running ≡ self.old.stores.running }
-    {
-        self.end(session);
-        false
     }
 }
 

@@ -25,8 +25,7 @@ impl<C: Content> Device<C> {
         requires sound { IsSound (C.meaning content.now) self.old }
         requires edits_belong { All (C.meaning content.now).edit_belongs tables.now.edits }
         ensures stepped { Does result self.old self.new (edit_by (C.meaning content.now) tables.now self.old session number.0 default_operation marks) }
-        ensures sound { IsSound (C.meaning content.now) self.new }
-        ensures running { self.new.stores.running ≡ self.old.stores.running }
+        ensures clock { self.new.clock ≡ self.old.clock }
     {
         if self.is_held_by_other(Store::Candidate, session) {
             return Ok(refuse(Tag::InUse));
@@ -47,8 +46,7 @@ impl<C: Content> Device<C> {
         requires sound { IsSound (C.meaning content.now) self.old }
         requires edit_belongs { (C.meaning content.now).edit_belongs edit.now }
         ensures stepped { Does result self.old self.new (edit_gives self.old ((C.meaning content.now).edited (candidate_of self.old.stores) edit.now default_operation marks)) }
-        ensures sound { IsSound (C.meaning content.now) self.new }
-        ensures running { self.new.stores.running ≡ self.old.stores.running }
+        ensures clock { self.new.clock ≡ self.old.clock }
     {
         match self.stores.edit(content, edit, default_operation, marks) {
             Ok(()) => Ok(Reply::Done),

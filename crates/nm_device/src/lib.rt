@@ -1,22 +1,18 @@
-//! A device: sessions, global locks, running and candidate, and the pending confirmed commit.
+//! A device: sessions, global and partial locks, running and candidate, and the pending confirmed commit.
 //!
-//! Stands on `nm_sessions`, `nm_locks` and `nm_stores`, and is written once over every content. The layers above rely
-//! on each event as an equation between the device before and after it, and on its history: each reply is that of one
-//! device that does one thing after another, and running is valid and changes only by one commit whole.
+//! Stands on `nm_sessions`, `nm_locks`, `nm_partial`, `nm_pending` and `nm_stores`, and is written once over every content.
+//! The layers above rely on each request, loss, rise of the clock and restart as an equation between the device before
+//! and after it, and on running, which is valid and changes only by a commit answered Done or by its exact undoing.
 #![tactic(auto)]
 
+mod cancel;
 mod commit;
 pub mod device;
 mod edits;
-pub mod event;
-pub mod laws;
-pub mod pending;
-pub mod recorded;
+mod partials;
 mod sessions;
 #[cfg(test)]
 mod tests;
+mod undoing;
 
 pub use device::Device;
-pub use event::{DeviceEvent, Noted};
-pub use pending::Pending;
-pub use recorded::{Recorded, Told};

@@ -1,15 +1,16 @@
 ghost use Rattle.std.specs.Prelude.{◌≡◌, Some, None};
 
 use crate::device::{Device, refuse};
-use crate::pending::is_stranger;
 use nm_base::{SessionId, Tag};
+use nm_pending::is_stranger;
 use nm_proto::{Content, Reply, Store};
 
 // Sessions and their locks. No call takes memory.
 impl<C: Content> Device<C> {
     ghost use Rattle.nm_locks.specs.Locks.{owner_of};
+    ghost use Rattle.nm_partial.specs.Partial.{least_owner};
     ghost use Rattle.nm_device.specs.Device.{Answers, is_held_by_other, with_stores, done};
-    ghost use Rattle.nm_device.specs.Table.{locked, lock_running, lock_candidate, unlocked, stores_unlocked, with_lock, discard_by, ended};
+    ghost use Rattle.nm_device.specs.Table.{locked, lock_running, lock_candidate, unlocked, stores_unlocked, with_lock, discard_by};
 
     // Takes a global lock.
     pub(crate) fn lock(&mut self, store: Store, session: SessionId) -> Reply
@@ -22,10 +23,13 @@ impl<C: Content> Device<C> {
     }
 
     fn lock_running(&mut self, session: SessionId) -> Reply
-        ensures { Answers result self.new (lock_running self.old session (owner_of self.old.locks Store.Running)) }
+        ensures { Answers result self.new (lock_running self.old session (owner_of self.old.locks Store.Running) (least_owner self.old.partials)) }
     {
         if let Some(holder) = self.locks.owner(Store::Running) {
             return deny(holder.get());
+        }
+        if let Some(owner) = self.partials.least_owner() {
+            return deny(owner.get());
         }
         if is_stranger(&self.pending, session) {
             return deny(0);
@@ -92,29 +96,10 @@ impl<C: Content> Device<C> {
     {
         self.locks.is_owned_by_other(store, session)
     }
-
-    // Ends the asker's session.
-    pub(crate) fn close(&mut self, session: SessionId) -> Reply
-        ensures { Answers result self.new (done (ended self.old session)) }
-    {
-        self.end(session);
-        Reply::Done
-    }
-
-    // Ends a session: its locks go, and with that of candidate the changes.
-    pub(crate) fn end(&mut self, session: SessionId)
-        ensures { self.new ≡ ended self.old session }
-    {
-        if self.locks.is_owned_by(Store::Candidate, session) {
-            self.stores.discard();
-        }
-        self.locks.drop_session(session);
-        self.sessions.leave(session);
-    }
 }
 
 // A lock that is denied, with its holder, 0 where that is no session.
-fn deny(holder: u32) -> Reply
+pub(crate) fn deny(holder: u32) -> Reply
     ensures { result ≡ Reply.Error Tag.LockDenied (Some holder) None }
 {
     Reply::Error {

@@ -1,4 +1,6 @@
 pub mod Limits
+pub mod Arguments
 pub mod Requests
 pub mod Events
 pub mod Numbered
+pub mod Kept

@@ -18,3 +18,11 @@ event_limit = 100000
 -- the turns of one round
 abbrev pub turn_limit : ℕ
 turn_limit = 1000
+
+-- the texts of one selection
+abbrev pub select_limit : ℕ
+select_limit = 64
+
+-- the bytes of a token
+abbrev pub token_limit : ℕ
+token_limit = 64

@@ -1,76 +1,85 @@
-ghost use Rattle.std.specs.Prelude.{◌≡◌, ◌-◌, ◌≤◌, ◌<◌, ◌^◌, ℕ, IfOk, Option, nat_lt, [], length, min, slice_get};
-ghost use Rattle.serde_json.specs.View.{view, items_view};
-ghost use Rattle.nm_reading.specs.Reading.{Gives};
-ghost use Rattle.serde_json.specs.Find.{at};
-ghost use Rattle.nm_reading.specs.Words.{argument, item_count, is_word, natural_in};
-ghost use Rattle.nm_events.specs.Limits.{change_limit, device_limit, event_limit, operator_limit};
-ghost use Rattle.nm_events.specs.Events.{is_within, is_unbuilt, other_event_at, submit_at, turn_at, deliver_at, answer_at, round_at, user_named, asked_at, asks_unbuilt, foreign_at, leave_at, by_word, event_at, round_turns, elementary, elementary_total, events_within, events_at};
+//! Events: one method for each line of the table, and a reader that picks one by the event's word.
 
+ghost use Rattle.std.specs.Prelude.{◌≡◌};
+ghost use Rattle.serde_json.specs.View.{view};
+ghost use Rattle.nm_reading.specs.Reading.{Gives};
+ghost use Rattle.nm_reading.specs.Words.{item_count, is_word, natural_in};
+ghost use Rattle.nm_form.specs.Form.{◌▹◌, arguments, done};
+ghost use Rattle.nm_form.specs.Read.{read};
+ghost use Rattle.nm_events.specs.Arguments.{change, device, operator, short, turns};
+ghost use Rattle.nm_events.specs.Requests.{request_form};
+ghost use Rattle.nm_events.specs.Events.{elementary_form, event_form, event_weight, events_form, is_right_round, is_within, without_changes};
+ghost use Rattle.nm_events.specs.declared.event.ReadEvent.TheVariants.{Other, Asked};
+ghost use Rattle.nm_proto.specs.declared.plan.Event.TheVariants as event;
+
+use crate::arguments::{Change, Counts, Device, Operator, Short, Turns};
 use crate::event::ReadEvent;
-use crate::limits::{CHANGE_LIMIT, DEVICE_LIMIT, EVENT_LIMIT, OPERATOR_LIMIT, TURN_LIMIT};
-use crate::requests::{RequestOf, is_unbuilt_request};
-use nm_base::{ChangeNo, DeviceNo, Label};
+use crate::limits::{CHANGE_LIMIT, EVENT_LIMIT, TURN_LIMIT};
+use crate::requests::Requests;
+use nm_form::{ItemReader, Reader, Weigh, argument, no_word, read_weighed, takes};
 use nm_proto::{Event, Listed};
-use nm_reading::reader::{ItemReader, Reader, fault_at, fault_here, read_items};
-use nm_reading::words::{
-    argument, counted, is_word, item_count, natural_in, read_begun, read_part,
-};
-use nm_reading::{ReadError, ScenarioKind, Step};
+use nm_reading::reader::fault_here;
+use nm_reading::words::{is_word, item_count, natural_in};
+use nm_reading::{ReadError, ScenarioKind};
 use serde_json::Value;
 use std::alloc::Global;
 
-/// An element of the member `events`, in a scenario of so many change sets and devices and of these operators, whose edits
-/// are read so.
+/// The events of a scenario with so many change sets, devices and operators, whose edits are read so.
 #[derive(Drop)]
-struct EventOf<'a, R> {
-    changes: usize,
-    devices: usize,
-    operators: &'a Listed<Label>,
-    edits: &'a R,
+pub struct Events<'a, R> {
+    pub counts: &'a Counts,
+    pub edits: &'a R,
 }
 
-impl<'a, R: Reader> EventOf<'a, R> {
-    // The change set that an event names in the first place after its word.
-    fn change(&self, alloc: Global, whole: &Value) -> Result<ChangeNo, ReadError>
-        ensures { Gives result (argument 1 1 (min self.now.changes change_limit) (view whole.now)) }
+impl<'a, R: Reader> Events<'a, R> {
+    fn change(&self) -> Change<'a>
+        ensures { result.counts.now ≡ self.now.counts.now }
     {
-        let number = argument(alloc, whole, 1, 1, self.changes.min(CHANGE_LIMIT) as u64)?;
-        Ok(ChangeNo::new(number as u32).unwrap())
+        Change {
+            counts: self.counts,
+        }
     }
 
-    fn device(&self, alloc: Global, whole: &Value) -> Result<DeviceNo, ReadError>
-        ensures { Gives result (argument 2 1 (min self.now.devices device_limit) (view whole.now)) }
+    fn device(&self) -> Device<'a>
+        ensures { result.counts.now ≡ self.now.counts.now }
     {
-        let number = argument(alloc, whole, 2, 1, self.devices.min(DEVICE_LIMIT) as u64)?;
-        Ok(DeviceNo::new(number as u8).unwrap())
+        Device {
+            counts: self.counts,
+        }
     }
 
-    #[tactic(auto, unfolding(crate::specs::Events::submit_at))]
-    fn submit(&self, alloc: Global, whole: &Value) -> Result<ReadEvent<R::Out>, ReadError>
-        ensures { Gives result (submit_at self.now.changes (view whole.now)) }
+    fn operator(&self) -> Operator<'a>
+        ensures { result.counts.now ≡ self.now.counts.now }
     {
-        counted(alloc, whole, 2)?;
-        let change = self.change(alloc, whole)?;
+        Operator {
+            counts: self.counts,
+        }
+    }
+
+    fn submit(&self, alloc: Global, part: &Value) -> Result<ReadEvent<R::Out>, ReadError>
+        ensures { Gives result (read (arguments 1 (change self.now.counts.now ▹ done) (λ change. Other (event.Submit change))) (view part.now)) }
+    {
+        takes(alloc, part, 2, 2)?;
+        let change = argument(alloc, part, 1, &self.change())?;
         Ok(ReadEvent::Other(Event::Submit { change }))
     }
 
-    #[tactic(auto, unfolding(crate::specs::Events::turn_at))]
-    fn turn(&self, alloc: Global, whole: &Value) -> Result<ReadEvent<R::Out>, ReadError>
-        ensures { Gives result (turn_at self.now.changes (view whole.now)) }
+    fn turn(&self, alloc: Global, part: &Value) -> Result<ReadEvent<R::Out>, ReadError>
+        ensures { Gives result (read (arguments 1 (change self.now.counts.now ▹ done) (λ change. Other (event.Turn change))) (view part.now)) }
     {
-        counted(alloc, whole, 2)?;
-        let change = self.change(alloc, whole)?;
+        takes(alloc, part, 2, 2)?;
+        let change = argument(alloc, part, 1, &self.change())?;
         Ok(ReadEvent::Other(Event::Turn { change }))
     }
 
-    #[tactic(auto, unfolding(crate::specs::Events::deliver_at))]
-    fn deliver(&self, alloc: Global, whole: &Value) -> Result<ReadEvent<R::Out>, ReadError>
-        ensures { Gives result (deliver_at self.now.changes self.now.devices (view whole.now)) }
+    fn deliver(&self, alloc: Global, part: &Value) -> Result<ReadEvent<R::Out>, ReadError>
+        ensures { Gives result (read (arguments 1 (change self.now.counts.now ▹ device self.now.counts.now ▹ short ▹ done)
+            (λ change device link. Other (event.Deliver change device link))) (view part.now)) }
     {
-        counted(alloc, whole, 4)?;
-        let change = self.change(alloc, whole)?;
-        let device = self.device(alloc, whole)?;
-        let link = argument(alloc, whole, 3, 0, u64::from(u32::MAX))? as u32;
+        takes(alloc, part, 4, 4)?;
+        let change = argument(alloc, part, 1, &self.change())?;
+        let device = argument(alloc, part, 2, &self.device())?;
+        let link = argument(alloc, part, 3, &Short)?;
         Ok(ReadEvent::Other(Event::Deliver {
             change,
             device,
@@ -78,15 +87,15 @@ impl<'a, R: Reader> EventOf<'a, R> {
         }))
     }
 
-    #[tactic(auto, unfolding(crate::specs::Events::answer_at))]
-    fn answer(&self, alloc: Global, whole: &Value) -> Result<ReadEvent<R::Out>, ReadError>
-        ensures { Gives result (answer_at self.now.changes self.now.devices (view whole.now)) }
+    fn answer(&self, alloc: Global, part: &Value) -> Result<ReadEvent<R::Out>, ReadError>
+        ensures { Gives result (read (arguments 1 (change self.now.counts.now ▹ device self.now.counts.now ▹ short ▹ short ▹ done)
+            (λ change device link number. Other (event.Answer change device link number))) (view part.now)) }
     {
-        counted(alloc, whole, 5)?;
-        let change = self.change(alloc, whole)?;
-        let device = self.device(alloc, whole)?;
-        let link = argument(alloc, whole, 3, 0, u64::from(u32::MAX))? as u32;
-        let number = argument(alloc, whole, 4, 0, u64::from(u32::MAX))? as u32;
+        takes(alloc, part, 5, 5)?;
+        let change = argument(alloc, part, 1, &self.change())?;
+        let device = argument(alloc, part, 2, &self.device())?;
+        let link = argument(alloc, part, 3, &Short)?;
+        let number = argument(alloc, part, 4, &Short)?;
         Ok(ReadEvent::Other(Event::Answer {
             change,
             device,
@@ -95,48 +104,39 @@ impl<'a, R: Reader> EventOf<'a, R> {
         }))
     }
 
-    #[tactic(auto, unfolding(crate::specs::Events::round_at))]
-    fn round(&self, alloc: Global, whole: &Value) -> Result<ReadEvent<R::Out>, ReadError>
-        ensures { Gives result (round_at self.now.changes (view whole.now)) }
+    fn advance(&self, alloc: Global, part: &Value) -> Result<ReadEvent<R::Out>, ReadError>
+        ensures { Gives result (read (without_changes self.now.counts.now (arguments 1 (device self.now.counts.now ▹ short ▹ done)
+            (λ device seconds. Other (event.Advance device seconds)))) (view part.now)) }
     {
-        counted(alloc, whole, 3)?;
-        let change = self.change(alloc, whole)?;
-        let turns = argument(alloc, whole, 2, 1, TURN_LIMIT)? as u32;
-        Ok(ReadEvent::Other(Event::Round { change, turns }))
-    }
-
-    fn operator(&self, alloc: Global, whole: &Value) -> Result<u32, ReadError>
-        ensures value { Gives result (argument 1 1 (min (length self.now.operators.now) operator_limit) (view whole.now)) }
-        ensures from_one { IfOk result (λ n. 1 ≤ n) }
-    {
-        let last = self.operators.len().min(OPERATOR_LIMIT) as u64;
-        Ok(argument(alloc, whole, 1, 1, last)? as u32)
-    }
-
-    // The name of an operator.
-    fn user(&self, alloc: Global, operator: u32) -> Result<Label, ReadError>
-        requires { 1 ≤ operator }
-        ensures { Gives result (user_named (slice_get self.now.operators.now (operator - 1))) }
-    {
-        match self.operators.get(operator as usize - 1) {
-            None => fault_at(alloc, ScenarioKind::BadValue, Step::Item(1)),
-            Some(user) => Ok(user.copy()?),
+        if self.counts.changes > 0 {
+            return fault_here(alloc, ScenarioKind::NotBuilt);
         }
+        takes(alloc, part, 3, 3)?;
+        let device = argument(alloc, part, 1, &self.device())?;
+        let seconds = argument(alloc, part, 2, &Short)?;
+        Ok(ReadEvent::Other(Event::Advance { device, seconds }))
     }
 
-    #[tactic(auto, unfolding(crate::specs::Events::asked_at))]
-    fn asked(&self, alloc: Global, whole: &Value) -> Result<ReadEvent<R::Out>, ReadError>
-        ensures { Gives result (asked_at (R.reads self.now.edits.now) self.now.operators.now self.now.devices (view whole.now)) }
+    fn restart(&self, alloc: Global, part: &Value) -> Result<ReadEvent<R::Out>, ReadError>
+        ensures { Gives result (read (without_changes self.now.counts.now (arguments 1 (device self.now.counts.now ▹ done)
+            (λ device. Other (event.Restart device)))) (view part.now)) }
     {
-        counted(alloc, whole, 4)?;
-        let operator = self.operator(alloc, whole)?;
-        let device = self.device(alloc, whole)?;
-        let user = self.user(alloc, operator)?;
-        let request = RequestOf {
-            user: &user,
-            edits: self.edits,
-        };
-        let request = read_part(alloc, whole, 3, &request)?;
+        if self.counts.changes > 0 {
+            return fault_here(alloc, ScenarioKind::NotBuilt);
+        }
+        takes(alloc, part, 2, 2)?;
+        let device = argument(alloc, part, 1, &self.device())?;
+        Ok(ReadEvent::Other(Event::Restart { device }))
+    }
+
+    fn foreign(&self, alloc: Global, part: &Value) -> Result<ReadEvent<R::Out>, ReadError>
+        ensures { Gives result (read (arguments 1 (operator self.now.counts.now ▹ device self.now.counts.now
+            ▹ request_form (R.form self.now.edits.now) ▹ done) Asked) (view part.now)) }
+    {
+        takes(alloc, part, 4, 4)?;
+        let operator = argument(alloc, part, 1, &self.operator())?;
+        let device = argument(alloc, part, 2, &self.device())?;
+        let request = argument(alloc, part, 3, &Requests { edits: self.edits })?;
         Ok(ReadEvent::Asked {
             operator,
             device,
@@ -144,101 +144,90 @@ impl<'a, R: Reader> EventOf<'a, R> {
         })
     }
 
-    #[tactic(auto, unfolding(crate::specs::Events::foreign_at))]
-    fn foreign(&self, alloc: Global, whole: &Value) -> Result<ReadEvent<R::Out>, ReadError>
-        ensures { Gives result (foreign_at (R.reads self.now.edits.now) self.now.operators.now self.now.devices (view whole.now)) }
+    fn leave(&self, alloc: Global, part: &Value) -> Result<ReadEvent<R::Out>, ReadError>
+        ensures { Gives result (read (arguments 1 (operator self.now.counts.now ▹ device self.now.counts.now ▹ done)
+            (λ operator device. Other (event.Leave operator device))) (view part.now)) }
     {
-        if asks_unbuilt(whole) {
-            return fault_here(alloc, ScenarioKind::NotBuilt);
-        }
-        self.asked(alloc, whole)
-    }
-
-    #[tactic(auto, unfolding(crate::specs::Events::leave_at))]
-    fn leave(&self, alloc: Global, whole: &Value) -> Result<ReadEvent<R::Out>, ReadError>
-        ensures { Gives result (leave_at self.now.operators.now self.now.devices (view whole.now)) }
-    {
-        counted(alloc, whole, 3)?;
-        let operator = self.operator(alloc, whole)?;
-        let device = self.device(alloc, whole)?;
+        takes(alloc, part, 3, 3)?;
+        let operator = argument(alloc, part, 1, &self.operator())?;
+        let device = argument(alloc, part, 2, &self.device())?;
         Ok(ReadEvent::Other(Event::Leave { operator, device }))
     }
 
-    #[tactic(auto, unfolding(crate::specs::Events::by_word))]
-    fn by_word(&self, alloc: Global, whole: &Value) -> Result<ReadEvent<R::Out>, ReadError>
-        ensures { Gives result (by_word (R.reads self.now.edits.now) self.now.changes self.now.devices self.now.operators.now (view whole.now)) }
+    fn round(&self, alloc: Global, part: &Value) -> Result<ReadEvent<R::Out>, ReadError>
+        ensures { Gives result (read (arguments 1 (change self.now.counts.now ▹ turns ▹ done)
+            (λ change turns. Other (event.Round change turns))) (view part.now)) }
     {
-        if is_word(whole, "submit") {
-            return self.submit(alloc, whole);
+        takes(alloc, part, 3, 3)?;
+        let change = argument(alloc, part, 1, &self.change())?;
+        let turns = argument(alloc, part, 2, &Turns)?;
+        Ok(ReadEvent::Other(Event::Round { change, turns }))
+    }
+
+    #[tactic(auto, unfolding(crate::specs::Events::elementary_form))]
+    fn elementary(&self, alloc: Global, part: &Value) -> Result<ReadEvent<R::Out>, ReadError>
+        ensures { Gives result (read (elementary_form (R.form self.now.edits.now) self.now.counts.now) (view part.now)) }
+    {
+        if is_word(part, "submit") {
+            return self.submit(alloc, part);
         }
-        if is_word(whole, "turn") {
-            return self.turn(alloc, whole);
+        if is_word(part, "turn") {
+            return self.turn(alloc, part);
         }
-        if is_word(whole, "deliver") {
-            return self.deliver(alloc, whole);
+        if is_word(part, "deliver") {
+            return self.deliver(alloc, part);
         }
-        if is_word(whole, "answer") {
-            return self.answer(alloc, whole);
+        if is_word(part, "answer") {
+            return self.answer(alloc, part);
         }
-        if is_word(whole, "foreign") {
-            return self.foreign(alloc, whole);
+        if is_word(part, "break") {
+            return fault_here(alloc, ScenarioKind::NotBuilt);
         }
-        if is_word(whole, "leave") {
-            return self.leave(alloc, whole);
+        if is_word(part, "lose") {
+            return fault_here(alloc, ScenarioKind::NotBuilt);
         }
-        if is_word(whole, "round") {
-            return self.round(alloc, whole);
+        if is_word(part, "advance") {
+            return self.advance(alloc, part);
         }
-        other_event(alloc, whole)
+        if is_word(part, "restart") {
+            return self.restart(alloc, part);
+        }
+        if is_word(part, "forget") {
+            return fault_here(alloc, ScenarioKind::NotBuilt);
+        }
+        if is_word(part, "crash") {
+            return fault_here(alloc, ScenarioKind::NotBuilt);
+        }
+        if is_word(part, "foreign") {
+            return self.foreign(alloc, part);
+        }
+        if is_word(part, "leave") {
+            return self.leave(alloc, part);
+        }
+        if is_word(part, "renew") {
+            return fault_here(alloc, ScenarioKind::NotBuilt);
+        }
+        no_word(alloc, part)
     }
 }
 
-#[tactic(auto, unfolding(crate::specs::Events::other_event_at))]
-fn other_event<E>(alloc: Global, whole: &Value) -> Result<ReadEvent<E>, ReadError>
-    ensures { Gives result (other_event_at (view whole.now)) }
-{
-    if is_unbuilt(whole) {
-        return fault_here(alloc, ScenarioKind::NotBuilt);
-    }
-    fault_at(alloc, ScenarioKind::BadValue, Step::Item(0))
-}
-
-// Whether the word is of an event that isn't built.
-fn is_unbuilt(whole: &Value) -> bool
-    ensures { result ≡ is_unbuilt (view whole.now) }
-{
-    is_word(whole, "break")
-        || is_word(whole, "lose")
-        || is_word(whole, "advance")
-        || is_word(whole, "restart")
-        || is_word(whole, "forget")
-        || is_word(whole, "crash")
-}
-
-// Whether the request of an operator's event isn't built.
-fn asks_unbuilt(whole: &Value) -> bool
-    ensures { result ≡ asks_unbuilt (at 3 (view whole.now)) }
-{
-    match whole.get(3) {
-        None => false,
-        Some(request) => is_unbuilt_request(request),
-    }
-}
-
-impl<'a, R: Reader> ItemReader for EventOf<'a, R> {
+impl<'a, R: Reader> ItemReader for Events<'a, R> {
     type Out = ReadEvent<R::Out>;
 
-    ghost reads = { λ r. event_at (R.reads r.edits.now) r.changes r.devices r.operators.now };
+    ghost form = { λ r _ _. event_form (R.form r.edits.now) r.counts.now };
 
-    #[tactic(auto, unfolding(crate::specs::Events::event_at))]
+    #[tactic(auto, unfolding(crate::specs::Events::event_form))]
     fn read(
         &self,
         alloc: Global,
-        _before: &Listed<ReadEvent<R::Out>>,
+        _whole: &Value,
+        _place: usize,
         part: &Value,
     ) -> Result<ReadEvent<R::Out>, ReadError> {
-        read_begun(alloc, part)?;
-        self.by_word(alloc, part)
+        if is_word(part, "round") {
+            return self.round(alloc, part);
+        }
+        self.elementary(alloc, part)
     }
 }
 
@@ -251,83 +240,48 @@ fn is_within(number: Option<u64>, low: u64, high: u64) -> bool
     }
 }
 
-// The turns of a well-formed round.
-fn round_turns(whole: &Value, changes: u64) -> Option<u64>
-    ensures { result ≡ round_turns changes (view whole.now) }
+// Whether a round's numbers are right.
+fn is_right_round(part: &Value, counts: &Counts) -> bool
+    ensures { result ≡ is_right_round counts.now (view part.now) }
 {
-    if is_word(whole, "round")
-        && item_count(whole) == 3
-        && is_within(natural_in(whole, 1), 1, changes)
-        && is_within(natural_in(whole, 2), 1, TURN_LIMIT)
-    {
-        return natural_in(whole, 2);
-    }
-    None
+    let last = counts.changes.min(CHANGE_LIMIT) as u64;
+    is_word(part, "round")
+        && item_count(part) == 3
+        && is_within(natural_in(part, 1), 1, last)
+        && is_within(natural_in(part, 2), 1, TURN_LIMIT)
 }
 
-// How many elementary events an element stands for.
-#[tactic(auto, unfolding(crate::specs::Events::elementary))]
-fn elementary(whole: &Value, changes: u64) -> u64
-    ensures value { result ≡ elementary changes (view whole.now) }
-    ensures small { result ≤ 3000 }
-{
-    match round_turns(whole, changes) {
-        Some(turns) if turns <= TURN_LIMIT => 3 * turns,
-        Some(_) => unreachable!(),
-        None => 1,
-    }
+// How many elementary events the elements stand for.
+#[derive(Drop)]
+struct Weights<'a> {
+    counts: &'a Counts,
 }
 
-// Whether the elements stand for more elementary events than may be.
-fn are_too_many(items: &[Value], changes: u64) -> bool
-    ensures { result ≡ nat_lt event_limit (elementary_total changes (items_view items.now)) }
-{
-    let mut total = 0u64;
-    for item in items {
-        total += elementary(item, changes);
-        if total > EVENT_LIMIT {
-            return true;
+impl<'a> Weigh for Weights<'a> {
+    ghost weight = { λ r. event_weight r.counts.now };
+
+    #[tactic(auto, unfolding(crate::specs::Events::event_weight))]
+    fn weight(&self, part: &Value) -> u64 {
+        if !is_right_round(part, self.counts) {
+            return 1;
+        }
+        match natural_in(part, 2) {
+            Some(turns) if turns <= TURN_LIMIT => 3 * turns,
+            _ => unreachable!(),
         }
     }
-    false
-}
-
-/// The member `events`, in a scenario of so many change sets and devices and of these operators, whose edits are read so.
-#[derive(Drop)]
-pub struct Events<'a, R> {
-    pub changes: usize,
-    pub devices: usize,
-    pub operators: &'a Listed<Label>,
-    pub edits: &'a R,
 }
 
 impl<'a, R: Reader> Reader for Events<'a, R> {
     type Out = Listed<ReadEvent<R::Out>>;
 
-    ghost reads = { λ r. events_at (R.reads r.edits.now) r.changes r.devices r.operators.now };
+    ghost form = { λ r. events_form (R.form r.edits.now) r.counts.now };
 
-    #[tactic(auto, unfolding(crate::specs::Events::events_at))]
+    #[tactic(auto, unfolding(crate::specs::Events::events_form))]
     fn read(&self, alloc: Global, part: &Value) -> Result<Listed<ReadEvent<R::Out>>, ReadError> {
-        match part.as_array() {
-            None => fault_here(alloc, ScenarioKind::BadValue),
-            Some(items) => self.within(alloc, items.as_slice()),
-        }
-    }
-}
-
-impl<'a, R: Reader> Events<'a, R> {
-    fn within(&self, alloc: Global, items: &[Value]) -> Result<Listed<ReadEvent<R::Out>>, ReadError>
-        ensures { Gives result (events_within (R.reads self.now.edits.now) self.now.changes self.now.devices self.now.operators.now (items_view items.now)) }
-    {
-        if are_too_many(items, self.changes as u64) {
-            return fault_here(alloc, ScenarioKind::TooMany);
-        }
-        let event = EventOf {
-            changes: self.changes,
-            devices: self.devices,
-            operators: self.operators,
-            edits: self.edits,
+        let scale = Weights {
+            counts: self.counts,
         };
-        read_items(alloc, items, &event)
+        read_weighed(alloc, part, 0, EVENT_LIMIT, &scale, self)
     }
 }

@@ -14,3 +14,9 @@ pub const EVENT_LIMIT: u64 = 100_000;
 
 /// How many turns one round may have.
 pub const TURN_LIMIT: u64 = 1_000;
+
+/// How many texts one selection may have: as many as a device may have partial locks.
+pub const SELECT_LIMIT: usize = 64;
+
+/// How many bytes a token may have.
+pub const TOKEN_LIMIT: usize = 64;

@@ -1,96 +1,92 @@
+//! Requests: one method for each line of the table, and a reader that picks one by the request's word.
+
 ghost use Rattle.std.specs.Prelude.{◌≡◌};
 ghost use Rattle.serde_json.specs.View.{view};
-ghost use Rattle.serde_json.specs.Find.{at};
+ghost use Rattle.nm_proto.specs.Message.{word_text};
 ghost use Rattle.nm_reading.specs.Reading.{Gives};
-ghost use Rattle.nm_events.specs.Limits.{change_limit};
-ghost use Rattle.nm_events.specs.Requests.{asks, store_at, alone, lock_at, unlock_at, knows_asked_edit, asked_edit_at, edit_request_at, has_mark_at, plain_commit, commit_at, request_by_word, request_at, is_object, is_unbuilt_request};
+ghost use Rattle.nm_reading.specs.Words.{is_word};
+ghost use Rattle.nm_form.specs.Form.{◌▹◌, arguments, done, knows, not_built, or_else as or_else_form};
+ghost use Rattle.nm_form.specs.Read.{read};
+ghost use Rattle.nm_events.specs.Arguments.{mark, short, store};
+ghost use Rattle.nm_events.specs.Requests.{any_text, asked_edit, asked_edit_parts, cancel_form, cancel_parts, commit_form, commit_parts, plain_cancel, plain_commit, request_form, seconds, selection, token};
+ghost use Rattle.nm_events.specs.declared.event.ReadRequest.TheVariants.{Open, Known, WithSelect};
+ghost use Rattle.nm_proto.specs.declared.message.Request.TheVariants as request;
+ghost use Rattle.nm_proto.specs.declared.message.RequestWord.TheVariants as word;
 
+use crate::arguments::{AnyChange, Operation, Short, StoreName};
 use crate::event::ReadRequest;
-use crate::limits::CHANGE_LIMIT;
-use crate::operation::Operation;
-use nm_base::{ChangeNo, Label};
-use nm_proto::{DefaultOperation, Request, RequestWord, Store};
-use nm_reading::reader::{
-    Names, Reader, fault_at, fault_here, optional_member, read_object, read_only_known,
-    required_member,
+use crate::limits::{SELECT_LIMIT, TOKEN_LIMIT};
+use nm_base::Label;
+use nm_form::{
+    ItemReader, Reader, Switch, Text, argument, no_other_names, no_word, optional, or_else,
+    read_list, read_object, required, takes,
 };
-use nm_reading::words::{argument, counted, is_word, item_count, read_begun, read_part};
-use nm_reading::{ReadError, ScenarioKind, Step};
+use nm_proto::{DefaultOperation, Listed, Request, RequestWord};
+use nm_reading::ReadError;
+use nm_reading::reader::Names;
+use nm_reading::words::is_word;
 use serde_json::Value;
 use std::alloc::Global;
 
-/// The name of a datastore.
-#[derive(Drop)]
-struct StoreName;
-
-impl Reader for StoreName {
-    type Out = Store;
-
-    ghost reads = { λ _. store_at };
-
-    #[tactic(auto, unfolding(crate::specs::Requests::store_at))]
-    fn read(&self, alloc: Global, part: &Value) -> Result<Store, ReadError> {
-        match part.as_str() {
-            None => fault_here(alloc, ScenarioKind::BadValue),
-            Some(word) => {
-                if word == "running" {
-                    Ok(Store::Running)
-                } else if word == "candidate" {
-                    Ok(Store::Candidate)
-                } else {
-                    fault_here(alloc, ScenarioKind::BadValue)
-                }
-            }
-        }
-    }
-}
-
 // Whether a request begins with this word.
 fn asks(whole: &Value, word: RequestWord) -> bool
-    ensures { result ≡ asks word (view whole.now) }
+    ensures { result ≡ is_word (view whole.now) (word_text word) }
 {
     is_word(whole, word.text())
 }
 
-// A request that is its word alone.
-#[tactic(auto, unfolding(crate::specs::Requests::alone))]
-fn alone<E>(alloc: Global, whole: &Value, request: Request) -> Result<ReadRequest<E>, ReadError>
-    ensures { Gives result (alone request (view whole.now)) }
+// A session of the operator's user.
+fn open<E>(alloc: Global, whole: &Value) -> Result<ReadRequest<E>, ReadError>
+    ensures { Gives result (read (arguments 1 done Open) (view whole.now)) }
 {
-    counted(alloc, whole, 1)?;
+    takes(alloc, whole, 1, 1)?;
+    Ok(ReadRequest::Open)
+}
+
+// A request that is its word alone.
+fn alone<E>(alloc: Global, whole: &Value, request: Request) -> Result<ReadRequest<E>, ReadError>
+    ensures { Gives result (read (arguments 1 done (Known request)) (view whole.now)) }
+{
+    takes(alloc, whole, 1, 1)?;
     Ok(ReadRequest::Known(request))
 }
 
-#[tactic(auto, unfolding(crate::specs::Requests::lock_at))]
 fn lock<E>(alloc: Global, whole: &Value) -> Result<ReadRequest<E>, ReadError>
-    ensures { Gives result (lock_at (view whole.now)) }
+    ensures { Gives result (read (arguments 1 (store ▹ done) (λ store. Known (request.Lock store))) (view whole.now)) }
 {
-    counted(alloc, whole, 2)?;
-    let store = read_part(alloc, whole, 1, &StoreName)?;
+    takes(alloc, whole, 2, 2)?;
+    let store = argument(alloc, whole, 1, &StoreName)?;
     Ok(ReadRequest::Known(Request::Lock { store }))
 }
 
-#[tactic(auto, unfolding(crate::specs::Requests::unlock_at))]
 fn unlock<E>(alloc: Global, whole: &Value) -> Result<ReadRequest<E>, ReadError>
-    ensures { Gives result (unlock_at (view whole.now)) }
+    ensures { Gives result (read (arguments 1 (store ▹ done) (λ store. Known (request.Unlock store))) (view whole.now)) }
 {
-    counted(alloc, whole, 2)?;
-    let store = read_part(alloc, whole, 1, &StoreName)?;
+    takes(alloc, whole, 2, 2)?;
+    let store = argument(alloc, whole, 1, &StoreName)?;
     Ok(ReadRequest::Known(Request::Unlock { store }))
+}
+
+fn has_mark<E>(alloc: Global, whole: &Value) -> Result<ReadRequest<E>, ReadError>
+    ensures { Gives result (read (arguments 1 (mark ▹ done) (λ change. Known (request.HasMark change))) (view whole.now)) }
+{
+    takes(alloc, whole, 2, 2)?;
+    let change = argument(alloc, whole, 1, &AnyChange)?;
+    Ok(ReadRequest::Known(Request::HasMark { change }))
 }
 
 #[derive(Drop)]
 struct EditNames;
 
 impl Names for EditNames {
-    ghost knows = { λ _. knows_asked_edit };
+    ghost knows = { λ _. knows (asked_edit_parts {E = Unit {0}} not_built) };
 
     fn knows(&self, name: &str) -> bool {
         name == "default" || name == "edit"
     }
 }
 
-/// The argument of the request `edit`.
+// The argument of the request `edit`.
 #[derive(Drop)]
 struct AskedEdit<'a, R> {
     edits: &'a R,
@@ -99,20 +95,14 @@ struct AskedEdit<'a, R> {
 impl<'a, R: Reader> Reader for AskedEdit<'a, R> {
     type Out = ReadRequest<R::Out>;
 
-    ghost reads = { λ r. asked_edit_at (R.reads r.edits.now) };
+    ghost form = { λ r. asked_edit (R.form r.edits.now) };
 
-    #[tactic(auto, unfolding(crate::specs::Requests::asked_edit_at))]
     fn read(&self, alloc: Global, part: &Value) -> Result<ReadRequest<R::Out>, ReadError> {
+        let merge = DefaultOperation::Merge;
         read_object(alloc, part)?;
-        let default_operation = optional_member(
-            alloc,
-            part,
-            "default",
-            DefaultOperation::Merge,
-            &Operation,
-        )?;
-        let edit = required_member(alloc, part, "edit", self.edits)?;
-        read_only_known(alloc, part, &EditNames)?;
+        let default_operation = optional(alloc, part, "default", merge, &Operation)?;
+        let edit = required(alloc, part, "edit", self.edits)?;
+        no_other_names(alloc, part, &EditNames)?;
         Ok(ReadRequest::WithEdit {
             default_operation,
             edit,
@@ -120,14 +110,111 @@ impl<'a, R: Reader> Reader for AskedEdit<'a, R> {
     }
 }
 
-#[tactic(auto, unfolding(crate::specs::Requests::has_mark_at))]
-fn has_mark<E>(alloc: Global, whole: &Value) -> Result<ReadRequest<E>, ReadError>
-    ensures { Gives result (has_mark_at (view whole.now)) }
-{
-    counted(alloc, whole, 2)?;
-    let number = argument(alloc, whole, 1, 1, CHANGE_LIMIT as u64)?;
-    let change = ChangeNo::new(number as u32).unwrap();
-    Ok(ReadRequest::Known(Request::HasMark { change }))
+// The texts of a selection.
+#[derive(Drop)]
+struct Texts;
+
+impl ItemReader for Texts {
+    type Out = Label;
+
+    ghost form = { λ _ _ _. any_text };
+
+    fn read(
+        &self,
+        alloc: Global,
+        _whole: &Value,
+        _place: usize,
+        part: &Value,
+    ) -> Result<Label, ReadError> {
+        let any = Text {
+            low: 0,
+            high: usize::MAX,
+        };
+        any.read(alloc, part)
+    }
+}
+
+// The nodes that a partial lock selects.
+#[derive(Drop)]
+struct Selection;
+
+impl Reader for Selection {
+    type Out = Listed<Label>;
+
+    ghost form = { λ _. selection };
+
+    #[tactic(auto, unfolding(crate::specs::Requests::selection))]
+    fn read(&self, alloc: Global, part: &Value) -> Result<Listed<Label>, ReadError> {
+        read_list(alloc, part, 0, SELECT_LIMIT, &Texts)
+    }
+}
+
+// A token of a pending commit.
+#[derive(Drop)]
+struct Token;
+
+impl Reader for Token {
+    type Out = Option<Label>;
+
+    ghost form = { λ _. token };
+
+    fn read(&self, alloc: Global, part: &Value) -> Result<Option<Label>, ReadError> {
+        let token = Text {
+            low: 1,
+            high: TOKEN_LIMIT,
+        };
+        Ok(Some(token.read(alloc, part)?))
+    }
+}
+
+// A time to wait.
+#[derive(Drop)]
+struct Seconds;
+
+impl Reader for Seconds {
+    type Out = Option<u32>;
+
+    ghost form = { λ _. seconds };
+
+    fn read(&self, alloc: Global, part: &Value) -> Result<Option<u32>, ReadError> {
+        Ok(Some(Short.read(alloc, part)?))
+    }
+}
+
+#[derive(Drop)]
+struct CommitNames;
+
+impl Names for CommitNames {
+    ghost knows = { λ _. knows commit_parts };
+
+    fn knows(&self, name: &str) -> bool {
+        name == "confirmed" || name == "timeout" || name == "persist" || name == "persist-id"
+    }
+}
+
+// The argument of a commit.
+#[derive(Drop)]
+struct AskedCommit;
+
+impl Reader for AskedCommit {
+    type Out = Request;
+
+    ghost form = { λ _. commit_form };
+
+    fn read(&self, alloc: Global, part: &Value) -> Result<Request, ReadError> {
+        read_object(alloc, part)?;
+        let confirmed = optional(alloc, part, "confirmed", false, &Switch)?;
+        let timeout = optional(alloc, part, "timeout", None, &Seconds)?;
+        let persist = optional(alloc, part, "persist", None, &Token)?;
+        let persist_id = optional(alloc, part, "persist-id", None, &Token)?;
+        no_other_names(alloc, part, &CommitNames)?;
+        Ok(Request::Commit {
+            confirmed,
+            timeout,
+            persist,
+            persist_id,
+        })
+    }
 }
 
 // A commit that isn't confirmed.
@@ -142,107 +229,145 @@ fn plain_commit() -> Request
     }
 }
 
-#[tactic(auto, unfolding(crate::specs::Requests::commit_at))]
 fn commit<E>(alloc: Global, whole: &Value) -> Result<ReadRequest<E>, ReadError>
-    ensures { Gives result (commit_at (view whole.now)) }
+    ensures { Gives result (read (arguments 1 (or_else_form plain_commit commit_form done) Known) (view whole.now)) }
 {
-    match item_count(whole) {
-        1 => Ok(ReadRequest::Known(plain_commit())),
-        2 => fault_at(alloc, ScenarioKind::BadValue, Step::Item(1)),
-        _ => fault_here(alloc, ScenarioKind::BadValue),
+    takes(alloc, whole, 1, 2)?;
+    let request = or_else(alloc, whole, 1, plain_commit(), &AskedCommit)?;
+    Ok(ReadRequest::Known(request))
+}
+
+#[derive(Drop)]
+struct CancelNames;
+
+impl Names for CancelNames {
+    ghost knows = { λ _. knows cancel_parts };
+
+    fn knows(&self, name: &str) -> bool {
+        name == "persist-id"
     }
 }
 
-/// What an operator of this name asks.
+// The argument of a cancel.
 #[derive(Drop)]
-pub struct RequestOf<'a, R> {
-    pub user: &'a Label,
+struct AskedCancel;
+
+impl Reader for AskedCancel {
+    type Out = Request;
+
+    ghost form = { λ _. cancel_form };
+
+    fn read(&self, alloc: Global, part: &Value) -> Result<Request, ReadError> {
+        read_object(alloc, part)?;
+        let persist_id = optional(alloc, part, "persist-id", None, &Token)?;
+        no_other_names(alloc, part, &CancelNames)?;
+        Ok(Request::CancelCommit { persist_id })
+    }
+}
+
+// A cancel that names no token.
+fn plain_cancel() -> Request
+    ensures { result ≡ plain_cancel }
+{
+    Request::CancelCommit { persist_id: None }
+}
+
+fn cancel<E>(alloc: Global, whole: &Value) -> Result<ReadRequest<E>, ReadError>
+    ensures { Gives result (read (arguments 1 (or_else_form plain_cancel cancel_form done) Known) (view whole.now)) }
+{
+    takes(alloc, whole, 1, 2)?;
+    let request = or_else(alloc, whole, 1, plain_cancel(), &AskedCancel)?;
+    Ok(ReadRequest::Known(request))
+}
+
+fn partial_lock<E>(alloc: Global, whole: &Value) -> Result<ReadRequest<E>, ReadError>
+    ensures { Gives result (read (arguments 1 (selection ▹ done) WithSelect) (view whole.now)) }
+{
+    takes(alloc, whole, 2, 2)?;
+    let texts = argument(alloc, whole, 1, &Selection)?;
+    Ok(ReadRequest::WithSelect { texts })
+}
+
+fn partial_unlock<E>(alloc: Global, whole: &Value) -> Result<ReadRequest<E>, ReadError>
+    ensures { Gives result (read (arguments 1 (short ▹ done) (λ id. Known (request.PartialUnlock id))) (view whole.now)) }
+{
+    takes(alloc, whole, 2, 2)?;
+    let id = argument(alloc, whole, 1, &Short)?;
+    Ok(ReadRequest::Known(Request::PartialUnlock { id }))
+}
+
+fn kill<E>(alloc: Global, whole: &Value) -> Result<ReadRequest<E>, ReadError>
+    ensures { Gives result (read (arguments 1 (short ▹ done) (λ session. Known (request.Kill session))) (view whole.now)) }
+{
+    takes(alloc, whole, 2, 2)?;
+    let session = argument(alloc, whole, 1, &Short)?;
+    Ok(ReadRequest::Known(Request::Kill { session }))
+}
+
+/// What an operator asks.
+#[derive(Drop)]
+pub struct Requests<'a, R> {
     pub edits: &'a R,
 }
 
-impl<'a, R: Reader> Reader for RequestOf<'a, R> {
+impl<'a, R: Reader> Requests<'a, R> {
+    fn edit(&self, alloc: Global, whole: &Value) -> Result<ReadRequest<R::Out>, ReadError>
+        ensures { Gives result (read (arguments 1 (asked_edit (R.form self.now.edits.now) ▹ done) (λ request. request)) (view whole.now)) }
+    {
+        takes(alloc, whole, 2, 2)?;
+        argument(alloc, whole, 1, &AskedEdit { edits: self.edits })
+    }
+}
+
+impl<'a, R: Reader> Reader for Requests<'a, R> {
     type Out = ReadRequest<R::Out>;
 
-    ghost reads = { λ r. request_at (R.reads r.edits.now) r.user.now };
+    ghost form = { λ r. request_form (R.form r.edits.now) };
 
-    #[tactic(auto, unfolding(crate::specs::Requests::request_at))]
+    #[tactic(auto, unfolding(crate::specs::Requests::request_form))]
     fn read(&self, alloc: Global, part: &Value) -> Result<ReadRequest<R::Out>, ReadError> {
-        read_begun(alloc, part)?;
-        self.by_word(alloc, part)
+        if asks(part, RequestWord::Open) {
+            return open(alloc, part);
+        }
+        if asks(part, RequestWord::Lock) {
+            return lock(alloc, part);
+        }
+        if asks(part, RequestWord::Unlock) {
+            return unlock(alloc, part);
+        }
+        if asks(part, RequestWord::PartialLock) {
+            return partial_lock(alloc, part);
+        }
+        if asks(part, RequestWord::PartialUnlock) {
+            return partial_unlock(alloc, part);
+        }
+        if asks(part, RequestWord::Edit) {
+            return self.edit(alloc, part);
+        }
+        if asks(part, RequestWord::Validate) {
+            return alone(alloc, part, Request::Validate);
+        }
+        if asks(part, RequestWord::Commit) {
+            return commit(alloc, part);
+        }
+        if asks(part, RequestWord::CancelCommit) {
+            return cancel(alloc, part);
+        }
+        if asks(part, RequestWord::Discard) {
+            return alone(alloc, part, Request::Discard);
+        }
+        if asks(part, RequestWord::HasMark) {
+            return has_mark(alloc, part);
+        }
+        if asks(part, RequestWord::GetConfig) {
+            return alone(alloc, part, Request::GetConfig);
+        }
+        if asks(part, RequestWord::Kill) {
+            return kill(alloc, part);
+        }
+        if asks(part, RequestWord::CloseSession) {
+            return alone(alloc, part, Request::CloseSession);
+        }
+        no_word(alloc, part)
     }
-}
-
-impl<'a, R: Reader> RequestOf<'a, R> {
-    #[tactic(auto, unfolding(crate::specs::Requests::request_by_word))]
-    fn by_word(&self, alloc: Global, whole: &Value) -> Result<ReadRequest<R::Out>, ReadError>
-        ensures { Gives result (request_by_word (R.reads self.now.edits.now) self.now.user.now (view whole.now)) }
-    {
-        if asks(whole, RequestWord::Open) {
-            return self.open_session(alloc, whole);
-        }
-        if asks(whole, RequestWord::Lock) {
-            return lock(alloc, whole);
-        }
-        if asks(whole, RequestWord::Unlock) {
-            return unlock(alloc, whole);
-        }
-        if asks(whole, RequestWord::Edit) {
-            return self.edit(alloc, whole);
-        }
-        if asks(whole, RequestWord::Validate) {
-            return alone(alloc, whole, Request::Validate);
-        }
-        if asks(whole, RequestWord::Commit) {
-            return commit(alloc, whole);
-        }
-        if asks(whole, RequestWord::Discard) {
-            return alone(alloc, whole, Request::Discard);
-        }
-        if asks(whole, RequestWord::HasMark) {
-            return has_mark(alloc, whole);
-        }
-        if asks(whole, RequestWord::GetConfig) {
-            return alone(alloc, whole, Request::GetConfig);
-        }
-        if asks(whole, RequestWord::CloseSession) {
-            return alone(alloc, whole, Request::CloseSession);
-        }
-        fault_at(alloc, ScenarioKind::BadValue, Step::Item(0))
-    }
-
-    #[tactic(auto, unfolding(crate::specs::Requests::edit_request_at))]
-    fn edit(&self, alloc: Global, whole: &Value) -> Result<ReadRequest<R::Out>, ReadError>
-        ensures { Gives result (edit_request_at (R.reads self.now.edits.now) (view whole.now)) }
-    {
-        counted(alloc, whole, 2)?;
-        read_part(alloc, whole, 1, &AskedEdit { edits: self.edits })
-    }
-
-    fn open_session(&self, alloc: Global, whole: &Value) -> Result<ReadRequest<R::Out>, ReadError>
-        ensures { Gives result (alone (Request.OpenSession self.now.user.now) (view whole.now)) }
-    {
-        let user = self.user.copy()?;
-        alone(alloc, whole, Request::OpenSession { user })
-    }
-}
-
-// Whether an object stands at a place.
-fn is_object(whole: &Value, place: usize) -> bool
-    ensures { result ≡ is_object (at place (view whole.now)) }
-{
-    match whole.get(place) {
-        None => false,
-        Some(part) => part.as_object().is_some(),
-    }
-}
-
-/// Whether a request isn't built.
-pub fn is_unbuilt_request(whole: &Value) -> bool
-    ensures { result ≡ is_unbuilt_request (view whole.now) }
-{
-    asks(whole, RequestWord::PartialLock)
-        || asks(whole, RequestWord::PartialUnlock)
-        || asks(whole, RequestWord::Kill)
-        || asks(whole, RequestWord::CancelCommit)
-        || asks(whole, RequestWord::Commit) && is_object(whole, 1)
 }

@@ -1,8 +1,7 @@
-use crate::{Events, Operation, ReadEvent, edit_number, with_event_numbers};
+use crate::{Counts, Events, Operation, ReadEvent, edit_number, laws, with_event_numbers};
 use nm_base::{EditNo, Label, NoMemory};
+use nm_form::{Number, Reader, Unbuilt};
 use nm_proto::{DefaultOperation, Event, Listed, Request};
-use nm_reading::reader::Reader;
-use nm_reading::values::{NumberWithin, Unbuilt};
 use nm_reading::{Fault, ReadError, write_place};
 use serde_json::Value;
 use std::alloc::Global;
@@ -17,25 +16,25 @@ fn parsed(alloc: Global, text: &str) -> Result<Value, Fail> {
 
 // A fault as `bad-value /1/0`; the place of the whole is `/`.
 fn fault_text(alloc: Global, fault: &Fault) -> Result<Vec<u8>, NoMemory> {
-    let mut text = Vec::from_slice(alloc, fault.kind.word().as_bytes())?;
+    let mut text = Vec::from_slice(alloc, fault.cause.kind.word().as_bytes())?;
     text.push(b' ')?;
     write_place(alloc, &mut text, fault.place.as_slice())?;
     Ok(text)
 }
 
-// The events of a scenario of one change set, two devices and the operators ann and bob; an edit is a digit.
+// The events of a scenario of one change set, two devices and two operators; an edit is a digit.
 fn read_events(
     alloc: Global,
     text: &str,
 ) -> Result<Result<Listed<ReadEvent<u64>>, ReadError>, Fail> {
-    let mut operators = Listed::new(alloc);
-    operators.push(Label::new(alloc, "ann")?)?;
-    operators.push(Label::new(alloc, "bob")?)?;
-    let events = Events {
+    let counts = Counts {
         changes: 1,
         devices: 2,
-        operators: &operators,
-        edits: &NumberWithin { low: 1, high: 9 },
+        operators: 2,
+    };
+    let events = Events {
+        counts: &counts,
+        edits: &Number { low: 1, high: 9 },
     };
     Ok(events.read(alloc, &parsed(alloc, text)?))
 }
@@ -62,6 +61,7 @@ fn events_are_told(rt: HostRuntime) -> Result<(), Fail> {
         (r#"[["submit",2]]"#, "bad-value /0/1"),
         (r#"[["deliver",1,2]]"#, "bad-value /0"),
         (r#"[["crash",1]]"#, "not-built /0"),
+        (r#"[["renew",1,1]]"#, "not-built /0"),
         (r#"[["foreign",1,2,["edit",{"edit":5}]]]"#, "read"),
         (
             r#"[["foreign",1,2,["edit",{"edit":0}]]]"#,
@@ -75,7 +75,26 @@ fn events_are_told(rt: HostRuntime) -> Result<(), Fail> {
         (r#"[["foreign",3,2,["open"]]]"#, "bad-value /0/1"),
         (r#"[["foreign",1,1,[]]]"#, "bad-value /0/3"),
         (r#"[["foreign",1,1,["Open"]]]"#, "bad-value /0/3/0"),
-        (r#"[["foreign",1,1,["kill",1]]]"#, "not-built /0"),
+        (r#"[["foreign",1,1,["kill",1]]]"#, "read"),
+        (r#"[["foreign",1,1,["kill",-1]]]"#, "bad-value /0/3/1"),
+        (
+            r#"[["foreign",1,1,["partial-lock",["a",7]]]]"#,
+            "bad-value /0/3/1/1",
+        ),
+        (
+            r#"[["foreign",1,1,["commit",{"confirmed":true,"timeout":0,"persist":"a"}]]]"#,
+            "read",
+        ),
+        (
+            r#"[["foreign",1,1,["commit",{"persist":""}]]]"#,
+            "bad-value /0/3/1/persist",
+        ),
+        (
+            r#"[["foreign",1,1,["cancel-commit",{"persist":"a"}]]]"#,
+            "unknown /0/3/1/persist",
+        ),
+        (r#"[["advance",1,1]]"#, "not-built /0"),
+        (r#"[["foreign",1,1,["commit",7]]]"#, "bad-value /0/3/1"),
         (r#"[["leave",1,3]]"#, "bad-value /0/2"),
     ] {
         let told = told(rt.alloc(), text)?;
@@ -87,12 +106,13 @@ fn events_are_told(rt: HostRuntime) -> Result<(), Fail> {
 // Edits that aren't built are told where they stand, whatever they are.
 #[test]
 fn unbuilt_edits_are_told(rt: HostRuntime) -> Result<(), Fail> {
-    let mut operators = Listed::new(rt.alloc());
-    operators.push(Label::new(rt.alloc(), "ann")?)?;
-    let events = Events {
+    let counts = Counts {
         changes: 0,
         devices: 1,
-        operators: &operators,
+        operators: 1,
+    };
+    let events = Events {
+        counts: &counts,
         edits: &Unbuilt,
     };
     let whole = parsed(rt.alloc(), r#"[["foreign",1,1,["edit",{"edit":5}]]]"#)?;
@@ -116,13 +136,49 @@ fn default_operations_are_told(rt: HostRuntime) -> Result<(), Fail> {
         else {
             return Err(Fail::new("read"));
         };
-        assert_eq!(rt; fault.kind.word(), want, "{text}");
+        assert_eq!(rt; fault.cause.kind.word(), want, "{text}");
     }
     let Ok(merge) = Operation.read(rt.alloc(), &parsed(rt.alloc(), r#""merge""#)?) else {
         return Err(Fail::new("refused"));
     };
     assert!(rt; merge == DefaultOperation::Merge);
     Ok(())
+}
+
+fn user_asked(event: &Event) -> Option<&Label> {
+    match event {
+        Event::Foreign {
+            request: Request::OpenSession { user },
+            ..
+        } => Some(user),
+        _ => None,
+    }
+}
+
+// A session has the name of its operator's user.
+#[test]
+fn sessions_have_users(rt: HostRuntime) -> Result<(), Fail> {
+    let Ok(reads) = read_events(rt.alloc(), r#"[["foreign",2,1,["open"]]]"#)? else {
+        return Err(Fail::new("refused"));
+    };
+    let mut users = Listed::new(rt.alloc());
+    users.push(Label::new(rt.alloc(), "ann")?)?;
+    users.push(Label::new(rt.alloc(), "bob")?)?;
+    let mut edits = Listed::new(rt.alloc());
+    let mut selects = Listed::new(rt.alloc());
+    let events = with_event_numbers(rt.alloc(), &users, reads, &mut edits, &mut selects)?;
+    let user = user_asked(events.get(0).ok_or("event")?).ok_or("user")?;
+    assert_eq!(rt; user.as_str(), "bob");
+    Ok(())
+}
+
+// The laws are functions that do nothing.
+#[test]
+fn laws_do_nothing() {
+    let edits = Number { low: 1, high: 9 };
+    laws::events_are_exact(&edits);
+    laws::events_are_kept(&edits);
+    laws::event_places_are_parts(&edits);
 }
 
 fn edit_asked(event: &Event) -> Option<EditNo> {
@@ -145,7 +201,9 @@ fn edits_of_events_are_numbered(rt: HostRuntime) -> Result<(), Fail> {
     };
     let mut edits = Listed::new(rt.alloc());
     edits.push(3u64)?;
-    let events = with_event_numbers(rt.alloc(), reads, &mut edits)?;
+    let users = Listed::new(rt.alloc());
+    let mut selects = Listed::new(rt.alloc());
+    let events = with_event_numbers(rt.alloc(), &users, reads, &mut edits, &mut selects)?;
     assert_eq!(rt; edits.as_slice(), [3u64, 5, 7].as_slice());
     for (place, want) in [(0, Some(EditNo(1))), (1, None), (2, Some(EditNo(2)))] {
         let event = events.get(place).ok_or("event")?;

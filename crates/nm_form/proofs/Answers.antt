@@ -6,14 +6,14 @@ use Rattle.serde_json.specs.Find.{as_array, as_object}
 use Rattle.nm_proto.specs.declared.kind.ScenarioKind.TheVariants.{Missing, Unknown, BadValue, TooMany}
 use Rattle.nm_reading.specs.declared.fault.Step.{Step}
 use Rattle.nm_reading.specs.declared.fault.Step.TheVariants.{Name, Item}
-use Rattle.nm_reading.specs.Reading.{count_of}
-use Rattle.nm_form.specs.declared.fault.Cause.{Cause}
-use Rattle.nm_form.specs.declared.fault.Fault.{Fault}
-use Rattle.nm_form.specs.Order.{Faults, NotAfter, IsFirst, plain, Either, Here, At, Inside}
+use Rattle.nm_reading.specs.Reading.{count_of, plain, ◌>>=◌, here, there, under}
+use Rattle.nm_reading.specs.declared.fault.Cause.{Cause}
+use Rattle.nm_reading.specs.declared.fault.Fault.{Fault}
+use Rattle.nm_form.specs.Order.{Faults, NotAfter, IsFirst, Either, Here, At, Inside}
 use Rattle.nm_form.specs.Form.{Key}
 use Rattle.nm_form.specs.Says.{total, Each, SaysList, SaysSlot, AllKnown, SaysObject, IfSo}
 use Rattle.nm_form.specs.Wrong.{step_of, WrongLeaf, WrongItems, WrongList, WrongNames, WrongObject, WrongSlot, WrongCount, ByWord, WrongLine}
-use Rattle.nm_form.specs.Read.{◌>>=◌, told, here, there, under, slot_read, items_after, fits, items_read, object_from, names_read, names_from, takes_read, line_read}
+use Rattle.nm_form.specs.Read.{told, slot_read, items_after, fits, items_read, object_from, names_read, names_from, takes_read, line_read}
 use Rattle.nm_form.proofs.Orders.{Precedes, early_first, late_first, neither, IsBelow, IsFrom, from_less, heads_precede, here_first, at_first, inside_first, here_below, at_below, at_from, inside_below, inside_from, here_precedes, precedes_both}
 
 -- nothing is wrong

@@ -2,15 +2,16 @@
 use Rattle.std.proofs.Common.{◌≡◌, ℕ, List, Result, Ok, Err, sym, subst, ◌∙◌}
 use Rattle.serde_json.specs.Data.{Data}
 use Rattle.nm_reading.specs.declared.fault.Step.{Step}
-use Rattle.nm_form.specs.declared.fault.Cause.{Cause}
-use Rattle.nm_form.specs.declared.fault.Fault.{Fault}
-use Rattle.nm_form.specs.declared.fault.ReadError.{ReadError}
-use Rattle.nm_form.specs.declared.fault.ReadError.TheVariants as error
+use Rattle.nm_reading.specs.declared.fault.Cause.{Cause}
+use Rattle.nm_reading.specs.declared.fault.Fault.{Fault}
+use Rattle.nm_reading.specs.declared.fault.ReadError.{ReadError}
+use Rattle.nm_reading.specs.declared.fault.ReadError.TheVariants as error
 use Rattle.nm_form.specs.Order.{Faults, IsFirst}
 use Rattle.nm_form.specs.Form.{Form}
 use Rattle.nm_form.specs.Says.{Says}
 use Rattle.nm_form.specs.Wrong.{Wrong}
-use Rattle.nm_form.specs.Read.{read, Gives}
+use Rattle.nm_reading.specs.Reading.{Gives}
+use Rattle.nm_form.specs.Read.{read}
 use Rattle.nm_form.specs.Exact.{IsExact, Reads}
 use Rattle.nm_form.proofs.Orders.{first_one}
 use Rattle.nm_form.proofs.Answers.{Answers}

@@ -76,6 +76,38 @@ mutual
     always form (λ b. HoldsParts parts (make b) P) (λ b. always_parts parts (make b) P all),
   )
 
+of_more : {A E : Type 0} (P Q : A → Type 0) (r : Result A E) → OfResult P r → ((x : A) → P x → Q x) → OfResult Q r
+of_more P Q (Ok x) holds more = more x holds
+of_more P Q (Err e) holds more = tt
+
+missing_more : {B : Type 0} (P Q : B → Type 0) (default : Option B) → OfDefault P default → ((b : B) → P b → Q b) → OfDefault Q default
+missing_more P Q None holds more = tt
+missing_more P Q (Some missing) holds more = more missing holds
+
+mutual
+  unfolding Holds
+
+  -- what follows from what holds of all that a form can say holds of it too
+  pub implied : {A : Type 0} (form : Form A) (P Q : A → Type 0) → Holds form P → ((x : A) → P x → Q x) → Holds form Q
+  implied (leaf f) P Q holds more = λ whole. of_more P Q (f whole) (holds whole) more
+  implied (made make form) P Q holds more = implied form (λ b. P (make b)) (λ b. Q (make b)) holds (λ b is. more (make b) is)
+  implied (by form) P Q holds more = λ whole. implied (form whole) P Q (holds whole) more
+  implied (list low high weight form) P Q holds more = λ whole xs is. more xs (holds whole xs is)
+  implied (object knows parts make) P Q holds more = implied_parts parts make P Q holds more
+  implied (arguments n parts make) P Q holds more = implied_parts parts make P Q holds more
+  implied (line word form others) P Q holds more = (implied form P Q holds.0 more, implied others P Q holds.1 more)
+  implied no_line P Q holds more = tt
+
+  implied_parts : {F A : Type 0} (parts : Parts F A) (make : F) (P Q : A → Type 0) → HoldsParts parts make P → ((x : A) → P x → Q x)
+      → HoldsParts parts make Q
+  implied_parts done make P Q holds more = more make holds
+  implied_parts (slot key default form parts) make P Q holds more = (
+    missing_more (λ b. HoldsParts parts (make b) P) (λ b. HoldsParts parts (make b) Q) default holds.0
+        (λ b is. implied_parts parts (make b) P Q is more),
+    implied form (λ b. HoldsParts parts (make b) P) (λ b. HoldsParts parts (make b) Q) holds.1
+        (λ b is. implied_parts parts (make b) P Q is more),
+  )
+
 each_kept : {A : Type 0} (says : ℕ → Data → A → Type 0) (P : A → Type 0) → ((n : ℕ) (part : Data) (x : A) → says n part x → P x)
     → (n : ℕ) (items : Items) (xs : List A) → Each says n items xs → All P xs
 unfolding Each

@@ -6,5 +6,6 @@ pub mod Exact
 pub mod Keeping
 pub mod Counts
 pub mod Ranges
-pub mod Samples
 pub mod Placed
+pub mod InOrder
+pub mod Samples

@@ -3,9 +3,10 @@ use Rattle.std.proofs.Common.{◌≡◌, ◌≤◌, ◌<◌, inl, inr, ℕ, suc,
 use Rattle.nm_proto.specs.declared.kind.ScenarioKind.{ScenarioKind}
 use Rattle.nm_proto.specs.declared.kind.ScenarioKind.TheVariants.{TooLong, NotJson, NotBuilt, Missing, Unknown, BadValue, TooMany, Yang, Schema, Content, Invalid}
 use Rattle.nm_reading.specs.declared.fault.Step.{Step}
-use Rattle.nm_form.specs.declared.fault.Cause.{Cause}
-use Rattle.nm_form.specs.declared.fault.Fault.{Fault}
-use Rattle.nm_form.specs.Order.{Faults, rank, NotAfter, IsFirst, plain, Either, Here, At, Inside}
+use Rattle.nm_reading.specs.declared.fault.Cause.{Cause}
+use Rattle.nm_reading.specs.declared.fault.Fault.{Fault}
+use Rattle.nm_reading.specs.Reading.{plain}
+use Rattle.nm_form.specs.Order.{Faults, rank, NotAfter, IsFirst, Either, Here, At, Inside}
 
 -- ---- of two first faults one is the other
 

@@ -4,8 +4,7 @@ use Rattle.std.proofs.lemmas.Bool.{leb-true, ltb-true}
 use Rattle.serde_json.specs.Data.{Data}
 use Rattle.serde_json.specs.Find.{as_str}
 use Rattle.nm_proto.specs.declared.kind.ScenarioKind.TheVariants.{BadValue}
-use Rattle.nm_reading.specs.Reading.{natural_of}
-use Rattle.nm_form.specs.Order.{plain}
+use Rattle.nm_reading.specs.Reading.{natural_of, plain}
 use Rattle.nm_form.specs.Form.{Key, Form, made, object, arguments, line, no_line, not_built, chosen, unbuilt_where, Parts, slot, done, built, unbuilt}
 use Rattle.nm_form.specs.Kept.{Holds, HoldsParts, OfResult}
 use Rattle.nm_form.specs.Leafs.{number, number_said, number_from, above, above_said, above_from, text, text_said, text_from}

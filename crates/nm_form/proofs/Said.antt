@@ -3,13 +3,13 @@ use Rattle.std.proofs.Common.{◌≡◌, ℕ, suc, ◌+◌, List, [], ◌∷◌,
 use Rattle.std.proofs.lemmas.Bool.{le-ltb}
 use Rattle.serde_json.specs.Data.{Data, Items, no_items, item, Members, no_members, member}
 use Rattle.serde_json.specs.Find.{as_array, as_object}
-use Rattle.nm_reading.specs.Reading.{count_of}
+use Rattle.nm_reading.specs.Reading.{count_of, ◌>>=◌}
 use Rattle.nm_reading.specs.Words.{is_word}
-use Rattle.nm_form.specs.declared.fault.Fault.{Fault}
+use Rattle.nm_reading.specs.declared.fault.Fault.{Fault}
 use Rattle.nm_form.specs.Form.{Key, Form, leaf, made, by, list, object, arguments, line, no_line, Parts, done, slot, count_parts, count_needed}
 use Rattle.nm_form.specs.Says.{Says, SaysParts, SaysSlot, SaysList, SaysObject, Each, AllKnown, IfSo, found, takes, total}
 use Rattle.nm_form.specs.Wrong.{step_of}
-use Rattle.nm_form.specs.Read.{◌>>=◌, slot_read, items_read, object_from, names_read, names_from, takes_read, read, read_parts}
+use Rattle.nm_form.specs.Read.{slot_read, items_read, object_from, names_read, names_from, takes_read, read, read_parts}
 use Rattle.nm_form.proofs.Answers.{items_from, all_items}
 
 module _ {A : Type 0} (says : ℕ → Data → A → Type 0) (read_item : ℕ → Data → Result A Fault)

@@ -2,10 +2,10 @@
 use Rattle.std.specs.Prelude.{◌≡◌, ℕ, List, Result, Ok, Err}
 use Rattle.serde_json.specs.Data.{Data}
 use Rattle.nm_reading.specs.declared.fault.Step.{Step}
-use Rattle.nm_form.specs.declared.fault.Cause.{Cause}
-use Rattle.nm_form.specs.declared.fault.Fault.{Fault}
-use Rattle.nm_form.specs.declared.fault.ReadError.{ReadError}
-use Rattle.nm_form.specs.declared.fault.ReadError.TheVariants as error
+use Rattle.nm_reading.specs.declared.fault.Cause.{Cause}
+use Rattle.nm_reading.specs.declared.fault.Fault.{Fault}
+use Rattle.nm_reading.specs.declared.fault.ReadError.{ReadError}
+use Rattle.nm_reading.specs.declared.fault.ReadError.TheVariants as error
 use Rattle.nm_form.specs.Order.{IsFirst}
 use Rattle.nm_form.specs.Form.{Form}
 use Rattle.nm_form.specs.Says.{Says}

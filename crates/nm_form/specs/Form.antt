@@ -1,11 +1,13 @@
 -- The form of a part of a JSON value: what it says, written once as a table (this project's own). What is said, what is wrong,
 -- and the reader all come from the form.
-use Rattle.std.specs.Prelude.{ℕ, suc, List, Bool, true, false, ◌||◌, Option, Some, None, Result, Err}
+use Rattle.std.specs.Prelude.{ℕ, suc, List, Bool, true, false, ◌||◌, ◌==◌, Option, Some, None, Result, Ok, Err, if◌then◌else◌}
 use Rattle.std.specs.Str.{bytes_eq}
 use Rattle.serde_json.specs.Data.{Data}
 use Rattle.nm_proto.specs.declared.kind.ScenarioKind.TheVariants.{NotBuilt}
-use Rattle.nm_form.specs.declared.fault.Cause.{Cause}
-use Rattle.nm_form.specs.Order.{plain}
+use Rattle.nm_reading.specs.declared.fault.Cause.{Cause}
+use Rattle.nm_reading.specs.Reading.{plain}
+use Rattle.nm_reading.specs.Words.{is_word}
+use Rattle.nm_form.specs.Order.{rank}
 
 -- how a part is found in what has it: by its name, or as the next argument
 pub data Key : Type 0 where
@@ -84,6 +86,21 @@ chosen false this other = other
 -- a form that isn't built where the raw value is so
 abbrev pub unbuilt_where : {A : Type 0} → (Data → Bool) → Form A → Form A
 unbuilt_where test form = by (λ whole. chosen (test whole) not_built form)
+
+abbrev pub is_not_built : {A : Type 0} → Result A Cause → Bool
+is_not_built (Ok x) = false
+is_not_built (Err cause) = rank cause.kind == rank NotBuilt
+
+-- whether a part is one that its form tells as not built
+abbrev pub is_unbuilt : {A : Type 0} → Form A → Data → Bool
+is_unbuilt (leaf read) whole = is_not_built (read whole)
+is_unbuilt (made make form) whole = is_unbuilt form whole
+is_unbuilt (by form) whole = is_unbuilt (form whole) whole
+is_unbuilt (list low high weight form) whole = false
+is_unbuilt (object knows parts make) whole = false
+is_unbuilt (arguments n parts make) whole = false
+is_unbuilt (line word form others) whole = if is_word whole word then is_unbuilt form whole else is_unbuilt others whole
+is_unbuilt no_line whole = false
 
 -- ---- counts and names
 

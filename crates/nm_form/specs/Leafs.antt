@@ -3,9 +3,8 @@ use Rattle.std.specs.Prelude.{ℕ, List, Bool, ◌&&◌, nat_lt, nat_le, length,
 use Rattle.serde_json.specs.Data.{Data}
 use Rattle.serde_json.specs.Find.{as_bool, as_str}
 use Rattle.nm_proto.specs.declared.kind.ScenarioKind.TheVariants.{BadValue}
-use Rattle.nm_reading.specs.Reading.{natural_of}
-use Rattle.nm_form.specs.declared.fault.Cause.{Cause}
-use Rattle.nm_form.specs.Order.{plain}
+use Rattle.nm_reading.specs.Reading.{natural_of, plain}
+use Rattle.nm_reading.specs.declared.fault.Cause.{Cause}
 use Rattle.nm_form.specs.Form.{Form, leaf}
 
 abbrev pub number_from : ℕ → ℕ → Option ℕ → Result ℕ Cause

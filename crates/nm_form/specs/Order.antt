@@ -1,12 +1,13 @@
 -- The faults of a part of a JSON value, and the order in which they are looked for (this project's own).
 -- A fault has a cause, a place and a spot. The place is the way that a user is told. The spot is the same way in numbers: items
 -- by their number from 0, members by their line in the table, other names after those; so the order is one of lists of numbers.
-use Rattle.std.specs.Prelude.{◌≡◌, ◌≤◌, ◌<◌, ◌⊎◌, ℕ, List, [], ◌∷◌, None}
+use Rattle.std.specs.Prelude.{◌≡◌, ◌≤◌, ◌<◌, ◌⊎◌, ℕ, List, [], ◌∷◌}
 use Rattle.nm_proto.specs.declared.kind.ScenarioKind.{ScenarioKind}
 use Rattle.nm_proto.specs.declared.kind.ScenarioKind.TheVariants.{TooLong, NotJson, NotBuilt, Missing, Unknown, BadValue, TooMany, Yang, Schema, Content, Invalid}
 use Rattle.nm_reading.specs.declared.fault.Step.{Step}
-use Rattle.nm_form.specs.declared.fault.Cause.{Cause}
-use Rattle.nm_form.specs.declared.fault.Fault.{Fault}
+use Rattle.nm_reading.specs.declared.fault.Cause.{Cause}
+use Rattle.nm_reading.specs.declared.fault.Fault.{Fault}
+use Rattle.nm_reading.specs.Reading.{plain}
 
 -- faults, by their causes, places and spots
 abbrev pub Faults : Type 1
@@ -47,10 +48,6 @@ pub record IsFirst (wrong : Faults) (fault : Fault) : Type 0 where
       → (cause ≡ fault.cause) × (place ≡ fault.place)
 
 -- ---- how faults are put together
-
--- a kind that no lower reader told
-abbrev pub plain : ScenarioKind → Cause
-plain kind = record { kind = kind; inner = None }
 
 -- none
 abbrev pub NoFaults : Faults

@@ -3,49 +3,21 @@
 use Rattle.std.specs.Prelude.{◌≡◌, ℕ, suc, ◌+◌, List, [], ◌∷◌, ◌++◌, Bool, true, false, nat_lt, Option, Some, None, Result, Ok, Err, if◌then◌else◌}
 use Rattle.serde_json.specs.Data.{Data, Items, no_items, item, Members, no_members, member}
 use Rattle.serde_json.specs.Find.{at, as_array, as_object}
-use Rattle.nm_proto.specs.declared.kind.ScenarioKind.{ScenarioKind}
 use Rattle.nm_proto.specs.declared.kind.ScenarioKind.TheVariants.{Missing, Unknown, BadValue, TooMany}
 use Rattle.nm_reading.specs.declared.fault.Step.{Step}
 use Rattle.nm_reading.specs.declared.fault.Step.TheVariants.{Name, Item}
-use Rattle.nm_reading.specs.Reading.{count_of}
+use Rattle.nm_reading.specs.Reading.{◌>>=◌, here, there, under, count_of}
 use Rattle.nm_reading.specs.Words.{is_word}
-use Rattle.nm_form.specs.declared.fault.Cause.{Cause}
-use Rattle.nm_form.specs.declared.fault.Fault.{Fault}
-use Rattle.nm_form.specs.declared.fault.ReadError.{ReadError}
-use Rattle.nm_form.specs.declared.fault.ReadError.TheVariants as error
-use Rattle.nm_form.specs.Order.{plain}
+use Rattle.nm_reading.specs.declared.fault.Cause.{Cause}
+use Rattle.nm_reading.specs.declared.fault.Fault.{Fault}
 use Rattle.nm_form.specs.Form.{Form, leaf, made, by, list, object, arguments, line, no_line, Parts, done, slot, count_parts, count_needed}
 use Rattle.nm_form.specs.Says.{found, total, takes}
 use Rattle.nm_form.specs.Wrong.{step_of}
-
-infixl 10 ◌>>=◌
-abbrev pub ◌>>=◌ : {A B : Type 0} → Result A Fault → (A → Result B Fault) → Result B Fault
-(Ok x) >>= f = f x
-(Err e) >>= f = Err e
-
--- what a reader returned is what reading gives, unless memory ran out
-abbrev pub Gives : {A : Type 0} → Result A ReadError → Result A Fault → Type 0
-Gives (Ok x) given = given ≡ Ok x
-Gives (Err (error.Bad fault)) given = given ≡ Err fault
-Gives (Err error.NoMemory) given = Unit {0}
 
 -- what a leaf told, at its own place
 abbrev pub told : {A : Type 0} → Result A Cause → Result A Fault
 told (Ok x) = Ok x
 told (Err cause) = Err (record { cause = cause; place = [] })
-
--- a fault of the part that is looked at
-abbrev pub here : {A : Type 0} → ScenarioKind → Result A Fault
-here kind = Err (record { cause = plain kind; place = [] })
-
--- a fault of the part one step further in
-abbrev pub there : {A : Type 0} → ScenarioKind → Step → Result A Fault
-there kind step = Err (record { cause = plain kind; place = step ∷ [] })
-
--- what was read one step further in, its fault seen from here
-abbrev pub under : {A : Type 0} → Step → Result A Fault → Result A Fault
-under step (Ok x) = Ok x
-under step (Err fault) = Err (record { cause = fault.cause; place = step ∷ fault.place })
 
 -- what stands for a part that isn't there
 abbrev pub or_missing : {B : Type 0} → Step → Option B → Result B Fault

@@ -8,7 +8,7 @@ use Rattle.nm_reading.specs.declared.fault.Step.{Step}
 use Rattle.nm_reading.specs.declared.fault.Step.TheVariants.{Name, Item}
 use Rattle.nm_reading.specs.Reading.{count_of}
 use Rattle.nm_reading.specs.Words.{is_word}
-use Rattle.nm_form.specs.declared.fault.Cause.{Cause}
+use Rattle.nm_reading.specs.declared.fault.Cause.{Cause}
 use Rattle.nm_form.specs.Order.{Faults, NoFaults, Either, Here, At, Inside}
 use Rattle.nm_form.specs.Form.{Key, named, next, Form, leaf, made, by, list, object, arguments, line, no_line, Parts, done, slot, count_parts, count_needed}
 use Rattle.nm_form.specs.Says.{found, total, takes}

@@ -7,12 +7,12 @@ ghost use Rattle.serde_json.specs.Find.{as_array};
 ghost use Rattle.nm_form.specs.Form.{Form, list};
 ghost use Rattle.nm_form.specs.Says.{total};
 ghost use Rattle.nm_form.specs.Leafs.{one};
-ghost use Rattle.nm_form.specs.Read.{Gives, read, under, items_after, fits, items_read};
+ghost use Rattle.nm_reading.specs.Reading.{Gives, under};
+ghost use Rattle.nm_form.specs.Read.{read, items_after, fits, items_read};
 
-use crate::fault::ReadError;
-use crate::reader::{fault_here, seen_from_outside};
 use nm_proto::Listed;
-use nm_reading::{ScenarioKind, Step};
+use nm_reading::reader::{fault_here, seen_from_outside};
+use nm_reading::{ReadError, ScenarioKind, Step};
 use serde_json::Value;
 use std::alloc::Global;
 

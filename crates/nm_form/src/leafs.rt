@@ -2,13 +2,15 @@
 
 ghost use Rattle.std.specs.Prelude.{◌≡◌, ◌≤◌, ◌<◌, IfOk};
 ghost use Rattle.serde_json.specs.View.{view};
-ghost use Rattle.nm_form.specs.Read.{Gives, read};
+ghost use Rattle.nm_reading.specs.Reading.{Gives};
+ghost use Rattle.nm_form.specs.Read.{read};
+ghost use Rattle.nm_form.specs.Form.{not_built};
 ghost use Rattle.nm_form.specs.Leafs.{number, above, switch, text};
 
-use crate::fault::ReadError;
-use crate::reader::{Reader, fault_here};
+use crate::reader::Reader;
 use nm_base::Label;
-use nm_reading::ScenarioKind;
+use nm_reading::reader::fault_here;
+use nm_reading::{ReadError, ScenarioKind};
 use serde_json::Value;
 use std::alloc::Global;
 
@@ -85,6 +87,20 @@ impl Reader for Switch {
             None => fault_here(alloc, ScenarioKind::BadValue),
             Some(on) => Ok(on),
         }
+    }
+}
+
+/// A part that isn't built, whatever stands there.
+#[derive(Drop)]
+pub struct Unbuilt;
+
+impl Reader for Unbuilt {
+    type Out = ();
+
+    ghost form = { λ _. not_built };
+
+    fn read(&self, alloc: Global, _part: &Value) -> Result<(), ReadError> {
+        fault_here(alloc, ScenarioKind::NotBuilt)
     }
 }
 

@@ -3,17 +3,15 @@
 //! as `Form`s and reads by `required`, `argument`, `read_list` and the like; `exact`, `reads`, `kept`, `placed` in `proofs/` hold of all.
 #![tactic(auto)]
 
-pub mod fault;
 pub mod items;
 pub mod leafs;
 pub mod reader;
 pub mod sample;
 pub mod words;
 
-pub use fault::{Cause, Fault, Inner, InnerPlace, ReadError};
 pub use items::{ItemReader, Weigh, read_list, read_weighed};
-pub use leafs::{Above, Number, Switch, Text, read_above, read_number};
-pub use reader::{Names, Reader, no_other_names, optional, read_object, required};
+pub use leafs::{Above, Number, Switch, Text, Unbuilt, read_above, read_number};
+pub use reader::{ByForm, Reader, no_other_names, optional, read_object, required};
 pub use words::{argument, no_word, or_else, takes};
 
 #[cfg(test)]

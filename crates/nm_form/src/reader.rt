@@ -4,14 +4,15 @@ ghost use Rattle.std.specs.Prelude.{◌≡◌, ℕ, List, Bool, Some, None, Ok, 
 ghost use Rattle.serde_json.specs.Data.{Data};
 ghost use Rattle.serde_json.specs.Find.{get, as_object};
 ghost use Rattle.serde_json.specs.View.{view, members_view};
-ghost use Rattle.nm_form.specs.declared.fault.Fault.{Fault};
+ghost use Rattle.nm_reading.specs.declared.fault.Fault.{Fault};
+ghost use Rattle.nm_reading.specs.declared.fault.Step.TheVariants.{Name};
 ghost use Rattle.nm_form.specs.Form.{Form};
-ghost use Rattle.nm_form.specs.Read.{Gives, read, told, here, there, under, slot_read, object_from, names_read, names_from};
+ghost use Rattle.nm_reading.specs.Reading.{Gives, here, there, under};
+ghost use Rattle.nm_form.specs.Read.{read, told, slot_read, object_from, names_read, names_from};
 
-use crate::fault::{Cause, Fault, ReadError};
-use nm_base::Label;
 use nm_proto::Listed;
-use nm_reading::{ScenarioKind, Step};
+use nm_reading::reader::{Names, fault_at, fault_here, missing, named, seen_from_outside};
+use nm_reading::{Cause, Fault, ReadError, ScenarioKind};
 use serde_json::{Map, Value};
 use std::alloc::Global;
 
@@ -26,6 +27,22 @@ pub trait Reader {
         ensures { Gives result (read (form self.now) (view part.now)) };
 }
 
+/// A reader by a form, where a reader that gives what a function does is asked for.
+#[derive(Drop)]
+pub struct ByForm<'a, R> {
+    pub reader: &'a R,
+}
+
+impl<'a, R: Reader> nm_reading::reader::Reader for ByForm<'a, R> {
+    type Out = R::Out;
+
+    ghost reads = { λ r. read (R.form r.reader.now) };
+
+    fn read(&self, alloc: Global, part: &Value) -> Result<R::Out, ReadError> {
+        self.reader.read(alloc, part)
+    }
+}
+
 /// A fault of the part that is looked at, as a lower reader told it.
 pub fn fault_told<T>(alloc: Global, cause: Cause) -> Result<T, ReadError>
     ensures { Gives result (told (Result.Err cause)) }
@@ -36,47 +53,6 @@ pub fn fault_told<T>(alloc: Global, cause: Cause) -> Result<T, ReadError>
     }))
 }
 
-/// A fault of the part that is looked at.
-pub fn fault_here<T>(alloc: Global, kind: ScenarioKind) -> Result<T, ReadError>
-    ensures { Gives result (here kind) }
-{
-    Err(ReadError::Bad(Fault {
-        cause: Cause { kind, inner: None },
-        place: Listed::new(alloc),
-    }))
-}
-
-/// A fault of what should stand one step further in.
-pub fn fault_at<T>(alloc: Global, kind: ScenarioKind, step: Step) -> Result<T, ReadError>
-    ensures { Gives result (there kind step) }
-{
-    let mut place = Listed::new(alloc);
-    place.push(step)?;
-    Err(ReadError::Bad(Fault {
-        cause: Cause { kind, inner: None },
-        place,
-    }))
-}
-
-/// The error, seen from one step further out.
-pub fn seen_from_outside<T>(error: ReadError, step: Step) -> Result<T, ReadError>
-    ensures { (read : Result T Fault) → Gives (Err error) read → Gives result (under step read) }
-{
-    match error {
-        ReadError::Bad(mut fault) => {
-            fault.place.push_front(step)?;
-            Err(ReadError::Bad(fault))
-        }
-        ReadError::NoMemory => Err(ReadError::NoMemory),
-    }
-}
-
-fn named(alloc: Global, name: &str) -> Result<Step, ReadError>
-    ensures { Gives result (Ok (Step.Name name.now)) }
-{
-    Ok(Step::Name(Label::new(alloc, name)?))
-}
-
 /// The member of a name, which has to be there.
 pub fn required<R: Reader>(
     alloc: Global,
@@ -84,7 +60,7 @@ pub fn required<R: Reader>(
     name: &str,
     reader: &R,
 ) -> Result<R::Out, ReadError>
-    ensures { Gives result (slot_read (read (R.form reader.now)) (Step.Name name.now) None (get name.now (view whole.now))) }
+    ensures { Gives result (slot_read (read (R.form reader.now)) (Name name.now) None (get name.now (view whole.now))) }
 {
     match whole.get(name) {
         None => missing(alloc, name),
@@ -100,19 +76,12 @@ pub fn optional<R: Reader>(
     otherwise: R::Out,
     reader: &R,
 ) -> Result<R::Out, ReadError>
-    ensures { Gives result (slot_read (read (R.form reader.now)) (Step.Name name.now) (Some otherwise) (get name.now (view whole.now))) }
+    ensures { Gives result (slot_read (read (R.form reader.now)) (Name name.now) (Some otherwise) (get name.now (view whole.now))) }
 {
     match whole.get(name) {
         None => Ok(otherwise),
         Some(part) => inside(alloc, name, reader, part),
     }
-}
-
-fn missing<T>(alloc: Global, name: &str) -> Result<T, ReadError>
-    ensures { Gives result (there ScenarioKind.Missing (Step.Name name.now)) }
-{
-    let step = named(alloc, name)?;
-    fault_at(alloc, ScenarioKind::Missing, step)
 }
 
 // What was read one step further in. The step is made only where there is a fault.
@@ -122,7 +91,7 @@ fn inside<R: Reader>(
     reader: &R,
     part: &Value,
 ) -> Result<R::Out, ReadError>
-    ensures { Gives result (under (Step.Name name.now) (read (R.form reader.now) (view part.now))) }
+    ensures { Gives result (under (Name name.now) (read (R.form reader.now) (view part.now))) }
 {
     match reader.read(alloc, part) {
         Ok(value) => Ok(value),
@@ -131,14 +100,6 @@ fn inside<R: Reader>(
             seen_from_outside(error, step)
         }
     }
-}
-
-/// The names that the members of an object may have.
-pub trait Names {
-    ghost knows: { Self → List ℕ → Bool };
-
-    fn knows(&self, name: &str) -> bool
-        ensures { result ≡ knows self.now name.now };
 }
 
 /// An object, whatever its members.

@@ -7,24 +7,25 @@ ghost use Rattle.serde_json.specs.Find.{at};
 ghost use Rattle.serde_json.specs.View.{view};
 ghost use Rattle.nm_form.specs.Form.{◌▹◌, arguments, done, made, or_else as or_else_form, knows, unbuilt_where};
 ghost use Rattle.nm_form.specs.Leafs.{number, text};
-ghost use Rattle.nm_form.specs.Read.{Gives, read};
+ghost use Rattle.nm_reading.specs.Reading.{Gives};
+ghost use Rattle.nm_form.specs.Read.{read};
 ghost use Rattle.nm_form.specs.Says.{Says};
 ghost use Rattle.nm_form.specs.Exact.{IsExact, IsWrong, Reads};
 ghost use Rattle.nm_form.specs.Places.{IsPlace};
-ghost use Rattle.nm_form.specs.declared.fault.Cause.{Cause};
+ghost use Rattle.nm_reading.specs.declared.fault.Cause.{Cause};
 ghost use Rattle.nm_reading.specs.declared.fault.Step.{Step};
 ghost use Rattle.nm_form.specs.Sample.{above_at, asks_zero, is_right_round, pair_form, commit_form, commit_parts, count_in, device_of, devices_form, edit_form, edit_parts, edits_form, event_form, event_weight, events_form, is_within, items_of, sample_form, sample_parts, Keeps};
 ghost use Rattle.nm_form.specs.declared.sample.SampleEvent.{SampleEvent};
 
-use crate::fault::ReadError;
 use crate::items::{ItemReader, Weigh, read_list, read_weighed};
 use crate::leafs::{Above, Number, Switch, Text, read_number};
-use crate::reader::{Names, Reader, fault_here, no_other_names, optional, read_object, required};
+use crate::reader::{Reader, no_other_names, optional, read_object, required};
 use crate::words::{argument, no_word, or_else, takes};
 use nm_base::Label;
 use nm_proto::Listed;
-use nm_reading::ScenarioKind;
+use nm_reading::reader::{Names, fault_here};
 use nm_reading::words::{is_word, item_count, natural_in};
+use nm_reading::{ReadError, ScenarioKind};
 use serde_json::Value;
 use std::alloc::Global;
 
@@ -84,7 +85,7 @@ pub fn samples_are_exact()
     ensures { (whole : Data) → IsExact sample_form whole }
 {}
 
-/// A law: the place of each fault leads to a part of the value, or to where a part is missing.
+/// A law: the place of each fault leads to a part of the value, or is that of a missing member.
 pub fn sample_places_are_parts()
     ensures { (whole : Data) (cause : Cause) (place : List Step) → IsWrong sample_form whole cause place → IsPlace cause.kind place whole }
 {}

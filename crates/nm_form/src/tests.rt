@@ -1,11 +1,12 @@
-use crate::reader::{fault_told, seen_from_outside};
+use crate::reader::fault_told;
 use crate::sample::{
     Sample, SampleEdit, SampleEvent, events_are_kept, read_sample, sample_places_are_parts,
     samples_are_exact,
 };
-use crate::{Above, Cause, Fault, Inner, InnerPlace, Number, ReadError, Reader, Switch, Text};
+use crate::{Above, Number, Reader, Switch, Text};
 use nm_base::Label;
-use nm_reading::{ScenarioKind, Step, write_place};
+use nm_reading::reader::seen_from_outside;
+use nm_reading::{Cause, Fault, Inner, InnerPlace, ReadError, ScenarioKind, Step, write_place};
 use serde_json::Value;
 use std::alloc::{AllocError, Global};
 use std::test::Fail;

@@ -3,13 +3,13 @@
 ghost use Rattle.std.specs.Prelude.{◌≡◌, ℕ, Bool, Some, None};
 ghost use Rattle.serde_json.specs.Find.{at, as_array};
 ghost use Rattle.serde_json.specs.View.{view, items_view};
-ghost use Rattle.nm_reading.specs.Reading.{count_of};
+ghost use Rattle.nm_reading.specs.Reading.{count_of, Gives, under};
 ghost use Rattle.nm_form.specs.Says.{takes};
-ghost use Rattle.nm_form.specs.Read.{Gives, read, under, slot_read, takes_read, line_read};
+ghost use Rattle.nm_form.specs.Read.{read, slot_read, takes_read, line_read};
 
-use crate::fault::ReadError;
-use crate::reader::{Reader, fault_at, fault_here, seen_from_outside};
-use nm_reading::{ScenarioKind, Step};
+use crate::reader::Reader;
+use nm_reading::reader::{fault_at, fault_here, seen_from_outside};
+use nm_reading::{ReadError, ScenarioKind, Step};
 use serde_json::Value;
 use std::alloc::Global;
 

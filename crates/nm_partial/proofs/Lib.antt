@@ -1,3 +1,4 @@
 pub mod Numbered
 pub mod Failing
 pub mod Changed
+pub mod Guards

@@ -1,9 +1,11 @@
 -- The partial locks of a device (RFC 5717 section 2.4): which session holds which nodes. The code changes its locks in
 -- place; these are plain lists, in the order of the lock-ids.
-use Rattle.std.specs.Prelude.{◌≡◌, ◌≢◌, ℕ, ◌+◌, ◌-◌, ◌^◌, ◌≤◌, ◌<◌, ◌==◌, Bool, true, not, ◌&&◌, ◌||◌, nat_le, List, [], ◌∷◌, ◌++◌, length, map, filter, find, Option, Some, None, if◌then◌else◌}
+use Rattle.std.specs.Prelude.{◌≡◌, ◌≢◌, ℕ, ◌+◌, ◌-◌, ◌^◌, ◌≤◌, ◌<◌, ◌==◌, Bool, true, not, ◌&&◌, ◌||◌, nat_le, List, [], ◌∷◌, ◌++◌, length, map, filter, find, Option, Some, None, Result, Ok, Err, if◌then◌else◌}
 use Rattle.std.specs.List.{list_any, All, AllPairs}
 use Rattle.std.specs.Option.{option_map}
 use Rattle.nm_proto.specs.Content.{Meaning}
+use Rattle.nm_partial.specs.declared.fault.GrantFault.{GrantFault}
+use Rattle.nm_partial.specs.declared.fault.GrantFault.TheVariants as grant
 
 -- a partial lock: its id, the session that holds it, and the nodes that it keeps, each with all below it
 -- (RFC 5717 section 2.4.1)
@@ -123,6 +125,14 @@ module _ {Config TheEdit Node : Type 0} (m : Meaning Config TheEdit Node) where
   -- each locked node exists in a configuration (this project's own)
   abbrev pub AllExist : Config → PartialState Node → Type 0
   AllExist config partials = All (λ lock. All (λ node. m.exists config node ≡ true) lock.nodes) partials.locks
+
+-- what is answered to who asks for a partial lock, where this session's lock overlaps and this is the next id: the id, or
+-- who denies it, or that none is left. Want of memory says nothing
+abbrev pub Grants : Result ℕ GrantFault → Option ℕ → Option ℕ → Type 0
+Grants (Ok id) owner next = (owner ≡ None) × (next ≡ Some id)
+Grants (Err (grant.Overlap who)) owner next = owner ≡ Some who
+Grants (Err grant.Full) owner next = (owner ≡ None) × (next ≡ None)
+Grants (Err grant.NoMemory) owner next = Unit {0}
 
 -- what is true of the partial locks of every device (this project's own)
 pub record IsNumbered {Node : Type 0} (partials : PartialState Node) : Type 0 where

@@ -1,6 +1,6 @@
 //! The partial locks that stand on a device, in the order of their ids.
 
-ghost use Rattle.std.specs.Prelude.{◌≡◌, ◌↔◌, ℕ, false, length, map, find, Some, None, Err, option_copied, IfOk, OnOk, OnErr};
+ghost use Rattle.std.specs.Prelude.{◌≡◌, ◌↔◌, ℕ, false, length, map, find, Some, None, Err, option_copied, OnOk, OnErr};
 ghost use Rattle.std.specs.Option.{option_map};
 ghost use Rattle.nm_partial.specs.Partial.{id_after, denies, without_absent};
 
@@ -42,7 +42,7 @@ impl<C: Content> Model for PartialLocks<C> {
 
 impl<C: Content> PartialLocks<C> {
     ghost use Rattle.nm_partial.specs.declared.fault.GrantFault.TheVariants as grant;
-    ghost use Rattle.nm_partial.specs.Partial.{no_partials, next_id, granted, holds, released, without_session, cleared, least_owner, overlap_with, guards, forgotten, IsNumbered};
+    ghost use Rattle.nm_partial.specs.Partial.{no_partials, next_id, granted, holds, released, without_session, cleared, least_owner, overlap_with, guards, forgotten, Grants, IsNumbered};
 
     /// No partial locks. It takes no memory.
     pub fn new(alloc: Global) -> PartialLocks<C>
@@ -69,7 +69,7 @@ impl<C: Content> PartialLocks<C> {
         ensures overlap { (owner : ℕ) →
             (result ≡ Err (grant.Overlap owner)) ↔ (overlap_with (C.meaning content.now) self.old session nodes.items ≡ Some owner) }
         ensures full { (result ≡ Err grant.Full) ↔ ((overlap_with (C.meaning content.now) self.old session nodes.items ≡ None) × (next_id self.old ≡ None)) }
-        ensures id { IfOk result (λ id. next_id self.old ≡ Some id) }
+        ensures answer { Grants result (overlap_with (C.meaning content.now) self.old session nodes.items) (next_id self.old) }
         ensures after { OnOk result (self.new ≡ granted self.old session nodes.items) }
         ensures unchanged { OnErr result (self.new ≡ self.old) }
     {

@@ -7,6 +7,7 @@ use Rattle.nm_proto.specs.declared.kind.ScenarioKind.{ScenarioKind}
 use Rattle.nm_proto.specs.declared.kind.ScenarioKind.TheVariants.{NotBuilt, Missing, Unknown, BadValue, TooMany}
 use Rattle.nm_reading.specs.declared.fault.Step.{Step}
 use Rattle.nm_reading.specs.declared.fault.Step.TheVariants.{Name, Item}
+use Rattle.nm_reading.specs.declared.fault.Cause.{Cause}
 use Rattle.nm_reading.specs.declared.fault.Fault.{Fault}
 use Rattle.nm_reading.specs.declared.fault.ReadError.{ReadError}
 use Rattle.nm_reading.specs.declared.fault.ReadError.TheVariants as error
@@ -22,18 +23,22 @@ Gives (Ok x) given = given ≡ Ok x
 Gives (Err (error.Bad fault)) given = given ≡ Err fault
 Gives (Err error.NoMemory) given = Unit {0}
 
+-- a kind that no lower reader told
+abbrev pub plain : ScenarioKind → Cause
+plain kind = record { kind = kind; inner = None }
+
 -- a fault of the part that is looked at
 abbrev pub here : {A : Type 0} → ScenarioKind → Result A Fault
-here kind = Err (record { kind = kind; place = [] })
+here kind = Err (record { cause = plain kind; place = [] })
 
 -- a fault of the part one step further in
 abbrev pub there : {A : Type 0} → ScenarioKind → Step → Result A Fault
-there kind step = Err (record { kind = kind; place = step ∷ [] })
+there kind step = Err (record { cause = plain kind; place = step ∷ [] })
 
 -- what was read one step further in, its fault seen from here
 abbrev pub under : {A : Type 0} → Step → Result A Fault → Result A Fault
 under step (Ok x) = Ok x
-under step (Err fault) = Err (record { kind = fault.kind; place = step ∷ fault.place })
+under step (Err fault) = Err (record { cause = fault.cause; place = step ∷ fault.place })
 
 -- a member that must be there
 abbrev pub required_from : {A : Type 0} → List ℕ → (Data → Result A Fault) → Option Data → Result A Fault

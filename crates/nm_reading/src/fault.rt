@@ -14,14 +14,38 @@ pub enum Step {
     Item(usize),
 }
 
-/// The first fault of a scenario: its kind and its place, the way from the whole to the faulty part.
+/// Where a lower reader found a fault inside the text that it was given.
+#[derive(Drop)]
+pub enum InnerPlace {
+    /// So many bytes from the text's beginning.
+    Byte(u64),
+    /// At a path of its own.
+    Path(Label),
+}
+
+/// What a lower reader told of a module's text, a configuration, an edit or a path.
+#[derive(Drop)]
+pub struct Inner {
+    /// The lower reader's own word for the fault.
+    pub what: Label,
+    pub place: InnerPlace,
+}
+
+/// Why a part is wrong: the kind of the fault, and what a lower reader told, where one found it.
+#[derive(Drop)]
+pub struct Cause {
+    pub kind: ScenarioKind,
+    pub inner: Option<Inner>,
+}
+
+/// The first fault of a part: its cause and its place, the way from the part to what is faulty in it.
 #[derive(Drop)]
 pub struct Fault {
-    pub kind: ScenarioKind,
+    pub cause: Cause,
     pub place: Listed<Step>,
 }
 
-/// Why a scenario isn't read.
+/// Why a part isn't read.
 #[derive(Drop)]
 pub enum ReadError {
     Bad(Fault),

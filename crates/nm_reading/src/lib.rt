@@ -11,7 +11,7 @@ pub mod reader;
 pub mod values;
 pub mod words;
 
-pub use fault::{Fault, ReadError, Step};
+pub use fault::{Cause, Fault, Inner, InnerPlace, ReadError, Step};
 pub use nm_proto::ScenarioKind;
 pub use pointer::write_place;
 

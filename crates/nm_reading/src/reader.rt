@@ -5,7 +5,7 @@ ghost use Rattle.nm_reading.specs.declared.fault.Fault.{Fault};
 ghost use Rattle.serde_json.specs.View.{items_view, members_view};
 ghost use Rattle.nm_reading.specs.Reading.{Gives, here, there, under, required, optional, list_at, items_after, within, only_known, object_at, first_unknown, none_unknown, count_of};
 
-use crate::fault::{Fault, ReadError, Step};
+use crate::fault::{Cause, Fault, ReadError, Step};
 use nm_base::Label;
 use nm_proto::{Listed, ScenarioKind};
 use serde_json::{Map, Value};
@@ -27,7 +27,7 @@ pub fn fault_here<T>(alloc: Global, kind: ScenarioKind) -> Result<T, ReadError>
     ensures { Gives result (here kind) }
 {
     Err(ReadError::Bad(Fault {
-        kind,
+        cause: Cause { kind, inner: None },
         place: Listed::new(alloc),
     }))
 }
@@ -38,7 +38,10 @@ pub fn fault_at<T>(alloc: Global, kind: ScenarioKind, step: Step) -> Result<T, R
 {
     let mut place = Listed::new(alloc);
     place.push(step)?;
-    Err(ReadError::Bad(Fault { kind, place }))
+    Err(ReadError::Bad(Fault {
+        cause: Cause { kind, inner: None },
+        place,
+    }))
 }
 
 /// The error, seen from one step further out.
@@ -54,7 +57,8 @@ pub fn seen_from_outside<T>(error: ReadError, step: Step) -> Result<T, ReadError
     }
 }
 
-fn named(alloc: Global, name: &str) -> Result<Step, ReadError>
+/// The step to a member of this name.
+pub fn named(alloc: Global, name: &str) -> Result<Step, ReadError>
     ensures { Gives result (Ok (Step.Name name.now)) }
 {
     Ok(Step::Name(Label::new(alloc, name)?))
@@ -91,7 +95,8 @@ pub fn optional_member<R: Reader>(
     }
 }
 
-fn missing<T>(alloc: Global, name: &str) -> Result<T, ReadError>
+/// A fault of a member that has to be there.
+pub fn missing<T>(alloc: Global, name: &str) -> Result<T, ReadError>
     ensures { Gives result (there ScenarioKind.Missing (Step.Name name.now)) }
 {
     let step = named(alloc, name)?;

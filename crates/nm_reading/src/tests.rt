@@ -8,7 +8,7 @@ use crate::reader::{
 };
 use crate::values::{EmptyList, NumberWithin, Off, Switch, Unbuilt, at_least_one};
 use crate::words::{argument, counted, is_word, item_count, natural_in, read_begun, read_part};
-use crate::{Fault, ReadError, ScenarioKind, Step, write_place};
+use crate::{Cause, Fault, ReadError, ScenarioKind, Step, write_place};
 use nm_base::{NoMemory, write_decimal};
 use nm_proto::Listed;
 use serde_json::Value;
@@ -17,7 +17,7 @@ use std::test::Fail;
 
 // A fault as `bad-value /changes/0`; the place of the whole is `/`.
 fn fault_text(alloc: Global, fault: &Fault) -> Result<Vec<u8>, NoMemory> {
-    let mut text = Vec::from_slice(alloc, fault.kind.word().as_bytes())?;
+    let mut text = Vec::from_slice(alloc, fault.cause.kind.word().as_bytes())?;
     text.push(b' ')?;
     write_place(alloc, &mut text, fault.place.as_slice())?;
     Ok(text)
@@ -198,7 +198,10 @@ fn switches_are_told(rt: HostRuntime) -> Result<(), Fail> {
 #[test]
 fn places_grow_outwards(rt: HostRuntime) -> Result<(), Fail> {
     let fault = Fault {
-        kind: ScenarioKind::BadValue,
+        cause: Cause {
+            kind: ScenarioKind::BadValue,
+            inner: None,
+        },
         place: Listed::new(rt.alloc()),
     };
     let seen = seen_from_outside(ReadError::Bad(fault), Step::Item(4));

@@ -12,18 +12,18 @@ use Rattle.nm_reading.specs.declared.fault.Step.TheVariants.{Name, Item}
 use Rattle.nm_reading.specs.declared.fault.Fault.{Fault}
 use Rattle.nm_reading.specs.Reading.{here, under, required_from, required, optional, object_at, only_known, list_at, natural_of, in_range, number_within, some_of}
 use Rattle.nm_events.specs.Limits.{change_limit, device_limit}
-use Rattle.nm_events.specs.Requests.{default_of, default_at}
+use Rattle.nm_form.specs.Read.{read, told}
+use Rattle.nm_events.specs.Arguments.{operation_of, operation_said, operation}
 use Rattle.nm_scenario.specs.declared.scenario.ReadChange.{ReadChange}
 use Rattle.nm_scenario.specs.declared.scenario.ReadEdit.{ReadEdit}
 use Rattle.nm_scenario.specs.Changes.{knows_change, knows_edit, device_of, last_device, device_within, edit_at, entry_at, entries_at, change_at, changes_read_at}
 use Rattle.nm_refusals.specs.Roles as role
-use Rattle.nm_refusals.specs.Roles.{Role}
 use Rattle.nm_refusals.specs.Members as must
 use Rattle.nm_refusals.specs.Steps as step
-use Rattle.nm_refusals.specs.Steps.{Below, number_in, device_of_item, lowest_at}
+use Rattle.nm_refusals.specs.Steps.{number_in, device_of_item, lowest_at}
 use Rattle.nm_refusals.specs.Wrong.{says, is_unbuilt_operation, no_operation, unbuilt_operation, unbuilt_change}
 use Rattle.nm_refusals.specs.Told.{Told}
-use Rattle.nm_refusals.proofs.Sound.{IsSound, is_read, then_so, by_test, both}
+use Rattle.nm_refusals.proofs.Sound.{IsSound, is_read, then_so, by_told, both}
 use Rattle.nm_refusals.proofs.Parts.{wrong, under_so, object_is, object_so, required_so, optional_so, known_so, list_so, list_read, some_so, number_so, in_range_so}
 use Rattle.nm_refusals.proofs.Flats.{edit_so}
 
@@ -32,18 +32,18 @@ use Rattle.nm_refusals.proofs.Flats.{edit_so}
 says_is : (part : Data) (text : Option (List ℕ)) (word : List ℕ) → as_str part ≡ text → says part word ≡ bytes_eq (unwrap_or text []) word
 says_is part text word e = ap (λ t. bytes_eq (unwrap_or t []) word) e
 
-operation_or : (part : Data) (word : Option (List ℕ)) → as_str part ≡ word → IsSound (Told role.operation part) (default_of word)
+operation_or : (part : Data) (word : Option (List ℕ)) → as_str part ≡ word → IsSound (Told role.operation part) (told (operation_of word))
 operation_or part None e =
     wrong kind.BadValue (no_operation (says_is part None (codes "merge") e) (ap (λ t. bytes_eq (unwrap_or t []) (codes "replace") || bytes_eq (unwrap_or t []) (codes "none")) e))
 operation_or part (Some word) e =
     let unbuilt : is_unbuilt_operation part ≡ (bytes_eq word (codes "replace") || bytes_eq word (codes "none")) = ap (λ t. bytes_eq (unwrap_or t []) (codes "replace") || bytes_eq (unwrap_or t []) (codes "none")) e in
-    by_test (bytes_eq word (codes "merge")) (Ok Merge) (if bytes_eq word (codes "replace") || bytes_eq word (codes "none") then here kind.NotBuilt else here kind.BadValue) (λ hold. is_read Merge)
-    (λ fail. by_test (bytes_eq word (codes "replace") || bytes_eq word (codes "none")) (here kind.NotBuilt) (here kind.BadValue)
+    by_told (bytes_eq word (codes "merge")) _ _ (λ hold. is_read Merge)
+    (λ fail. by_told (bytes_eq word (codes "replace") || bytes_eq word (codes "none")) _ _
     (λ hold. wrong kind.NotBuilt (unbuilt_operation (unbuilt ∙ hold)))
     (λ neither. wrong kind.BadValue (no_operation (says_is part (Some word) (codes "merge") e ∙ fail) (unbuilt ∙ neither))))
 
-pub operation_so : (part : Data) → IsSound (Told role.operation part) (default_at part)
-unfolding default_at
+pub operation_so : (part : Data) → IsSound (Told role.operation part) (read operation part)
+unfolding operation_said
 operation_so part = operation_or part (as_str part) refl
 
 -- ---- the device of an edit
@@ -82,8 +82,8 @@ entry_so states before low part is =
     (λ u o. then_so (required (codes "device") (device_within (last_device before + 1) (length states)) part) _
     (subst (λ n. IsSound (Told (role.entry states low) part) (required (codes "device") (device_within n (length states)) part)) (sym is)
     (required_so (role.entry states low) part (codes "device") (role.number low (min (length states) device_limit)) (device_within low (length states)) (object_is part u o) must.device_of step.device_of (λ child e. device_so low (length states) child)))
-    (λ d e. then_so (optional (codes "default") Merge default_at part) _ (optional_so (role.entry states low) part (codes "default") role.operation Merge default_at step.operation_of (λ child f. operation_so child))
-    (λ operation f. then_so (required (codes "edit") (edit_at (slice_get states (d - 1))) part) _
+    (λ d e. then_so (optional (codes "default") Merge (read operation) part) _ (optional_so (role.entry states low) part (codes "default") role.operation Merge (read operation) step.operation_of (λ child f. operation_so child))
+    (λ default f. then_so (required (codes "edit") (edit_at (slice_get states (d - 1))) part) _
     (required_so (role.entry states low) part (codes "edit") (role.change_edit (slice_get states (d - 1))) (edit_at (slice_get states (d - 1))) (object_is part u o) must.edit_of
     (step.edit_of d (device_found (last_device before + 1) (length states) (get (codes "device") part) d e)) (λ child g. edit_so (slice_get states (d - 1)) child))
     (λ edit g. then_so (only_known knows_edit part) _ (known_so (role.entry states low) part (object_is part u o)) (λ k h. is_read _)))))
@@ -94,7 +94,7 @@ unfolding entry_at
 entry_device states before part x e =
     let b = both (object_at part) _ x e in
     let c = both (required (codes "device") (device_within (last_device before + 1) (length states)) part) _ x b.rest in
-    let d = both (optional (codes "default") Merge default_at part) _ x c.rest in
+    let d = both (optional (codes "default") Merge (read operation) part) _ x c.rest in
     let f = both (required (codes "edit") (edit_at (slice_get states (c.value - 1))) part) _ x d.rest in
     let g = both (only_known knows_edit part) _ x f.rest in
     let found : number_in (codes "device") part ≡ Some c.value = device_found (last_device before + 1) (length states) (get (codes "device") part) c.value c.first in

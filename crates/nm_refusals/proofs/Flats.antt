@@ -1,10 +1,11 @@
 -- What is told of flat configurations and edits, and of data of modules.
-use Rattle.std.proofs.Common.{◌≡◌, ℕ, Bool, true, false, cond, Option, Some, None, Result, Ok, Err, refl, ap}
+use Rattle.std.proofs.Common.{◌≡◌, ℕ, Bool, true, false, cond, Option, Some, None, Result, Ok, Err, refl, ap, ◌∙◌}
 use Rattle.std.specs.Prelude.{if◌then◌else◌, nat_lt, ◌&&◌, is_some}
 use Rattle.std.specs.Ordering.{nat_cmp}
 use Rattle.std.specs.FinMap.{FinMap, insert, empty, len}
 use Rattle.std.proofs.lemmas.Bool.{ltb-true}
 use Rattle.serde_json.specs.Data.{Data, null, boolean, number, string, array, object, Members, no_members, member}
+use Rattle.serde_json.specs.Find.{as_object}
 use Rattle.nm_proto.specs.Content.{Refusal}
 use Rattle.nm_proto.specs.Flat.{FlatState, flat_violation}
 use Rattle.nm_tree.specs.Nodes.{SchemaTree}
@@ -17,13 +18,14 @@ use Rattle.nm_json.specs.Whole.{config_read, answered, least_of, faults_found, r
 use Rattle.nm_proto.specs.declared.kind.ScenarioKind.TheVariants as kind
 use Rattle.nm_reading.specs.declared.fault.Fault.{Fault}
 use Rattle.nm_reading.specs.Reading.{◌>>=◌, here, natural_of}
-use Rattle.nm_scenario.specs.Flat.{row_limit, node_limit, key_of, or_unread, member_count, cells_after, cells_at, change_of, changes_after, changes_at, flat_edit_at}
+use Rattle.nm_form.specs.Read.{read, told}
+use Rattle.nm_scenario.specs.Flat.{row_limit, node_limit, key_of, or_unread, member_count, cells_after, cells_at, is_change, all_members, flat_edit_of, flat_edit_said, flat_edit}
 use Rattle.nm_scenario.specs.Devices.{valid_only, running_at, rows_from, data_at}
 use Rattle.nm_scenario.specs.Changes.{goes_through, edit_at}
 use Rattle.nm_refusals.specs.Roles.{Role, running, cells, data_of, change_edit}
-use Rattle.nm_refusals.specs.Wrong.{Wrong, is_flat_edit_role, is_cell, is_change, all_members, unmarked, too_many_cells, too_many_nodes, no_cells, no_edit, no_data, too_many_rows, invalid, unbuilt_result}
+use Rattle.nm_refusals.specs.Wrong.{Wrong, is_cell, are_all, unmarked, too_many_cells, too_many_nodes, no_cells, no_edit, no_data, too_many_rows, invalid, unbuilt_result}
 use Rattle.nm_refusals.specs.Told.{Told}
-use Rattle.nm_refusals.proofs.Sound.{IsSound, is_read, then_so, by_test}
+use Rattle.nm_refusals.proofs.Sound.{IsSound, is_read, then_so, by_test, by_told}
 use Rattle.nm_refusals.proofs.Parts.{wrong}
 
 -- ---- cells
@@ -72,33 +74,21 @@ running_so part =
 
 -- ---- edits
 
-changes_so : (r : Role) (part : Data) (found : FinMap nat_cmp (Option ℕ)) (members : Members) → (all_members is_change members ≡ false → Wrong r kind.Content part) → IsSound (Told r part) (changes_after found members)
-changes_so r part found no_members w = is_read found
-changes_so r part found (member name value rest) w =
-    unread_so (key_of name) (λ key. or_unread (change_of value) >>= λ v. changes_after (insert found key v) rest)
-    (λ e. w (and_false (is_change name value) (all_members is_change rest) (and_false (is_some (key_of name)) (is_some (change_of value)) (ap is_some e))))
-    (λ key k. unread_so (change_of value) (λ v. changes_after (insert found key v) rest)
-    (λ e. w (and_false (is_change name value) (all_members is_change rest) (false_and (is_some (key_of name)) (is_some (change_of value)) (ap is_some e))))
-    (λ v n. changes_so r part (insert found key v) rest (λ e. w (false_and (is_change name value) (all_members is_change rest) e))))
+members_so : (state : Option FlatState) (part : Data) (members : Option Members) → as_object part ≡ members
+    → IsSound (Told (change_edit state) part) (told (flat_edit_of members))
+members_so state part None e = wrong kind.Content (no_edit (ap (are_all is_change) e))
+members_so state part (Some m) e =
+    by_told (nat_lt node_limit (member_count m)) _ _ (λ many. wrong kind.TooMany (too_many_nodes m e (ltb-true node_limit (member_count m) many)))
+    (λ few. by_told (all_members is_change m) _ _ (λ all. is_read _) (λ some. wrong kind.Content (no_edit (ap (are_all is_change) e ∙ some))))
 
-all_changes_so : (r : Role) (part : Data) → is_flat_edit_role r ≡ true → IsSound (Told r part) (changes_at part)
-all_changes_so r (object m) is =
-    by_test (nat_lt node_limit (member_count m)) (here kind.TooMany) (changes_after empty m) (λ many. wrong kind.TooMany (too_many_nodes m is refl (ltb-true node_limit (member_count m) many)))
-    (λ few. changes_so r (object m) empty m (λ e. no_edit is e))
-all_changes_so r null is = wrong kind.Content (no_edit is refl)
-all_changes_so r (boolean b) is = wrong kind.Content (no_edit is refl)
-all_changes_so r (number n) is = wrong kind.Content (no_edit is refl)
-all_changes_so r (string text) is = wrong kind.Content (no_edit is refl)
-all_changes_so r (array items) is = wrong kind.Content (no_edit is refl)
-
-pub flat_edit_so : (r : Role) (part : Data) → is_flat_edit_role r ≡ true → IsSound (Told r part) (flat_edit_at part)
-unfolding flat_edit_at
-flat_edit_so r part is = then_so (changes_at part) (λ changes. Ok (record { changes = changes })) (all_changes_so r part is) (λ changes e. is_read (record { changes = changes }))
+pub flat_edit_so : (state : Option FlatState) (part : Data) → IsSound (Told (change_edit state) part) (read flat_edit part)
+unfolding flat_edit_said
+flat_edit_so state part = members_so state part (as_object part) refl
 
 pub edit_so : (state : Option FlatState) (part : Data) → IsSound (Told (change_edit state) part) (edit_at state part)
 unfolding edit_at
 edit_so state part =
-    then_so (flat_edit_at part) (λ e. if goes_through state e then Ok e else here kind.NotBuilt) (flat_edit_so (change_edit state) part refl)
+    then_so (read flat_edit part) (λ e. if goes_through state e then Ok e else here kind.NotBuilt) (flat_edit_so state part)
     (λ e is. by_test (goes_through state e) (Ok e) (here kind.NotBuilt) (λ hold. is_read e) (λ fail. wrong kind.NotBuilt (unbuilt_result e is fail)))
 
 -- ---- data

@@ -31,7 +31,7 @@ test_good false x y hold fail = fail refl
 
 pub under_good : {A : Type 0} {Q : A → Type 0} (step : Step) (read : Result A Fault) → IsGood Q read → IsGood Q (under step read)
 under_good step (Ok x) g = g
-under_good step (Err fault) g = no_good (record { kind = fault.kind; place = step ∷ fault.place })
+under_good step (Err fault) g = no_good (record { cause = fault.cause; place = step ∷ fault.place })
 
 from_good : {A : Type 0} {Q : A → Type 0} (name : List ℕ) (read : Data → Result A Fault) → ((child : Data) → IsGood Q (read child)) → (found : Option Data) → IsGood Q (required_from name read found)
 from_good name read g None = no_good _

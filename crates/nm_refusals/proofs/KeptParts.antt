@@ -1,6 +1,6 @@
 -- What holds of the configurations, the change sets and the operators that are read.
 use Rattle.std.proofs.Common.{◌≡◌, ℕ, ◌+◌, ◌-◌, ◌^◌, ◌≤◌, List, [], ◌∷◌, ◌++◌, length, map, Bool, true, false, cond, min, Option, Some, None, Result, Ok, Err, codes, refl, ap, sym, subst, ◌∙◌, arith}
-use Rattle.std.specs.Prelude.{if◌then◌else◌, ◌&&◌, nat_lt, nat_le, not, slice_get}
+use Rattle.std.specs.Prelude.{if◌then◌else◌, ◌&&◌, nat_lt, nat_le, not, slice_get, unwrap_or}
 use Rattle.std.specs.Str.{bytes_eq}
 use Rattle.std.specs.List.{All}
 use Rattle.std.specs.Ordering.{nat_cmp}
@@ -10,7 +10,7 @@ use Rattle.std.proofs.lemmas.Bool.Decides.{nat_tests}
 use Rattle.std.proofs.lemmas.Cmp.{nat_cmp_total}
 use Rattle.std.proofs.lemmas.List.Elements.{All-nil, All-cons, All-append, All-head, All-tail}
 use Rattle.serde_json.specs.Data.{Data, null, boolean, number, string, array, object, Members, no_members, member}
-use Rattle.serde_json.specs.Find.{as_str}
+use Rattle.serde_json.specs.Find.{as_str, as_object}
 use Rattle.nm_base.specs.Words.{default_timeout, manager}
 use Rattle.nm_proto.specs.declared.message.DefaultOperation.TheVariants.{Merge}
 use Rattle.nm_proto.specs.Content.{Refusal}
@@ -23,18 +23,22 @@ use Rattle.nm_json.specs.declared.fault.JsonFault.TheVariants.{NotJson, Bad, Too
 use Rattle.nm_json.specs.Findings.{whole_found}
 use Rattle.nm_json.specs.Whole.{config_read, answered, least_of, faults_found, rows_of}
 use Rattle.nm_proto.specs.declared.kind.ScenarioKind.TheVariants as kind
+use Rattle.nm_reading.specs.declared.fault.Cause.{Cause}
 use Rattle.nm_reading.specs.declared.fault.Fault.{Fault}
-use Rattle.nm_reading.specs.Reading.{◌>>=◌, here, required, optional, object_at, only_known, list_at, natural_of, in_range, number_within, some_of, empty_list_at}
+use Rattle.nm_reading.specs.Reading.{◌>>=◌, here, plain, required, optional, object_at, only_known, list_at, natural_of, in_range, number_within, some_of, empty_list_at}
 use Rattle.nm_events.specs.Limits.{device_limit, change_limit, operator_limit}
-use Rattle.nm_events.specs.Requests.{default_at}
+use Rattle.nm_form.specs.Read.{read, told}
+use Rattle.nm_form.specs.Kept.{Holds, OfResult}
+use Rattle.nm_events.specs.Arguments.{operation}
+use Rattle.nm_events.specs.Kept.{IsWithin}
 use Rattle.nm_scenario.specs.declared.scenario.ReadChange.{ReadChange}
 use Rattle.nm_scenario.specs.declared.scenario.ReadEdit.{ReadEdit}
-use Rattle.nm_scenario.specs.Flat.{row_limit, node_limit, key_of, or_unread, member_count, cells_after, cells_at, change_of, changes_after, changes_at, flat_edit_at}
+use Rattle.nm_scenario.specs.Flat.{row_limit, node_limit, key_of, or_unread, member_count, cells_after, cells_at, change_of, is_change, all_members, changes_after, flat_edit_of, flat_edit_said, flat_edit}
 use Rattle.nm_scenario.specs.Devices.{knows_device, valid_only, running_at, device_at, devices_at, rows_from, data_at, yang_device_at, yang_devices_at}
 use Rattle.nm_scenario.specs.Changes.{knows_change, knows_edit, device_of, last_device, device_within, goes_through, edit_at, entry_at, entries_at, change_at, changes_read_at, planned_from, plans_from, edits_of}
 use Rattle.nm_scenario.specs.Operators.{knows_operator, user_limit, user_of, user_at, operator_at, built_beside, operators_at}
 use Rattle.nm_refusals.specs.Wrong.{unmarked}
-use Rattle.nm_refusals.specs.Kept.{IsWithin, StateKeeps, EditKeeps, RowsKeep, Ascend, device_of_plan, ChangeKeeps, UserKeeps}
+use Rattle.nm_refusals.specs.Kept.{StateKeeps, EditKeeps, RowsKeep, Ascend, device_of_plan, ChangeKeeps, UserKeeps}
 use Rattle.nm_refusals.proofs.Parts.{Listed, list_read}
 use Rattle.nm_refusals.proofs.Good.{IsGood, good, no_good, then_good, test_good, required_good, optional_good, list_good, each_good, some_good}
 
@@ -111,36 +115,47 @@ pub devices_good : (part : Data) → IsGood (DevicesKeep StateKeeps) (devices_at
 unfolding devices_at
 devices_good part = then_good (list_at device_limit device_at part) some_of (λ xs e. listed_good StateKeeps device_at device_good part xs e)
 
-changes_good : (found : FinMap nat_cmp (Option ℕ)) (members : Members) → IsGood (λ changes. len changes ≤ len found + member_count members) (changes_after found members)
-changes_good found no_members = good (λ changes. len changes ≤ len found + 0) found (omega arith)
-changes_good found (member name part rest) =
-    read_good (key_of name) (λ key. or_unread (change_of part) >>= λ v. changes_after (insert found key v) rest)
-    (λ key. read_good (change_of part) (λ v. changes_after (insert found key v) rest)
-    (λ v. let g : IsGood (λ changes. len changes ≤ len (insert found key v) + member_count rest) (changes_after (insert found key v) rest) = changes_good (insert found key v) rest in
-    record { so = λ changes e. omega (arith, g.so changes e, insert_len found key v) }))
+changes_small : (found : FinMap nat_cmp (Option ℕ)) (members : Members) → len (changes_after found members) ≤ len found + member_count members
+changes_small found no_members = omega arith
+changes_small found (member name part rest) =
+    omega (
+      arith,
+      changes_small (insert found (unwrap_or (key_of name) 0) (unwrap_or (change_of part) None)) rest,
+      insert_len found (unwrap_or (key_of name) 0) (unwrap_or (change_of part) None),
+    )
 
-all_changes_good : (part : Data) → IsGood (λ changes. len changes ≤ node_limit) (changes_at part)
-all_changes_good (object m) =
-    test_good (nat_lt node_limit (member_count m)) (here kind.TooMany) (changes_after empty m) (λ many. no_good _)
-    (λ few. let g : IsGood (λ changes. len changes ≤ len (empty {X = Option ℕ} {R = nat_cmp}) + member_count m) (changes_after empty m) = changes_good empty m in
-    record { so = λ changes e. omega (arith, g.so changes e, len-empty nat_cmp (Option ℕ), ltb-false node_limit (member_count m) few) })
-all_changes_good null = no_good _
-all_changes_good (boolean b) = no_good _
-all_changes_good (number n) = no_good _
-all_changes_good (string text) = no_good _
-all_changes_good (array items) = no_good _
+tested_edit : (members : Members) (many all : Bool) → nat_lt node_limit (member_count members) ≡ many
+    → OfResult EditKeeps (cond many (Err (plain kind.TooMany)) (cond all (Ok (record { changes = changes_after empty members })) (Err (plain kind.Content))))
+tested_edit members true all e = tt
+tested_edit members false false e = tt
+tested_edit members false true e =
+    omega (arith, changes_small empty members, len-empty nat_cmp (Option ℕ), ltb-false node_limit (member_count members) e)
 
-pub flat_edit_good : (part : Data) → IsGood EditKeeps (flat_edit_at part)
-unfolding flat_edit_at
-flat_edit_good part =
-    then_good (changes_at part) _
-    (λ changes e. good EditKeeps (record { changes = changes }) (let g : IsGood (λ m. len m ≤ node_limit) (changes_at part) = all_changes_good part in g.so changes e))
+edit_small : (members : Option Members) → OfResult EditKeeps (flat_edit_of members)
+edit_small None = tt
+edit_small (Some m) = tested_edit m (nat_lt node_limit (member_count m)) (all_members is_change m) refl
+
+edit_kept : (part : Data) → OfResult EditKeeps (flat_edit_said part)
+unfolding flat_edit_said
+edit_kept part = edit_small (as_object part)
+
+-- a flat edit that can be said isn't too large
+pub flat_edits_hold : Holds flat_edit EditKeeps
+unfolding Holds
+flat_edits_hold = edit_kept
+
+told_good : {A : Type 0} (Q : A → Type 0) (r : Result A Cause) → OfResult Q r → IsGood Q (told r)
+told_good Q (Ok x) q = good Q x q
+told_good Q (Err cause) q = no_good _
+
+flat_edit_good : (part : Data) → IsGood EditKeeps (read flat_edit part)
+flat_edit_good part = told_good EditKeeps (flat_edit_said part) (edit_kept part)
 
 edit_good : (state : Option FlatState) (part : Data) → IsGood EditKeeps (edit_at state part)
 unfolding edit_at
 edit_good state part =
-    then_good (flat_edit_at part) _
-    (λ x e. test_good (goes_through state x) (Ok x) (here kind.NotBuilt) (λ hold. good EditKeeps x (let g : IsGood EditKeeps (flat_edit_at part) = flat_edit_good part in g.so x e)) (λ fail. no_good _))
+    then_good (read flat_edit part) _
+    (λ x e. test_good (goes_through state x) (Ok x) (here kind.NotBuilt) (λ hold. good EditKeeps x (let g : IsGood EditKeeps (read flat_edit part) = flat_edit_good part in g.so x e)) (λ fail. no_good _))
 
 -- ---- data
 
@@ -201,8 +216,8 @@ unfolding entry_at
 entry_good states before part =
     then_good (object_at part) _
     (λ u o. then_good (required (codes "device") (device_within (last_device before + 1) (length states)) part) _
-    (λ d e. then_good (optional (codes "default") Merge default_at part) _
-    (λ operation f. then_good (required (codes "edit") (edit_at (slice_get states (d - 1))) part) _
+    (λ d e. then_good (optional (codes "default") Merge (read operation) part) _
+    (λ default f. then_good (required (codes "edit") (edit_at (slice_get states (d - 1))) part) _
     (λ x g. then_good (only_known knows_edit part) _
     (λ k h. let in_device : IsGood (IsWithin (last_device before + 1) (length states)) (required (codes "device") (device_within (last_device before + 1) (length states)) part) =
     required_good (codes "device") (device_within (last_device before + 1) (length states)) part (device_within_good (last_device before + 1) (length states)) in

@@ -1,9 +1,10 @@
 -- What holds of whole scenarios that are read.
-use Rattle.std.proofs.Common.{◌≡◌, ℕ, ◌≤◌, List, [], length, false, Result, Ok, Err, codes, refl, sym, subst, arith}
+use Rattle.std.proofs.Common.{◌≡◌, ℕ, ◌≤◌, List, [], length, false, Result, Ok, Err, codes, refl, ap, sym, subst, ◌∙◌, arith}
 use Rattle.std.specs.List.{All}
 use Rattle.std.proofs.lemmas.List.Elements.{All-nil, All-append}
 use Rattle.std.proofs.lemmas.List.{length-map}
 use Rattle.serde_json.specs.Data.{Data}
+use Rattle.serde_json.specs.Find.{get}
 use Rattle.nm_proto.specs.declared.flat.FlatEdit.{FlatEdit}
 use Rattle.nm_proto.specs.Flat.{FlatState}
 use Rattle.nm_tree.specs.Nodes.{SchemaTree}
@@ -12,9 +13,15 @@ use Rattle.nm_flaws.specs.declared.fault.Fault.{Fault as SchemaFault}
 use Rattle.nm_flaws.specs.declared.fault.Fault.TheVariants.{Flawed, TooLarge}
 use Rattle.nm_proto.specs.declared.kind.ScenarioKind.TheVariants as kind
 use Rattle.nm_reading.specs.declared.fault.Fault.{Fault}
-use Rattle.nm_reading.specs.Reading.{here, required, optional, object_at, number_within, only_known, empty_list_at, off_at, switch_at, unbuilt_at}
+use Rattle.nm_reading.specs.Reading.{here, required, optional, object_at, number_within, only_known, empty_list_at, off_at, switch_at}
 use Rattle.nm_events.specs.Limits.{change_limit, operator_limit}
-use Rattle.nm_events.specs.Events.{events_at}
+use Rattle.nm_form.specs.Form.{Form as PartForm, not_built}
+use Rattle.nm_form.specs.Read.{read}
+use Rattle.nm_form.specs.Kept.{Holds}
+use Rattle.nm_form.proofs.Keeping.{always}
+use Rattle.nm_events.specs.declared.arguments.Counts.{Counts}
+use Rattle.nm_events.specs.Events.{events_form}
+use Rattle.nm_events.specs.Kept.{EventKeeps, EventsKeep}
 use Rattle.nm_events.specs.Numbered.{events_from, edits_of_events}
 use Rattle.nm_scenario.specs.declared.head.Head.{Head}
 use Rattle.nm_scenario.specs.declared.head.Head.TheVariants as head
@@ -24,55 +31,70 @@ use Rattle.nm_scenario.specs.declared.rest.Rest.{Rest}
 use Rattle.nm_scenario.specs.declared.scenario.Scenario.{Scenario}
 use Rattle.nm_scenario.specs.declared.scenario.ReadChange.{ReadChange}
 use Rattle.nm_scenario.specs.Head.{module_limit, module_at, modules_at, texts_of, yang_head_at, head_in, head_at, form_at, flat_head_at}
-use Rattle.nm_scenario.specs.Flat.{flat_edit_at}
+use Rattle.nm_scenario.specs.Flat.{flat_edit}
 use Rattle.nm_scenario.specs.Devices.{devices_at, yang_devices_at}
 use Rattle.nm_scenario.specs.Changes.{changes_read_at, edits_of}
 use Rattle.nm_scenario.specs.Operators.{operators_at}
+use Rattle.nm_scenario.specs.Counts.{count_in, counts_of}
 use Rattle.nm_scenario.specs.Scenario.{knows_scenario, rest_at, flat_scenario, flat_scenario_at, yang_scenario, yang_rest_at, yang_scenario_at, ReadsFrom, Reads, flat_whole_at, whole_of, ReadsWhole, ReadsBytes, flat_scenario_of}
-use Rattle.nm_refusals.specs.Kept.{StateKeeps, EditKeeps, RowsKeep, ChangeKeeps, EventKeeps, UserKeeps, ScenarioKeeps}
+use Rattle.nm_refusals.specs.Kept.{StateKeeps, EditKeeps, RowsKeep, ChangeKeeps, UserKeeps, ScenarioKeeps, counts_in}
 use Rattle.nm_refusals.proofs.Parts.{Listed, list_read}
 use Rattle.nm_refusals.proofs.Good.{IsGood, good, no_good, then_good, required_good, optional_good}
-use Rattle.nm_refusals.proofs.KeptParts.{ReadKeeps, DevicesKeep, devices_good, yang_devices_good, changes_read_good, plans_keep, plans_length, edits_keep, operators_good, flat_edit_good}
-use Rattle.nm_refusals.proofs.KeptEvents.{EventsKeep, no_events, events_good, numbered_all, numbered_total}
+use Rattle.nm_refusals.proofs.KeptParts.{ReadKeeps, DevicesKeep, devices_good, yang_devices_good, changes_read_good, plans_keep, plans_length, edits_keep, operators_good, flat_edits_hold}
+use Rattle.nm_refusals.proofs.KeptEvents.{EventsAre, no_events, events_good, numbered_all, numbered_total}
+use Rattle.nm_refusals.proofs.Rests.{operators_read, count_required, count_optional}
+use Rattle.nm_refusals.proofs.Wholes.{devices_count, changes_count, yang_devices_count, no_items}
 
 -- the members after the change sets
-pub record RestKeeps {E : Type 0} (Q : E → Type 0) (changes devices : ℕ) (rest : Rest E) : Type 0 where
+pub record RestKeeps {E : Type 0} (Q : E → Type 0) (c : Counts) (rest : Rest E) : Type 0 where
   pub count : length rest.operators ≤ operator_limit
   pub operators : All UserKeeps rest.operators
-  pub events : EventsKeep Q changes devices (length rest.operators) rest.events
+  pub operators_are : length rest.operators ≡ c.operators
+  pub events : EventsAre Q c rest.events
 
-rest_good : {E : Type 0} (Q : E → Type 0) (read : Data → Result E Fault) → ((child : Data) → IsGood Q (read child)) → (changes devices : ℕ) (whole : Data) → IsGood (RestKeeps Q changes devices) (rest_at read changes devices whole)
+rest_good : {E : Type 0} (edit : PartForm E) (Q : E → Type 0) → Holds edit Q → (whole : Data) → IsGood (RestKeeps Q (counts_of whole)) (rest_at edit whole)
 unfolding rest_at
-rest_good Q read s changes devices whole =
-    then_good (optional (codes "operators") [] (operators_at changes) whole) _
+rest_good edit Q holds whole =
+    then_good (optional (codes "operators") [] (operators_at (count_in (codes "changes") whole)) whole) _
     (λ users e. then_good (optional (codes "faults") tt (empty_list_at (here kind.NotBuilt)) whole) _
-    (λ faults f. then_good (optional (codes "events") [] (events_at read changes devices users) whole) _
+    (λ faults f. then_good (optional (codes "events") [] (read (events_form edit (counts_of whole))) whole) _
     (λ events g. then_good (optional (codes "drain") tt off_at whole) _
     (λ drain h. then_good (optional (codes "trace") false switch_at whole) _
     (λ trace i. then_good (only_known knows_scenario whole) _
-    (λ k j. let in_users : IsGood (λ us. All UserKeeps us × (length us ≤ operator_limit)) (optional (codes "operators") [] (operators_at changes) whole) =
-    optional_good (codes "operators") [] (operators_at changes) whole (All-nil UserKeeps, omega arith) (operators_good changes) in
-    let in_events : IsGood (EventsKeep Q changes devices (length users)) (optional (codes "events") [] (events_at read changes devices users) whole) =
-    optional_good (codes "events") [] (events_at read changes devices users) whole (no_events Q changes devices (length users)) (events_good Q read s changes devices users) in
+    (λ k j. let in_users : IsGood (λ us. All UserKeeps us × (length us ≤ operator_limit)) (optional (codes "operators") [] (operators_at (count_in (codes "changes") whole)) whole) =
+    optional_good (codes "operators") [] (operators_at (count_in (codes "changes") whole)) whole (All-nil UserKeeps, omega arith) (operators_good (count_in (codes "changes") whole)) in
+    let in_events : IsGood (EventsAre Q (counts_of whole)) (optional (codes "events") [] (read (events_form edit (counts_of whole))) whole) =
+    optional_good (codes "events") [] (read (events_form edit (counts_of whole))) whole (no_events Q (counts_of whole)) (events_good edit Q holds (counts_of whole)) in
     let is : All UserKeeps users × (length users ≤ operator_limit) = in_users.so users e in
-    good (RestKeeps Q changes devices) (record { operators = users; events = events; trace = trace }) (record { count = is.1; operators = is.0; events = in_events.so events g })))))))
+    let are : length users ≡ count_in (codes "operators") whole = count_optional (codes "operators") (operators_at (count_in (codes "changes") whole)) whole users
+    (λ part xs l. let listed : Listed part operator_limit xs = operators_read (count_in (codes "changes") whole) part xs l in listed.count) e in
+    good (RestKeeps Q (counts_of whole)) (record { operators = users; events = events; trace = trace })
+    (record { count = is.1; operators = is.0; operators_are = are; events = in_events.so events g })))))))
+
+abbrev counts : ℕ → ℕ → ℕ → Counts
+counts a b d = record { changes = a; devices = b; operators = d }
+
+counts_are : (a b d x y z : ℕ) → a ≡ x → b ≡ y → d ≡ z → counts a b d ≡ counts x y z
+counts_are a b d x y z e f g = ap (λ n. counts n b d) e ∙ (ap (λ n. counts x n d) f ∙ ap (λ n. counts x y n) g)
 
 -- ---- flat contents
 
-flat_keeps : (states : List FlatState) (changes : List ReadChange) (rest : Rest FlatEdit) → DevicesKeep StateKeeps states → All (ReadKeeps (length states)) changes → length changes ≤ change_limit
-    → RestKeeps EditKeeps (length changes) (length states) rest → ScenarioKeeps (flat_scenario states changes rest)
-flat_keeps states changes rest d c few r =
-    let events : EventsKeep EditKeeps (length changes) (length states) (length rest.operators) rest.events = r.events in
+flat_keeps : (c : Counts) (states : List FlatState) (changes : List ReadChange) (rest : Rest FlatEdit) → c ≡ counts_in (flat_scenario states changes rest)
+    → DevicesKeep StateKeeps states → All (ReadKeeps (length states)) changes → length changes ≤ change_limit → RestKeeps EditKeeps c rest
+    → ScenarioKeeps (flat_scenario states changes rest)
+flat_keeps c states changes rest are d k few r =
+    let events : EventsAre EditKeeps c rest.events = r.events in
+    let kept : EventsKeep c rest.events = events.keeps in
     record {
-      body = (d.all, All-append EditKeeps (edits_of changes) (edits_of_events rest.events) (edits_keep (length states) changes c) events.edits);
+      body = (d.all, All-append EditKeeps (edits_of changes) (edits_of_events rest.events) (edits_keep (length states) changes k) events.edits);
       devices = d.count;
       change_sets = omega (arith, few, plans_length 0 changes);
-      changes = plans_keep (length states) 0 changes c;
+      changes = plans_keep (length states) 0 changes k;
       operator_count = r.count;
       operators = r.operators;
-      event_count = omega (arith, events.weigh, numbered_total (length (edits_of changes)) rest.events);
-      events = subst (λ n. All (EventKeeps n (length states) (length rest.operators)) (events_from (length (edits_of changes)) rest.events)) (sym (plans_length 0 changes))
-          (numbered_all (length changes) (length states) (length rest.operators) (length (edits_of changes)) rest.events events.keep);
+      event_count = omega (arith, kept.weigh, numbered_total rest.operators (length (edits_of changes)) 0 rest.events);
+      events = subst (λ n. All (EventKeeps n) (events_from rest.operators (length (edits_of changes)) 0 rest.events)) are
+          (numbered_all c rest.operators (length (edits_of changes)) 0 rest.events kept.keep);
     }
 
 flat_good : (whole : Data) → IsGood ScenarioKeeps (flat_scenario_at whole)
@@ -81,24 +103,28 @@ flat_good whole =
     then_good (optional (codes "modules") tt (empty_list_at (here kind.BadValue)) whole) _
     (λ modules e. then_good (required (codes "devices") devices_at whole) _
     (λ states f. then_good (optional (codes "changes") [] (changes_read_at states) whole) _
-    (λ changes g. then_good (rest_at flat_edit_at (length changes) (length states) whole) _
+    (λ changes g. then_good (rest_at flat_edit whole) _
     (λ rest h. let in_states : IsGood (DevicesKeep StateKeeps) (required (codes "devices") devices_at whole) = required_good (codes "devices") devices_at whole devices_good in
     let in_changes : IsGood (λ cs. All (ReadKeeps (length states)) cs × (length cs ≤ change_limit)) (optional (codes "changes") [] (changes_read_at states) whole) =
     optional_good (codes "changes") [] (changes_read_at states) whole (All-nil (ReadKeeps (length states)), omega arith) (changes_read_good states) in
-    let in_rest : IsGood (RestKeeps EditKeeps (length changes) (length states)) (rest_at flat_edit_at (length changes) (length states) whole) =
-    rest_good EditKeeps flat_edit_at flat_edit_good (length changes) (length states) whole in
+    let in_rest : IsGood (RestKeeps EditKeeps (counts_of whole)) (rest_at flat_edit whole) = rest_good flat_edit EditKeeps flat_edits_hold whole in
     let is : All (ReadKeeps (length states)) changes × (length changes ≤ change_limit) = in_changes.so changes g in
-    good ScenarioKeeps (flat_scenario states changes rest) (flat_keeps states changes rest (in_states.so states f) is.0 is.1 (in_rest.so rest h))))))
+    let r : RestKeeps EditKeeps (counts_of whole) rest = in_rest.so rest h in
+    let are : counts_of whole ≡ counts_in (flat_scenario states changes rest) = counts_are _ _ _ _ _ _
+    (sym (plans_length 0 changes ∙ count_optional (codes "changes") (changes_read_at states) whole changes (changes_count states) g))
+    (sym (count_required (codes "devices") devices_at whole states devices_count f)) (sym r.operators_are) in
+    good ScenarioKeeps (flat_scenario states changes rest) (flat_keeps (counts_of whole) states changes rest are (in_states.so states f) is.0 is.1 r)))))
 
 -- ---- YANG contents
 
 abbrev AnyEdit : Unit {0} → Type 0
 AnyEdit edit = Unit {0}
 
-yang_keeps : (texts : List (List ℕ)) (tree : SchemaTree) (devices : List Rows) (rest : Rest (Unit {0})) → length texts ≤ module_limit → DevicesKeep RowsKeep devices → RestKeeps AnyEdit 0 (length devices) rest
-    → ScenarioKeeps (yang_scenario texts tree devices rest)
-yang_keeps texts tree devices rest few d r =
-    let events : EventsKeep AnyEdit 0 (length devices) (length rest.operators) rest.events = r.events in
+yang_keeps : (c : Counts) (texts : List (List ℕ)) (tree : SchemaTree) (devices : List Rows) (rest : Rest (Unit {0})) → c ≡ counts_in (yang_scenario texts tree devices rest)
+    → length texts ≤ module_limit → DevicesKeep RowsKeep devices → RestKeeps AnyEdit c rest → ScenarioKeeps (yang_scenario texts tree devices rest)
+yang_keeps c texts tree devices rest are few d r =
+    let events : EventsAre AnyEdit c rest.events = r.events in
+    let kept : EventsKeep c rest.events = events.keeps in
     record {
       body = (few, d.all);
       devices = d.count;
@@ -106,8 +132,8 @@ yang_keeps texts tree devices rest few d r =
       changes = All-nil (ChangeKeeps (length devices));
       operator_count = r.count;
       operators = r.operators;
-      event_count = omega (arith, events.weigh, numbered_total 0 rest.events);
-      events = numbered_all 0 (length devices) (length rest.operators) 0 rest.events events.keep;
+      event_count = omega (arith, kept.weigh, numbered_total rest.operators 0 0 rest.events);
+      events = subst (λ n. All (EventKeeps n) (events_from rest.operators 0 0 rest.events)) are (numbered_all c rest.operators 0 0 rest.events kept.keep);
     }
 
 yang_good : (tree : SchemaTree) (texts : List (List ℕ)) (whole : Data) → length texts ≤ module_limit → IsGood ScenarioKeeps (yang_rest_at tree texts whole)
@@ -115,10 +141,14 @@ unfolding yang_rest_at
 yang_good tree texts whole few =
     then_good (required (codes "devices") (yang_devices_at tree) whole) _
     (λ devices e. then_good (optional (codes "changes") tt (empty_list_at (here kind.NotBuilt)) whole) _
-    (λ changes f. then_good (rest_at unbuilt_at 0 (length devices) whole) _
+    (λ changes f. then_good (rest_at not_built whole) _
     (λ rest g. let in_devices : IsGood (DevicesKeep RowsKeep) (required (codes "devices") (yang_devices_at tree) whole) = required_good (codes "devices") (yang_devices_at tree) whole (yang_devices_good tree) in
-    let in_rest : IsGood (RestKeeps AnyEdit 0 (length devices)) (rest_at unbuilt_at 0 (length devices) whole) = rest_good AnyEdit unbuilt_at (λ child. record { so = λ x e. tt }) 0 (length devices) whole in
-    good ScenarioKeeps (yang_scenario texts tree devices rest) (yang_keeps texts tree devices rest few (in_devices.so devices e) (in_rest.so rest g)))))
+    let in_rest : IsGood (RestKeeps AnyEdit (counts_of whole)) (rest_at not_built whole) = rest_good not_built AnyEdit (always not_built AnyEdit (λ edit. tt)) whole in
+    let r : RestKeeps AnyEdit (counts_of whole) rest = in_rest.so rest g in
+    let are : counts_of whole ≡ counts_in (yang_scenario texts tree devices rest) = counts_are _ _ _ _ _ _
+    (no_items (get (codes "changes") whole) changes f)
+    (sym (count_required (codes "devices") (yang_devices_at tree) whole devices (yang_devices_count tree) e)) (sym r.operators_are) in
+    good ScenarioKeeps (yang_scenario texts tree devices rest) (yang_keeps (counts_of whole) texts tree devices rest are few (in_devices.so devices e) r))))
 
 given_good : (given : Result SchemaTree SchemaFault) (texts : List (List ℕ)) (whole : Data) → length texts ≤ module_limit → IsGood ScenarioKeeps (yang_scenario_at given texts whole)
 unfolding yang_scenario_at

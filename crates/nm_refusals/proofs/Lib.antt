@@ -3,7 +3,6 @@ pub mod Parts
 pub mod Flats
 pub mod Heads
 pub mod ChangeSets
-pub mod Requests
 pub mod Events
 pub mod Rests
 pub mod Wholes

@@ -20,7 +20,8 @@ use Rattle.nm_reading.specs.Words.{item_count}
 use Rattle.nm_events.specs.Events.{is_within}
 use Rattle.nm_refusals.specs.Roles.{Role, number, no_modules, nothing}
 use Rattle.nm_refusals.specs.Members.{knows, Requires}
-use Rattle.nm_refusals.specs.Steps.{stepped, Below}
+use Rattle.nm_form.specs.Places.{stepped}
+use Rattle.nm_refusals.specs.Steps.{Below}
 use Rattle.nm_refusals.specs.Wrong.{Wrong, is_object_role, is_list_role, needs_item, limit_of, no_object, no_list, no_item, no_number, some_module, too_many_items, unbuilt_list}
 use Rattle.nm_refusals.specs.Told.{AllAbove, Ascending, Lacks, Strange, Tells, missing, unknown, inside, Told}
 use Rattle.nm_refusals.specs.Told as tells
@@ -35,7 +36,7 @@ wrong k w = is_told _ _ (tells.here w)
 pub under_so : {A : Type 0} (r : Role) (whole : Data) (step : Step) (inner : Role) (child : Data) → Below r whole step inner → stepped step whole ≡ Some child → (read : Result A Fault) → IsSound (Told inner child) read
     → IsSound (Told r whole) (under step read)
 under_so r whole step inner child below there (Ok x) s = is_read x
-under_so r whole step inner child below there (Err fault) s = is_told (Told r whole) (record { kind = fault.kind; place = step ∷ fault.place }) (inside inner child below there (s.so fault refl))
+under_so r whole step inner child below there (Err fault) s = is_told (Told r whole) (record { cause = fault.cause; place = step ∷ fault.place }) (inside inner child below there (s.so fault refl))
 
 -- ---- objects
 

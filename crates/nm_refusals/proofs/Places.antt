@@ -1,25 +1,30 @@
 -- Where the places of faults lead.
-use Rattle.std.proofs.Common.{◌≡◌, ℕ, ◌<◌, List, [], ◌∷◌, length, Bool, true, false, Option, Some, None, option_and_then, Result, Ok, Err, codes, refl, ap, subst, ◌∙◌, arith}
+use Rattle.std.proofs.Common.{◌≡◌, inl, inr, cond, ℕ, zero, suc, ◌<◌, List, [], ◌∷◌, length, Bool, true, false, Option, Some, None, option_and_then, Result, Ok, Err, codes, refl, ap, subst, ◌∙◌, arith}
 use Rattle.std.proofs.lemmas.List.{length-map}
-use Rattle.std.specs.Prelude.{is_some}
-use Rattle.serde_json.specs.Data.{Data, null, boolean, number, string, array, object, Members}
-use Rattle.serde_json.specs.Find.{get, at, get_member, as_object}
+use Rattle.std.specs.Prelude.{is_some, nat_lt}
+use Rattle.serde_json.specs.Data.{Data, null, boolean, number, string, array, object, Items, no_items, item, Members}
+use Rattle.serde_json.specs.Find.{get, at, get_member, get_item, as_object}
+use Rattle.nm_proto.specs.declared.flat.FlatEdit.{FlatEdit}
 use Rattle.nm_proto.specs.declared.kind.ScenarioKind.{ScenarioKind}
 use Rattle.nm_proto.specs.declared.kind.ScenarioKind.TheVariants as kind
 use Rattle.nm_reading.specs.declared.fault.Step.{Step}
 use Rattle.nm_reading.specs.declared.fault.Step.TheVariants.{Name, Item}
 use Rattle.nm_reading.specs.declared.fault.Fault.{Fault}
-use Rattle.nm_reading.specs.Reading.{under, optional_from}
+use Rattle.nm_reading.specs.Reading.{under, optional_from, count_of, plain}
 use Rattle.nm_reading.specs.Words.{item_count}
 use Rattle.nm_scenario.specs.declared.head.ReadModule.{ReadModule}
 use Rattle.nm_scenario.specs.Head.{module_limit, module_at, modules_at, statement_of, statements_of}
-use Rattle.nm_refusals.specs.Roles.{Role}
-use Rattle.nm_refusals.specs.Steps.{stepped}
+use Rattle.nm_refusals.specs.Roles.{Role, Edits, flat_edits, no_edits}
+use Rattle.nm_form.specs.Form.{not_built}
+use Rattle.nm_form.proofs.InOrder.{leaf_in_order, unbuilt_in_order}
+use Rattle.nm_events.specs.declared.arguments.Counts.{Counts}
+use Rattle.nm_events.proofs.Order.{events_placed}
+use Rattle.nm_scenario.specs.Flat.{node_limit, member_count, is_change, all_members, flat_edit_of, flat_edit_said, flat_edit}
+use Rattle.nm_form.specs.Places.{stepped, walked, LacksMember, IsPlace, IsThere, InOrder}
 use Rattle.nm_refusals.specs.Wrong as wrong
 use Rattle.nm_refusals.specs.Wrong.{Wrong}
-use Rattle.nm_refusals.specs.Told.{Tells, here, missing, unknown, inside, TellsWhole, in_part, in_module, module_of_fault, walked, LacksMember}
+use Rattle.nm_refusals.specs.Told.{OfEvents, Tells, here, missing, unknown, in_events, inside, TellsWhole, in_part, in_module, module_of_fault}
 use Rattle.nm_refusals.proofs.Parts.{Listed, list_read}
-use Rattle.nm_refusals.proofs.Requests.{at_there}
 use Rattle.nm_refusals.proofs.Modules.{fault_in_module}
 
 get_in : (part : Data) (name : List ℕ) (members : Members) → as_object part ≡ Some members → get name part ≡ get_member name members
@@ -30,11 +35,59 @@ get_in (number n) name ms e = cc
 get_in (string text) name ms e = cc
 get_in (array items) name ms e = cc
 
+-- a list of enough items has an item at a place
+item_there : (items : Items) (n : ℕ) → n < count_of items → get_item n items ≡ None → ⊥
+item_there no_items n less e = omega arith
+item_there (item part rest) zero less e = cc
+item_there (item part rest) (suc n) less e = item_there rest n (omega arith) e
+
+at_there : (whole : Data) (n : ℕ) → n < item_count whole → at n whole ≡ None → ⊥
+at_there (array items) n less e = item_there items n less e
+at_there null n less e = omega arith
+at_there (boolean b) n less e = omega arith
+at_there (number m) n less e = omega arith
+at_there (string text) n less e = omega arith
+at_there (object m) n less e = omega arith
+
+-- ---- events
+
+tested_there : (a b : Bool) (x : FlatEdit) → IsThere (cond a (Err (plain kind.TooMany)) (cond b (Ok x) (Err (plain kind.Content))))
+tested_there true b x = λ e. cc
+tested_there false true x = tt
+tested_there false false x = λ e. cc
+
+edit_there : (o : Option Members) → IsThere (flat_edit_of o)
+edit_there None = λ e. cc
+edit_there (Some members) = tested_there (nat_lt node_limit (member_count members)) (all_members is_change members) _
+
+flat_edit_in_order : InOrder flat_edit
+unfolding flat_edit_said
+flat_edit_in_order = leaf_in_order _ (λ whole. edit_there (as_object whole))
+
+-- the first fault of events has a place
+events_placed_so : (edits : Edits) (counts : Counts) (part : Data) (fault : Fault) → OfEvents edits counts part fault
+    → IsPlace fault.cause.kind fault.place part
+events_placed_so flat_edits counts part fault is =
+    events_placed flat_edit flat_edit_in_order counts part fault.cause fault.place (is.spot, is.there)
+events_placed_so no_edits counts part fault is =
+    events_placed not_built (unbuilt_in_order (Unit {0})) counts part fault.cause fault.place (is.spot, is.there)
+
+first_there : (k : ScenarioKind) (place : List Step) (part : Data) → IsPlace k place part → (k ≡ kind.Missing → ⊥) → is_some (walked place part) ≡ true
+first_there k place part (inl is) known = is.1
+first_there k place part (inr is) known = absurd (known is.0)
+
+first_lacks : (k : ScenarioKind) (place : List Step) (part : Data) → IsPlace k place part → k ≡ kind.Missing → LacksMember part place
+first_lacks k place part (inl is) missed = absurd (is.0 missed)
+first_lacks k place part (inr is) missed = is.1
+
+-- ---- all parts
+
 -- where a member isn't missing, the part is there
 pub place_there : {r : Role} {part : Data} {k : ScenarioKind} {place : List Step} → Tells r part k place → (k ≡ kind.Missing → ⊥) → is_some (walked place part) ≡ true
 place_there (here w) known = refl
 place_there (missing l) known = absurd (known refl)
 place_there (unknown {part = part} {name = name} s) known = ap (λ o. is_some (option_and_then (walked []) o)) (get_in part name s.members s.object_is ∙ s.there)
+place_there (in_events {edits = edits} {counts = counts} {part = part} fault is) known = first_there fault.cause.kind fault.place part (events_placed_so edits counts part fault is) known
 place_there (inside {step = step} {place = place} inner child below there t) known = ap (λ o. is_some (option_and_then (walked place) o)) there ∙ place_there t known
 
 -- kinds of faults that are told of a part itself
@@ -52,21 +105,14 @@ own (wrong.no_form a) = refl
 own (wrong.no_text a) = refl
 own (wrong.no_operation a b) = refl
 own (wrong.no_user a) = refl
-own (wrong.no_word a b) = refl
-own (wrong.other_count n a b) = refl
-own (wrong.no_event a) = refl
-own (wrong.no_request a) = refl
-own (wrong.no_store a) = refl
-own wrong.argument = refl
 own (wrong.some_module a) = refl
 own (wrong.too_many_items limit a b) = refl
 own (wrong.too_many_cells ms a b) = refl
-own (wrong.too_many_nodes ms a b c) = refl
+own (wrong.too_many_nodes ms a b) = refl
 own (wrong.too_many_rows a) = refl
-own (wrong.too_many_events items a b) = refl
 own (wrong.no_module text fault a b) = refl
 own (wrong.no_cells a) = refl
-own (wrong.no_edit a b) = refl
+own (wrong.no_edit a) = refl
 own (wrong.no_data k path a) = refl
 own (wrong.invalid found refusal a b) = refl
 own (wrong.unbuilt_form a) = refl
@@ -74,10 +120,7 @@ own wrong.unbuilt_change = refl
 own (wrong.unbuilt_operation a) = refl
 own (wrong.unbuilt_result edit a b) = refl
 own (wrong.unbuilt_beside a b) = refl
-own (wrong.unbuilt_event a) = refl
-own (wrong.unbuilt_request a b) = refl
 own (wrong.unbuilt_list a) = refl
-own wrong.unbuilt_edit = refl
 own (wrong.unbuilt_on a) = refl
 
 -- what lacks a member one step further in
@@ -100,6 +143,7 @@ member_lacks (here w) is = let t : is_own kind.Missing ≡ true = subst (λ m. i
 member_lacks (missing {part = part} {name = name} l) is =
     record { above = []; name = name; place_is = refl; part = part; part_is = refl; members = l.members; object_is = l.object_is; absent = l.absent }
 member_lacks (unknown s) is = cc
+member_lacks (in_events {edits = edits} {counts = counts} {part = part} fault first) is = first_lacks fault.cause.kind fault.place part (events_placed_so edits counts part fault first) is
 member_lacks (inside {part = part} {step = step} {place = place} inner child below there t) is = below_lacks part child step place there (member_lacks t is)
 
 -- ---- whole scenarios

@@ -8,19 +8,24 @@ use Rattle.nm_base.specs.Words.{manager}
 use Rattle.nm_proto.specs.declared.kind.ScenarioKind.TheVariants as kind
 use Rattle.nm_reading.specs.declared.fault.Step.TheVariants.{Name}
 use Rattle.nm_reading.specs.declared.fault.Fault.{Fault}
-use Rattle.nm_reading.specs.Reading.{here, under, required_from, required, optional_from, optional, object_at, only_known, count_of, some_of, empty_list_at, off_of, off_at, switch_of, switch_at, unbuilt_at}
+use Rattle.nm_reading.specs.Reading.{here, under, required_from, required, optional_from, optional, object_at, only_known, count_of, some_of, empty_list_at, off_of, off_at, switch_of, switch_at}
 use Rattle.nm_reading.specs.Words.{item_count}
 use Rattle.nm_events.specs.Limits.{operator_limit}
-use Rattle.nm_events.specs.Events.{events_at}
+use Rattle.nm_form.specs.Form.{Form}
+use Rattle.nm_form.specs.Read.{read}
+use Rattle.nm_form.specs.Exact.{IsFirstOf}
+use Rattle.nm_events.specs.declared.arguments.Counts.{Counts}
+use Rattle.nm_events.specs.Events.{events_form}
 use Rattle.nm_scenario.specs.Operators.{user_limit, knows_operator, user_of, user_at, operator_at, built_beside, operators_at}
 use Rattle.nm_scenario.specs.Scenario.{knows_scenario, rest_at}
 use Rattle.nm_refusals.specs.Roles as role
-use Rattle.nm_refusals.specs.Roles.{Role, Frame, Edits, no_edits}
+use Rattle.nm_refusals.specs.Roles.{Frame}
 use Rattle.nm_refusals.specs.Members as must
 use Rattle.nm_refusals.specs.Steps as step
-use Rattle.nm_refusals.specs.Steps.{items_of, count_in, counts_of, edits_in}
-use Rattle.nm_refusals.specs.Wrong.{is_user, no_list, no_user, no_switch, unbuilt_beside, unbuilt_edit, unbuilt_on}
-use Rattle.nm_refusals.specs.Told.{Told}
+use Rattle.nm_scenario.specs.Counts.{items_of, count_in, counts_of}
+use Rattle.nm_refusals.specs.Steps.{edits_in}
+use Rattle.nm_refusals.specs.Wrong.{is_user, no_list, no_user, no_switch, unbuilt_beside, unbuilt_on}
+use Rattle.nm_refusals.specs.Told.{Told, OfEvents}
 use Rattle.nm_refusals.proofs.Sound.{IsSound, is_read, then_so, by_test, both}
 use Rattle.nm_refusals.proofs.Parts.{wrong, IsObject, object_is, object_so, required_so, optional_so, known_so, each_so, Listed, list_read, nothing_so}
 use Rattle.nm_refusals.proofs.Events.{events_so}
@@ -63,7 +68,7 @@ operators_so count part =
     then_so (built_beside count part) _ (by_test (count == 0) (Ok tt) (empty_list_at (here kind.NotBuilt) part) (λ hold. is_read tt) (λ fail. beside_so count part fail))
     (λ u e. each_so (role.operators count) part operator_limit operator_at refl refl role.operator (λ n. step.one_operator) operator_so)
 
-operators_read : (count : ℕ) (part : Data) (users : List (List ℕ)) → operators_at count part ≡ Ok users → Listed part operator_limit users
+pub operators_read : (count : ℕ) (part : Data) (users : List (List ℕ)) → operators_at count part ≡ Ok users → Listed part operator_limit users
 unfolding operators_at
 operators_read count part users e = let b = both (built_beside count part) _ users e in list_read part operator_limit operator_at users b.rest
 
@@ -85,10 +90,6 @@ switch_or part (Some on) e = is_read on
 switch_so : (part : Data) → IsSound (Told role.switch part) (switch_at part)
 unfolding switch_at
 switch_so part = switch_or part (as_bool part) refl
-
-pub unbuilt_so : (part : Data) → IsSound (Told (role.edit no_edits) part) (unbuilt_at part)
-unfolding unbuilt_at
-unbuilt_so part = wrong kind.NotBuilt unbuilt_edit
 
 -- ---- how many items a member has
 
@@ -123,18 +124,18 @@ some_count whole limit xs ys l e = ap length (sym (some_is xs ys e)) ∙ l.count
 
 -- ---- the members after the change sets
 
-pub rest_so : {E : Type 0} (built : Bool) (frame : Frame) (read : Data → Result E Fault) → ((child : Data) → IsSound (Told (role.edit (edits_in frame)) child) (read child)) → (whole : Data) → IsObject whole
-    → IsSound (Told (role.scenario built frame) whole) (rest_at read (count_in (codes "changes") whole) (count_in (codes "devices") whole) whole)
+pub rest_so : {E : Type 0} (built : Bool) (frame : Frame) (edit : Form E)
+    → ((counts : Counts) (part : Data) (fault : Fault) → IsFirstOf (events_form edit counts) part fault → OfEvents (edits_in frame) counts part fault)
+    → (whole : Data) → IsObject whole → IsSound (Told (role.scenario built frame) whole) (rest_at edit whole)
 unfolding rest_at
-rest_so built frame read s whole o =
+rest_so built frame edit so whole o =
     then_so (optional (codes "operators") [] (operators_at (count_in (codes "changes") whole)) whole) _
     (optional_so (role.scenario built frame) whole (codes "operators") (role.operators (count_in (codes "changes") whole)) [] (operators_at (count_in (codes "changes") whole)) step.all_operators (λ child e. operators_so (count_in (codes "changes") whole) child))
     (λ users e. then_so (optional (codes "faults") tt (empty_list_at (here kind.NotBuilt)) whole) _
     (optional_so (role.scenario built frame) whole (codes "faults") role.nothing tt (empty_list_at (here kind.NotBuilt)) step.faults (λ child f. nothing_so child))
-    (λ faults f. then_so (optional (codes "events") [] (events_at read (count_in (codes "changes") whole) (count_in (codes "devices") whole) users) whole) _
-    (optional_so (role.scenario built frame) whole (codes "events") (role.events (edits_in frame) (counts_of whole)) [] (events_at read (count_in (codes "changes") whole) (count_in (codes "devices") whole) users) step.all_events
-    (λ child g. events_so (edits_in frame) (counts_of whole) read s users
-    (count_optional (codes "operators") (operators_at (count_in (codes "changes") whole)) whole users (λ part xs h. let l : Listed part operator_limit xs = operators_read (count_in (codes "changes") whole) part xs h in l.count) e) child))
+    (λ faults f. then_so (optional (codes "events") [] (read (events_form edit (counts_of whole))) whole) _
+    (optional_so (role.scenario built frame) whole (codes "events") (role.events (edits_in frame) (counts_of whole)) [] (read (events_form edit (counts_of whole))) step.all_events
+    (λ child g. events_so (edits_in frame) edit so (counts_of whole) child))
     (λ events g. then_so (optional (codes "drain") tt off_at whole) _ (optional_so (role.scenario built frame) whole (codes "drain") role.off tt off_at step.drain (λ child h. off_so child))
     (λ drain h. then_so (optional (codes "trace") false switch_at whole) _ (optional_so (role.scenario built frame) whole (codes "trace") role.switch false switch_at step.trace (λ child i. switch_so child))
     (λ trace i. then_so (only_known knows_scenario whole) _ (known_so (role.scenario built frame) whole o) (λ k j. is_read _))))))

@@ -1,8 +1,10 @@
 -- Readers whose faults are told so.
 use Rattle.std.proofs.Common.{◌≡◌, Bool, true, false, Result, Ok, Err, refl, subst}
 use Rattle.std.specs.Prelude.{if◌then◌else◌}
+use Rattle.nm_reading.specs.declared.fault.Cause.{Cause}
 use Rattle.nm_reading.specs.declared.fault.Fault.{Fault}
 use Rattle.nm_reading.specs.Reading.{◌>>=◌}
+use Rattle.nm_form.specs.Read.{told}
 
 -- the fault of what was read, if it has one, is so
 pub record IsSound {A : Type 0} (P : Fault → Type 0) (r : Result A Fault) : Type 0 where
@@ -23,6 +25,12 @@ then_so (Err fault) f first after = is_told _ fault (first.so fault refl)
 pub by_test : {A : Type 0} {P : Fault → Type 0} (b : Bool) (x y : Result A Fault) → (b ≡ true → IsSound P x) → (b ≡ false → IsSound P y) → IsSound P (if b then x else y)
 by_test true x y hold fail = hold refl
 by_test false x y hold fail = fail refl
+
+-- what a leaf says by cases
+pub by_told : {A : Type 0} {P : Fault → Type 0} (b : Bool) (x y : Result A Cause) → (b ≡ true → IsSound P (told x)) → (b ≡ false → IsSound P (told y))
+    → IsSound P (told (if b then x else y))
+by_told true x y hold fail = hold refl
+by_told false x y hold fail = fail refl
 
 -- what was read after another was read
 pub record Both {A B : Type 0} (r : Result A Fault) (f : A → Result B Fault) (y : B) : Type 0 where

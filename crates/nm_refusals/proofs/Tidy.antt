@@ -12,8 +12,8 @@ use Rattle.serde_json.specs.Read.{of_json, of_items, of_members, read, number_of
 use Rattle.nm_reading.specs.declared.fault.Step.{Step}
 use Rattle.nm_reading.specs.declared.fault.Step.TheVariants.{Name, Item}
 use Rattle.nm_scenario.specs.Scenario.{json_of}
-use Rattle.nm_refusals.specs.Steps.{stepped}
-use Rattle.nm_refusals.specs.Told.{AllAbove, Ascending, walked}
+use Rattle.nm_form.specs.Places.{stepped, walked}
+use Rattle.nm_refusals.specs.Told.{AllAbove, Ascending}
 
 mutual
   -- the members of all objects ascend

@@ -14,7 +14,7 @@ use Rattle.nm_flaws.specs.declared.fault.Fault.TheVariants.{Flawed, TooLarge}
 use Rattle.nm_proto.specs.declared.kind.ScenarioKind.TheVariants as kind
 use Rattle.nm_reading.specs.declared.fault.Step.TheVariants.{Name}
 use Rattle.nm_reading.specs.declared.fault.Fault.{Fault}
-use Rattle.nm_reading.specs.Reading.{here, under, required_from, required, optional_from, optional, object_at, list_at, number_within, count_of, some_of, empty_list_at, unbuilt_at}
+use Rattle.nm_reading.specs.Reading.{here, under, required_from, required, optional_from, optional, object_at, list_at, number_within, count_of, some_of, empty_list_at}
 use Rattle.nm_reading.specs.Words.{item_count}
 use Rattle.nm_events.specs.Limits.{device_limit, change_limit}
 use Rattle.nm_scenario.specs.declared.head.Form.{Form}
@@ -25,31 +25,31 @@ use Rattle.nm_scenario.specs.declared.head.ReadModule.{ReadModule}
 use Rattle.nm_scenario.specs.declared.scenario.Scenario.{Scenario}
 use Rattle.nm_scenario.specs.declared.scenario.ReadChange.{ReadChange}
 use Rattle.nm_scenario.specs.Head.{form_of, form_at, modules_at, texts_of, yang_head_at, head_in, head_at, flat_only, flat_contents_at, flat_head_at}
-use Rattle.nm_scenario.specs.Flat.{flat_edit_at}
+use Rattle.nm_scenario.specs.Flat.{flat_edit}
+use Rattle.nm_form.specs.Form.{not_built}
 use Rattle.nm_scenario.specs.Devices.{device_at, devices_at, yang_device_at, yang_devices_at}
 use Rattle.nm_scenario.specs.Changes.{change_at, changes_read_at}
 use Rattle.nm_scenario.specs.Scenario.{rest_at, flat_scenario_at, yang_rest_at, yang_scenario_at, ReadsFrom, Reads, flat_whole_at, byte_limit, json_of, parsed, whole_of, ReadsWhole, ReadsBytes, flat_scenario_of}
 use Rattle.nm_refusals.specs.Roles as role
-use Rattle.nm_refusals.specs.Roles.{Role, Frame, unread, flat, yang, with_tree, cells, data_of}
+use Rattle.nm_refusals.specs.Roles.{Frame, unread, flat, yang, with_tree, cells, data_of}
 use Rattle.nm_refusals.specs.Members as must
 use Rattle.nm_refusals.specs.Steps as step
-use Rattle.nm_refusals.specs.Steps.{items_of, count_in}
+use Rattle.nm_scenario.specs.Counts.{items_of}
 use Rattle.nm_refusals.specs.Wrong.{says, unbuilt_form}
 use Rattle.nm_refusals.specs.Told.{Told, Gives, IsFrame, in_part, in_module, ToldOfWhole, too_long, not_json, in_whole, ToldOfBytes}
 use Rattle.nm_refusals.proofs.Sound.{IsSound, is_read, is_told, then_so, by_test, both}
 use Rattle.nm_refusals.proofs.Parts.{wrong, IsObject, object_is, object_so, required_so, optional_so, Listed, list_read, number_so, no_modules_so, nothing_so}
-use Rattle.nm_refusals.proofs.Flats.{flat_edit_so}
 use Rattle.nm_refusals.proofs.Heads.{form_so, modules_so, devices_so, yang_devices_so}
 use Rattle.nm_refusals.proofs.ChangeSets.{changes_so}
-use Rattle.nm_refusals.proofs.Rests.{unbuilt_so, count_required, count_optional, some_count, rest_so}
+use Rattle.nm_refusals.proofs.Rests.{some_count, rest_so}
 
 -- ---- flat contents
 
-devices_count : (part : Data) (states : List FlatState) → devices_at part ≡ Ok states → length states ≡ item_count part
+pub devices_count : (part : Data) (states : List FlatState) → devices_at part ≡ Ok states → length states ≡ item_count part
 unfolding devices_at
 devices_count part states e = let b = both (list_at device_limit device_at part) some_of states e in some_count part device_limit b.value states (list_read part device_limit device_at b.value b.first) b.rest
 
-changes_count : (states : List FlatState) (part : Data) (changes : List ReadChange) → changes_read_at states part ≡ Ok changes → length changes ≡ item_count part
+pub changes_count : (states : List FlatState) (part : Data) (changes : List ReadChange) → changes_read_at states part ≡ Ok changes → length changes ≡ item_count part
 unfolding changes_read_at
 changes_count states part changes e = let l : Listed part change_limit changes = list_read part change_limit (change_at states) changes e in l.count
 
@@ -62,15 +62,12 @@ flat_so built whole o =
     (required_so (role.scenario built flat) whole (codes "devices") (role.devices cells) devices_at o must.all_devices step.flat_devices (λ child f. devices_so child))
     (λ states f. then_so (optional (codes "changes") [] (changes_read_at states) whole) _
     (optional_so (role.scenario built flat) whole (codes "changes") (role.changes states) [] (changes_read_at states) (step.all_changes states f) (λ child g. changes_so states child))
-    (λ changes g. then_so (rest_at flat_edit_at (length changes) (length states) whole) _
-    (subst (λ n. IsSound (Told (role.scenario built flat) whole) (rest_at flat_edit_at n (length states) whole)) (sym (count_optional (codes "changes") (changes_read_at states) whole changes (changes_count states) g))
-    (subst (λ n. IsSound (Told (role.scenario built flat) whole) (rest_at flat_edit_at (count_in (codes "changes") whole) n whole)) (sym (count_required (codes "devices") devices_at whole states devices_count f))
-    (rest_so built flat flat_edit_at (λ child. flat_edit_so (role.edit role.flat_edits) child refl) whole o)))
+    (λ changes g. then_so (rest_at flat_edit whole) _ (rest_so built flat flat_edit (λ counts part fault is. is) whole o)
     (λ rest h. is_read _))))
 
 -- ---- YANG contents
 
-yang_devices_count : (tree : SchemaTree) (part : Data) (devices : List Rows) → yang_devices_at tree part ≡ Ok devices → length devices ≡ item_count part
+pub yang_devices_count : (tree : SchemaTree) (part : Data) (devices : List Rows) → yang_devices_at tree part ≡ Ok devices → length devices ≡ item_count part
 unfolding yang_devices_at
 yang_devices_count tree part devices e =
     let b = both (list_at device_limit (yang_device_at tree) part) some_of devices e in some_count part device_limit b.value devices (list_read part device_limit (yang_device_at tree) b.value b.first) b.rest
@@ -92,7 +89,7 @@ under_ok : {A : Type 0} (name : List ℕ) (read : Result A Fault) (x : A) → un
 under_ok name (Ok y) x e = e
 under_ok name (Err fault) x e = cc
 
-no_items : (found : Option Data) (u : Unit {0}) → optional_from (codes "changes") tt (empty_list_at (here kind.NotBuilt)) found ≡ Ok u → items_of found ≡ 0
+pub no_items : (found : Option Data) (u : Unit {0}) → optional_from (codes "changes") tt (empty_list_at (here kind.NotBuilt)) found ≡ Ok u → items_of found ≡ 0
 no_items None u e = refl
 no_items (Some child) u e = nothing_counts child u (under_ok (codes "changes") (empty_list_at (here kind.NotBuilt) child) u e)
 
@@ -103,10 +100,7 @@ yang_so tree texts whole o =
     (required_so (role.scenario true (with_tree tree)) whole (codes "devices") (role.devices (data_of tree)) (yang_devices_at tree) o must.all_devices step.data_devices (λ child e. yang_devices_so tree child))
     (λ devices e. then_so (optional (codes "changes") tt (empty_list_at (here kind.NotBuilt)) whole) _
     (optional_so (role.scenario true (with_tree tree)) whole (codes "changes") role.nothing tt (empty_list_at (here kind.NotBuilt)) step.no_changes (λ child f. nothing_so child))
-    (λ changes f. then_so (rest_at unbuilt_at 0 (length devices) whole) _
-    (subst (λ n. IsSound (Told (role.scenario true (with_tree tree)) whole) (rest_at unbuilt_at n (length devices) whole)) (no_items (get (codes "changes") whole) changes f)
-    (subst (λ n. IsSound (Told (role.scenario true (with_tree tree)) whole) (rest_at unbuilt_at (count_in (codes "changes") whole) n whole)) (sym (count_required (codes "devices") (yang_devices_at tree) whole devices (yang_devices_count tree) e))
-    (rest_so true (with_tree tree) unbuilt_at unbuilt_so whole o)))
+    (λ changes f. then_so (rest_at not_built whole) _ (rest_so true (with_tree tree) not_built (λ counts part fault is. is) whole o)
     (λ rest h. is_read _)))
 
 -- ---- the head

@@ -1,25 +1,22 @@
--- What holds of every scenario that was read (this project's own): no count and no number is outside its limits.
+-- What holds of every scenario that was read (this project's own): no count is outside its limits, and no number of a change set, a
+-- device, an operator or a turn.
 use Rattle.std.specs.Prelude.{◌≡◌, ℕ, ◌-◌, ◌*◌, ◌^◌, ◌≤◌, ◌<◌, List, [], ◌∷◌, length, map, true, Some, None}
 use Rattle.std.specs.List.{All, sum_by}
 use Rattle.std.specs.FinMap.{empty, len}
 use Rattle.nm_proto.specs.declared.flat.FlatEdit.{FlatEdit}
 use Rattle.nm_proto.specs.declared.plan.ChangePlan.{ChangePlan}
 use Rattle.nm_proto.specs.declared.plan.PlannedEdit.{PlannedEdit}
-use Rattle.nm_proto.specs.declared.plan.Event.{Event}
-use Rattle.nm_proto.specs.declared.plan.Event.TheVariants.{Submit, Turn, Deliver, Answer, Break, Lose, Advance, Restart, Forget, Crash, Renew, Foreign, Leave, Round}
 use Rattle.nm_proto.specs.Flat.{FlatState, flat_violation}
 use Rattle.nm_config.specs.Rows.{Rows}
-use Rattle.nm_events.specs.Limits.{device_limit, change_limit, operator_limit, event_limit, turn_limit}
+use Rattle.nm_events.specs.declared.arguments.Counts.{Counts}
+use Rattle.nm_events.specs.Limits.{device_limit, change_limit, operator_limit, event_limit}
+use Rattle.nm_events.specs.Kept.{IsWithin, EventKeeps, weight}
 use Rattle.nm_scenario.specs.declared.scenario.Body.{Body}
 use Rattle.nm_scenario.specs.declared.scenario.Body.TheVariants.{Flat, Yang}
 use Rattle.nm_scenario.specs.declared.scenario.Scenario.{Scenario}
 use Rattle.nm_scenario.specs.Flat.{row_limit, node_limit}
 use Rattle.nm_scenario.specs.Head.{module_limit}
 use Rattle.nm_refusals.specs.Wrong.{is_user}
-
--- a number from one to another
-abbrev pub IsWithin : ℕ → ℕ → ℕ → Type 0
-IsWithin low high n = (low ≤ n) × (n ≤ high)
 
 -- ---- contents
 
@@ -60,35 +57,16 @@ pub record ChangeKeeps (devices : ℕ) (change : ChangePlan) : Type 0 where
   pub edits : 1 ≤ length change.edits
   pub ascending : Ascend 0 devices (map device_of_plan change.edits)
 
--- ---- events
-
--- an event speaks of change sets, devices and operators that there are; links, replies and seconds may be any
-abbrev pub EventKeeps : ℕ → ℕ → ℕ → Event → Type 0
-EventKeeps changes devices operators (Submit change) = IsWithin 1 changes change
-EventKeeps changes devices operators (Turn change) = IsWithin 1 changes change
-EventKeeps changes devices operators (Deliver change device link) = IsWithin 1 changes change × IsWithin 1 devices device
-EventKeeps changes devices operators (Answer change device link number) = IsWithin 1 changes change × IsWithin 1 devices device
-EventKeeps changes devices operators (Break change device) = IsWithin 1 changes change × IsWithin 1 devices device
-EventKeeps changes devices operators (Lose change device link) = IsWithin 1 changes change × IsWithin 1 devices device
-EventKeeps changes devices operators (Advance device seconds) = IsWithin 1 devices device
-EventKeeps changes devices operators (Restart device) = IsWithin 1 devices device
-EventKeeps changes devices operators (Forget change) = IsWithin 1 changes change
-EventKeeps changes devices operators Crash = Unit {0}
-EventKeeps changes devices operators (Renew change device) = IsWithin 1 changes change × IsWithin 1 devices device
-EventKeeps changes devices operators (Foreign operator device request) = IsWithin 1 operators operator × IsWithin 1 devices device
-EventKeeps changes devices operators (Leave operator device) = IsWithin 1 operators operator × IsWithin 1 devices device
-EventKeeps changes devices operators (Round change turns) = IsWithin 1 changes change × IsWithin 1 turn_limit turns
-
--- how many elementary events an event stands for: three for each turn of a round, else one
-abbrev pub weight : Event → ℕ
-weight (Round change turns) = 3 * turns
-weight _ = 1
-
 -- ---- the whole
 
 -- a user's name that may stand in a scenario
 abbrev pub UserKeeps : List ℕ → Type 0
 UserKeeps name = is_user (Some name) ≡ true
+
+-- how many change sets, devices and operators there are
+abbrev pub counts_in : Scenario → Counts
+counts_in scenario =
+    record { changes = length scenario.changes; devices = devices_in scenario.body; operators = length scenario.operators }
 
 pub record ScenarioKeeps (scenario : Scenario) : Type 0 where
   pub body : BodyKeeps scenario.body
@@ -98,4 +76,4 @@ pub record ScenarioKeeps (scenario : Scenario) : Type 0 where
   pub operator_count : length scenario.operators ≤ operator_limit
   pub operators : All UserKeeps scenario.operators
   pub event_count : sum_by weight scenario.events ≤ event_limit
-  pub events : All (EventKeeps (length scenario.changes) (devices_in scenario.body) (length scenario.operators)) scenario.events
+  pub events : All (EventKeeps (counts_in scenario)) scenario.events

@@ -1,12 +1,11 @@
 -- The members that an object of a role may have, and the ones that it must have (this project's own).
 use Rattle.std.specs.Prelude.{ℕ, List, Bool, false, codes}
 use Rattle.nm_proto.specs.Flat.{FlatState}
-use Rattle.nm_events.specs.Requests.{knows_asked_edit}
 use Rattle.nm_scenario.specs.Scenario.{knows_scenario}
 use Rattle.nm_scenario.specs.Devices.{knows_device}
 use Rattle.nm_scenario.specs.Changes.{knows_change, knows_edit}
 use Rattle.nm_scenario.specs.Operators.{knows_operator}
-use Rattle.nm_refusals.specs.Roles.{Contents, Frame, Edits, Role, scenario, device, change, entry, operator, asked_edit}
+use Rattle.nm_refusals.specs.Roles.{Contents, Frame, Role, scenario, device, change, entry, operator}
 
 -- the members that an object of a role may have; what is no object has none
 abbrev pub knows : Role → List ℕ → Bool
@@ -15,7 +14,6 @@ knows (device contents) name = knows_device name
 knows (change states) name = knows_change name
 knows (entry states low) name = knows_edit name
 knows operator name = knows_operator name
-knows (asked_edit edits) name = knows_asked_edit name
 knows _ name = false
 
 -- the members that an object of a role must have
@@ -28,4 +26,3 @@ pub data Requires : Role → List ℕ → Type 0 where
   device_of : {states : List FlatState} {low : ℕ} → Requires (entry states low) (codes "device")
   edit_of : {states : List FlatState} {low : ℕ} → Requires (entry states low) (codes "edit")
   user_of : Requires operator (codes "user")
-  edit_asked : {edits : Edits} → Requires (asked_edit edits) (codes "edit")

@@ -2,6 +2,7 @@
 use Rattle.std.specs.Prelude.{ℕ, List, Bool, Option}
 use Rattle.nm_proto.specs.Flat.{FlatState}
 use Rattle.nm_tree.specs.Nodes.{SchemaTree}
+use Rattle.nm_events.specs.declared.arguments.Counts.{Counts}
 
 -- how a configuration stands in JSON: as numbered cells, or as data of a schema tree (RFC 7951)
 pub data Contents : Type 0 where
@@ -19,12 +20,6 @@ pub data Frame : Type 0 where
 pub data Edits : Type 0 where
   flat_edits : Edits
   no_edits : Edits
-
--- how many change sets, devices and operators there are
-pub record Counts : Type 0 where
-  pub changes : ℕ
-  pub devices : ℕ
-  pub operators : ℕ
 
 -- what a part of a scenario is
 pub data Role : Type 0 where
@@ -52,16 +47,8 @@ pub data Role : Type 0 where
   operators : ℕ → Role
   operator : Role
   user : Role
+  -- the events, which have a table of their own
   events : Edits → Counts → Role
-  event : Edits → Counts → Role
-  event_word : Role
-  request : Edits → Role
-  request_word : Role
-  store : Role
-  asked_edit : Edits → Role
-  edit : Edits → Role
-  -- an argument that no request has
-  no_argument : Role
   -- a number from the first to the second
   number : ℕ → ℕ → Role
   -- the modules of flat contents: none

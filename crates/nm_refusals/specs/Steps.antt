@@ -1,35 +1,17 @@
 -- What stands one step further in, below a part of a role (this project's own).
-use Rattle.std.specs.Prelude.{◌≡◌, ℕ, zero, suc, ◌+◌, ◌-◌, ◌^◌, List, length, Bool, true, min, slice_get, Option, Some, None, option_and_then, unwrap_or, Ok, codes}
+use Rattle.std.specs.Prelude.{◌≡◌, ℕ, zero, suc, ◌+◌, ◌-◌, ◌^◌, List, length, Bool, min, slice_get, Option, Some, option_and_then, unwrap_or, Ok, codes}
 use Rattle.serde_json.specs.Data.{Data}
 use Rattle.serde_json.specs.Find.{get, at}
-use Rattle.nm_proto.specs.declared.message.RequestWord.TheVariants as word
 use Rattle.nm_proto.specs.Flat.{FlatState}
 use Rattle.nm_tree.specs.Nodes.{SchemaTree}
 use Rattle.nm_reading.specs.declared.fault.Step.{Step}
 use Rattle.nm_reading.specs.declared.fault.Step.TheVariants.{Name, Item}
 use Rattle.nm_reading.specs.Reading.{natural_of, required}
-use Rattle.nm_reading.specs.Words.{is_word, item_count}
-use Rattle.nm_events.specs.Limits.{device_limit, change_limit, operator_limit, turn_limit}
-use Rattle.nm_events.specs.Requests.{asks}
+use Rattle.nm_events.specs.Limits.{device_limit}
 use Rattle.nm_scenario.specs.Devices.{devices_at}
-use Rattle.nm_refusals.specs.Roles.{Contents, cells, data_of, Frame, unread, flat, yang, with_tree, Edits, flat_edits, no_edits, Counts, Role}
+use Rattle.nm_scenario.specs.Counts.{count_in, counts_of}
+use Rattle.nm_refusals.specs.Roles.{Contents, cells, data_of, Frame, unread, flat, yang, with_tree, Edits, flat_edits, no_edits, Role}
 use Rattle.nm_refusals.specs.Roles as role
-
--- what is there one step further in, if anything is
-abbrev pub stepped : Step → Data → Option Data
-stepped (Name name) part = get name part
-stepped (Item n) part = at n part
-
--- how many items a member has
-abbrev pub items_of : Option Data → ℕ
-items_of None = 0
-items_of (Some part) = item_count part
-
-abbrev pub count_in : List ℕ → Data → ℕ
-count_in name whole = items_of (get name whole)
-
-abbrev pub counts_of : Data → Counts
-counts_of whole = record { changes = count_in (codes "changes") whole; devices = count_in (codes "devices") whole; operators = count_in (codes "operators") whole }
 
 -- the number that a member is
 abbrev pub number_in : List ℕ → Data → Option ℕ
@@ -48,19 +30,6 @@ edits_in unread = flat_edits
 edits_in flat = flat_edits
 edits_in yang = no_edits
 edits_in (with_tree tree) = no_edits
-
-abbrev pub change_number : Counts → Role
-change_number counts = role.number 1 (min counts.changes change_limit)
-
-abbrev pub device_number : Counts → Role
-device_number counts = role.number 1 (min counts.devices device_limit)
-
-abbrev pub operator_number : Counts → Role
-operator_number counts = role.number 1 (min counts.operators operator_limit)
-
--- a number of 32 bits
-abbrev pub short_number : Role
-short_number = role.number 0 (2 ^ 32 - 1)
 
 -- what stands a step below a part of a role
 pub data Below : Role → Data → Step → Role → Type 0 where
@@ -95,31 +64,3 @@ pub data Below : Role → Data → Step → Role → Type 0 where
   one_operator : {whole : Data} {n count : ℕ} → Below (role.operators count) whole (Item n) role.operator
   user_of : {whole : Data} → Below role.operator whole (Name (codes "user")) role.user
   script : {whole : Data} → Below role.operator whole (Name (codes "script")) role.nothing
-  -- events
-  one_event : {whole : Data} {n : ℕ} {edits : Edits} {counts : Counts} → Below (role.events edits counts) whole (Item n) (role.event edits counts)
-  event_of : {whole : Data} {edits : Edits} {counts : Counts} → Below (role.event edits counts) whole (Item 0) role.event_word
-  submitted : {whole : Data} {edits : Edits} {counts : Counts} → is_word whole (codes "submit") ≡ true → Below (role.event edits counts) whole (Item 1) (change_number counts)
-  turned : {whole : Data} {edits : Edits} {counts : Counts} → is_word whole (codes "turn") ≡ true → Below (role.event edits counts) whole (Item 1) (change_number counts)
-  delivered : {whole : Data} {edits : Edits} {counts : Counts} → is_word whole (codes "deliver") ≡ true → Below (role.event edits counts) whole (Item 1) (change_number counts)
-  delivered_at : {whole : Data} {edits : Edits} {counts : Counts} → is_word whole (codes "deliver") ≡ true → Below (role.event edits counts) whole (Item 2) (device_number counts)
-  delivered_on : {whole : Data} {edits : Edits} {counts : Counts} → is_word whole (codes "deliver") ≡ true → Below (role.event edits counts) whole (Item 3) short_number
-  answered : {whole : Data} {edits : Edits} {counts : Counts} → is_word whole (codes "answer") ≡ true → Below (role.event edits counts) whole (Item 1) (change_number counts)
-  answered_by : {whole : Data} {edits : Edits} {counts : Counts} → is_word whole (codes "answer") ≡ true → Below (role.event edits counts) whole (Item 2) (device_number counts)
-  answered_on : {whole : Data} {edits : Edits} {counts : Counts} → is_word whole (codes "answer") ≡ true → Below (role.event edits counts) whole (Item 3) short_number
-  answered_with : {whole : Data} {edits : Edits} {counts : Counts} → is_word whole (codes "answer") ≡ true → Below (role.event edits counts) whole (Item 4) short_number
-  rounds : {whole : Data} {edits : Edits} {counts : Counts} → is_word whole (codes "round") ≡ true → Below (role.event edits counts) whole (Item 1) (change_number counts)
-  turns : {whole : Data} {edits : Edits} {counts : Counts} → is_word whole (codes "round") ≡ true → Below (role.event edits counts) whole (Item 2) (role.number 1 turn_limit)
-  left_by : {whole : Data} {edits : Edits} {counts : Counts} → is_word whole (codes "leave") ≡ true → Below (role.event edits counts) whole (Item 1) (operator_number counts)
-  left_at : {whole : Data} {edits : Edits} {counts : Counts} → is_word whole (codes "leave") ≡ true → Below (role.event edits counts) whole (Item 2) (device_number counts)
-  asked_by : {whole : Data} {edits : Edits} {counts : Counts} → is_word whole (codes "foreign") ≡ true → Below (role.event edits counts) whole (Item 1) (operator_number counts)
-  asked_of : {whole : Data} {edits : Edits} {counts : Counts} → is_word whole (codes "foreign") ≡ true → Below (role.event edits counts) whole (Item 2) (device_number counts)
-  asked : {whole : Data} {edits : Edits} {counts : Counts} → is_word whole (codes "foreign") ≡ true → Below (role.event edits counts) whole (Item 3) (role.request edits)
-  -- requests
-  request_of : {whole : Data} {edits : Edits} → Below (role.request edits) whole (Item 0) role.request_word
-  locked : {whole : Data} {edits : Edits} → asks word.Lock whole ≡ true → Below (role.request edits) whole (Item 1) role.store
-  unlocked : {whole : Data} {edits : Edits} → asks word.Unlock whole ≡ true → Below (role.request edits) whole (Item 1) role.store
-  edit_request : {whole : Data} {edits : Edits} → asks word.Edit whole ≡ true → Below (role.request edits) whole (Item 1) (role.asked_edit edits)
-  mark : {whole : Data} {edits : Edits} → asks word.HasMark whole ≡ true → Below (role.request edits) whole (Item 1) (role.number 1 change_limit)
-  commit_argument : {whole : Data} {edits : Edits} → asks word.Commit whole ≡ true → Below (role.request edits) whole (Item 1) role.no_argument
-  default_asked : {whole : Data} {edits : Edits} → Below (role.asked_edit edits) whole (Name (codes "default")) role.operation
-  edit_asked : {whole : Data} {edits : Edits} → Below (role.asked_edit edits) whole (Name (codes "edit")) (role.edit edits)

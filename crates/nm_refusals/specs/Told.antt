@@ -1,6 +1,6 @@
 -- Which faults a scenario has where (this project's own): a place leads from the whole to one of its parts, and the kind of the
 -- fault says what is wrong there.
-use Rattle.std.specs.Prelude.{◌≡◌, ℕ, ◌<◌, ◌≤◌, List, [], ◌∷◌, ◌++◌, length, Bool, true, false, Option, Some, None, option_and_then, Result, Ok, Err, codes}
+use Rattle.std.specs.Prelude.{◌≡◌, ℕ, ◌<◌, ◌≤◌, List, [], ◌∷◌, ◌++◌, length, Bool, true, false, Some, None, Result, Ok, Err, codes}
 use Rattle.std.specs.Ordering.{nat_cmp}
 use Rattle.std.specs.Cmp.Lexicographic.{slice_cmp}
 use Rattle.std.specs.declared.cmp.Ordering.TheVariants.{Less}
@@ -16,13 +16,19 @@ use Rattle.nm_reading.specs.declared.fault.Step.{Step}
 use Rattle.nm_reading.specs.declared.fault.Step.TheVariants.{Name, Item}
 use Rattle.nm_reading.specs.declared.fault.Fault.{Fault}
 use Rattle.nm_reading.specs.Reading.{required, optional}
+use Rattle.nm_form.specs.Form.{not_built}
+use Rattle.nm_form.specs.Exact.{IsFirstOf}
+use Rattle.nm_form.specs.Places.{stepped}
+use Rattle.nm_events.specs.declared.arguments.Counts.{Counts}
+use Rattle.nm_events.specs.Events.{events_form}
+use Rattle.nm_scenario.specs.Flat.{flat_edit}
 use Rattle.nm_scenario.specs.declared.head.Form.TheVariants as form
 use Rattle.nm_scenario.specs.declared.head.ReadModule.{ReadModule}
 use Rattle.nm_scenario.specs.Head.{form_at, modules_at, statements_of}
 use Rattle.nm_scenario.specs.Scenario.{byte_limit, json_of}
-use Rattle.nm_refusals.specs.Roles.{Frame, Role, scenario, unread, flat, yang, with_tree}
+use Rattle.nm_refusals.specs.Roles.{Frame, Edits, flat_edits, no_edits, Role, scenario, events, unread, flat, yang, with_tree}
 use Rattle.nm_refusals.specs.Members.{knows, Requires}
-use Rattle.nm_refusals.specs.Steps.{stepped, Below}
+use Rattle.nm_refusals.specs.Steps.{Below}
 use Rattle.nm_refusals.specs.Wrong.{Wrong}
 
 -- ---- parts
@@ -52,6 +58,11 @@ pub record Strange (role : Role) (part : Data) (name : List ℕ) : Type 0 where
   pub unknown : knows role name ≡ false
   pub least : (other : List ℕ) (part : Data) → Ascending members → get_member other members ≡ Some part → knows role other ≡ false → slice_cmp nat_cmp other name ≡ Less → ⊥
 
+-- the first fault of the events of a scenario by their table, where the edits of operators are so
+abbrev pub OfEvents : Edits → Counts → Data → Fault → Type 0
+OfEvents flat_edits counts part fault = IsFirstOf (events_form flat_edit counts) part fault
+OfEvents no_edits counts part fault = IsFirstOf (events_form {E = Unit {0}} not_built counts) part fault
+
 -- a part of a role has a fault of a kind at a place
 pub data Tells : Role → Data → ScenarioKind → List Step → Type 0 where
   -- the part itself is wrong
@@ -60,13 +71,16 @@ pub data Tells : Role → Data → ScenarioKind → List Step → Type 0 where
   missing : {role : Role} {part : Data} {name : List ℕ} → Lacks role part name → Tells role part kind.Missing (Name name ∷ [])
   -- the place names a member that is there
   unknown : {role : Role} {part : Data} {name : List ℕ} → Strange role part name → Tells role part kind.Unknown (Name name ∷ [])
+  -- the fault is the first of the events
+  in_events : {edits : Edits} {counts : Counts} {part : Data} (fault : Fault) → OfEvents edits counts part fault
+      → Tells (events edits counts) part fault.cause.kind fault.place
   -- the fault is that of what stands one step further in
   inside : {role : Role} {part : Data} {k : ScenarioKind} {step : Step} {place : List Step} (inner : Role) (child : Data) → Below role part step inner → stepped step part ≡ Some child → Tells inner child k place
       → Tells role part k (step ∷ place)
 
 -- a fault of a part
 abbrev pub Told : Role → Data → Fault → Type 0
-Told role part fault = Tells role part fault.kind fault.place
+Told role part fault = Tells role part fault.cause.kind fault.place
 
 -- ---- the whole
 
@@ -97,7 +111,7 @@ pub data TellsWhole : Bool → Data → ScenarioKind → List Step → Type 0 wh
 
 -- a fault of a scenario
 abbrev pub ToldOfWhole : Bool → Data → Fault → Type 0
-ToldOfWhole built whole fault = TellsWhole built whole fault.kind fault.place
+ToldOfWhole built whole fault = TellsWhole built whole fault.cause.kind fault.place
 
 -- bytes have a fault as a scenario
 pub data TellsBytes : Bool → List ℕ → ScenarioKind → List Step → Type 0 where
@@ -107,22 +121,4 @@ pub data TellsBytes : Bool → List ℕ → ScenarioKind → List Step → Type 
 
 -- a fault of bytes as a scenario
 abbrev pub ToldOfBytes : Bool → List ℕ → Fault → Type 0
-ToldOfBytes built bytes fault = TellsBytes built bytes fault.kind fault.place
-
--- ---- what a place leads to, whatever stands where
-
--- the part that a place leads to, if there is one
-abbrev pub walked : List Step → Data → Option Data
-walked [] part = Some part
-walked (step ∷ steps) part = option_and_then (walked steps) (stepped step part)
-
--- a place names a member that an object doesn't have
-pub record LacksMember (whole : Data) (place : List Step) : Type 0 where
-  pub above : List Step
-  pub name : List ℕ
-  pub place_is : place ≡ above ++ Name name ∷ []
-  pub part : Data
-  pub part_is : walked above whole ≡ Some part
-  pub members : Members
-  pub object_is : as_object part ≡ Some members
-  pub absent : get_member name members ≡ None
+ToldOfBytes built bytes fault = TellsBytes built bytes fault.cause.kind fault.place

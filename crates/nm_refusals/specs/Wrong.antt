@@ -3,14 +3,12 @@ use Rattle.std.specs.Prelude.{◌≡◌, ℕ, ◌<◌, ◌-◌, ◌^◌, List, [
 use Rattle.std.specs.Str.{bytes_eq}
 use Rattle.std.specs.Ordering.{nat_cmp}
 use Rattle.std.specs.FinMap.{FinMap, empty}
-use Rattle.serde_json.specs.Data.{Data, Items, Members, no_members, member}
-use Rattle.serde_json.specs.Find.{at, as_bool, as_str, as_array, as_object}
+use Rattle.serde_json.specs.Data.{Data, Members}
+use Rattle.serde_json.specs.Find.{as_bool, as_str, as_array, as_object}
 use Rattle.nm_base.specs.Words.{manager}
 use Rattle.nm_yang.specs.Module.{reading}
 use Rattle.nm_yang.specs.declared.fault.Fault.{Fault as TextFault}
 use Rattle.nm_proto.specs.declared.flat.FlatEdit.{FlatEdit}
-use Rattle.nm_proto.specs.declared.message.RequestWord.TheVariants as word
-use Rattle.nm_proto.specs.Message.{word_text}
 use Rattle.nm_proto.specs.Content.{Refusal}
 use Rattle.nm_proto.specs.Flat.{FlatState, flat_violation}
 use Rattle.nm_tree.specs.Nodes.{SchemaTree}
@@ -20,15 +18,15 @@ use Rattle.nm_json.specs.Whole.{config_read}
 use Rattle.nm_proto.specs.declared.kind.ScenarioKind.{ScenarioKind}
 use Rattle.nm_proto.specs.declared.kind.ScenarioKind.TheVariants as kind
 use Rattle.nm_reading.specs.Reading.{natural_of}
-use Rattle.nm_reading.specs.Words.{is_word, item_count}
-use Rattle.nm_events.specs.Limits.{device_limit, change_limit, operator_limit, event_limit}
-use Rattle.nm_events.specs.Requests.{asks}
-use Rattle.nm_events.specs.Events.{is_within, is_unbuilt, asks_unbuilt, elementary_total}
-use Rattle.nm_scenario.specs.Flat.{row_limit, node_limit, key_of, member_count, change_of, cells_at, flat_edit_at}
+use Rattle.nm_reading.specs.Words.{item_count}
+use Rattle.nm_form.specs.Read.{read}
+use Rattle.nm_events.specs.Limits.{device_limit, change_limit, operator_limit}
+use Rattle.nm_events.specs.Events.{is_within}
+use Rattle.nm_scenario.specs.Flat.{row_limit, node_limit, key_of, member_count, cells_at, is_change, all_members, flat_edit}
 use Rattle.nm_scenario.specs.Head.{module_limit}
 use Rattle.nm_scenario.specs.Changes.{goes_through}
 use Rattle.nm_scenario.specs.Operators.{user_limit}
-use Rattle.nm_refusals.specs.Roles.{Contents, cells, data_of, Edits, flat_edits, no_edits, Counts, Role}
+use Rattle.nm_refusals.specs.Roles.{cells, data_of, Role}
 use Rattle.nm_refusals.specs.Roles as role
 
 -- ---- forms
@@ -40,7 +38,6 @@ is_object_role (role.device contents) = true
 is_object_role (role.change states) = true
 is_object_role (role.entry states low) = true
 is_object_role role.operator = true
-is_object_role (role.asked_edit edits) = true
 is_object_role _ = false
 
 -- the roles of lists
@@ -50,7 +47,6 @@ is_list_role (role.devices contents) = true
 is_list_role (role.changes states) = true
 is_list_role (role.entries states) = true
 is_list_role (role.operators count) = true
-is_list_role (role.events edits counts) = true
 is_list_role role.no_modules = true
 is_list_role role.nothing = true
 is_list_role _ = false
@@ -70,23 +66,11 @@ limit_of (role.entries states) = Some (2 ^ 64 - 1)
 limit_of (role.operators count) = Some operator_limit
 limit_of _ = None
 
--- the roles of lists that begin with a word
-abbrev pub is_worded : Role → Bool
-is_worded (role.event edits counts) = true
-is_worded (role.request edits) = true
-is_worded _ = false
-
 -- the roles of switches
 abbrev pub is_switch_role : Role → Bool
 is_switch_role role.off = true
 is_switch_role role.switch = true
 is_switch_role _ = false
-
--- the roles of flat edits
-abbrev pub is_flat_edit_role : Role → Bool
-is_flat_edit_role (role.change_edit running) = true
-is_flat_edit_role (role.edit flat_edits) = true
-is_flat_edit_role _ = false
 
 -- ---- texts
 
@@ -107,57 +91,11 @@ is_form part = says part (codes "flat") || says part (codes "yang")
 abbrev pub is_unbuilt_operation : Data → Bool
 is_unbuilt_operation part = says part (codes "replace") || says part (codes "none")
 
-abbrev pub is_store : Data → Bool
-is_store part = says part (codes "running") || says part (codes "candidate")
-
--- the words of events
-abbrev pub is_event_word : Data → Bool
-is_event_word part =
-    says part (codes "submit") || says part (codes "turn") || says part (codes "deliver") || says part (codes "answer") || says part (codes "foreign") || says part (codes "leave")
-    || says part (codes "round") || says part (codes "break") || says part (codes "lose") || says part (codes "advance") || says part (codes "restart") || says part (codes "forget")
-    || says part (codes "crash")
-
--- the words of requests that are built
-abbrev pub is_request_word : Data → Bool
-is_request_word part =
-    says part (word_text word.Open) || says part (word_text word.Lock) || says part (word_text word.Unlock) || says part (word_text word.Edit)
-    || says part (word_text word.Validate) || says part (word_text word.Commit) || says part (word_text word.Discard) || says part (word_text word.HasMark)
-    || says part (word_text word.GetConfig) || says part (word_text word.CloseSession)
-
--- how many items a list of a role has by its word, the word included
-pub data Takes : Role → Data → ℕ → Type 0 where
-  submit : {whole : Data} {edits : Edits} {counts : Counts} → is_word whole (codes "submit") ≡ true → Takes (role.event edits counts) whole 2
-  turn : {whole : Data} {edits : Edits} {counts : Counts} → is_word whole (codes "turn") ≡ true → Takes (role.event edits counts) whole 2
-  deliver : {whole : Data} {edits : Edits} {counts : Counts} → is_word whole (codes "deliver") ≡ true → Takes (role.event edits counts) whole 4
-  answer : {whole : Data} {edits : Edits} {counts : Counts} → is_word whole (codes "answer") ≡ true → Takes (role.event edits counts) whole 5
-  foreign : {whole : Data} {edits : Edits} {counts : Counts} → is_word whole (codes "foreign") ≡ true → Takes (role.event edits counts) whole 4
-  leave : {whole : Data} {edits : Edits} {counts : Counts} → is_word whole (codes "leave") ≡ true → Takes (role.event edits counts) whole 3
-  round : {whole : Data} {edits : Edits} {counts : Counts} → is_word whole (codes "round") ≡ true → Takes (role.event edits counts) whole 3
-  open_session : {whole : Data} {edits : Edits} → asks word.Open whole ≡ true → Takes (role.request edits) whole 1
-  lock : {whole : Data} {edits : Edits} → asks word.Lock whole ≡ true → Takes (role.request edits) whole 2
-  unlock : {whole : Data} {edits : Edits} → asks word.Unlock whole ≡ true → Takes (role.request edits) whole 2
-  edit : {whole : Data} {edits : Edits} → asks word.Edit whole ≡ true → Takes (role.request edits) whole 2
-  validate : {whole : Data} {edits : Edits} → asks word.Validate whole ≡ true → Takes (role.request edits) whole 1
-  commit : {whole : Data} {edits : Edits} → asks word.Commit whole ≡ true → Takes (role.request edits) whole 1
-  discard : {whole : Data} {edits : Edits} → asks word.Discard whole ≡ true → Takes (role.request edits) whole 1
-  has_mark : {whole : Data} {edits : Edits} → asks word.HasMark whole ≡ true → Takes (role.request edits) whole 2
-  get_config : {whole : Data} {edits : Edits} → asks word.GetConfig whole ≡ true → Takes (role.request edits) whole 1
-  close_session : {whole : Data} {edits : Edits} → asks word.CloseSession whole ≡ true → Takes (role.request edits) whole 1
-
 -- ---- flat configurations and edits
 
 -- a member of a flat configuration: a key and a number
 abbrev pub is_cell : List ℕ → Data → Bool
 is_cell name part = is_some (key_of name) && is_some (natural_of part)
-
--- a member of a flat edit: a key, and a number or null
-abbrev pub is_change : List ℕ → Data → Bool
-is_change name part = is_some (key_of name) && is_some (change_of part)
-
--- all members are so
-abbrev pub all_members : (List ℕ → Data → Bool) → Members → Bool
-all_members test no_members = true
-all_members test (member name part rest) = test name part && all_members test rest
 
 -- an object whose members are all so
 abbrev pub are_all : (List ℕ → Data → Bool) → Option Members → Bool
@@ -181,24 +119,17 @@ pub data Wrong : Role → ScenarioKind → Data → Type 0 where
   no_text : {part : Data} → as_str part ≡ None → Wrong role.module_text kind.BadValue part
   no_operation : {part : Data} → says part (codes "merge") ≡ false → is_unbuilt_operation part ≡ false → Wrong role.operation kind.BadValue part
   no_user : {part : Data} → is_user (as_str part) ≡ false → Wrong role.user kind.BadValue part
-  no_word : {r : Role} {part : Data} → is_worded r ≡ true → at 0 part ≡ None → Wrong r kind.BadValue part
-  other_count : {r : Role} {part : Data} (n : ℕ) → Takes r part n → (item_count part == n) ≡ false → Wrong r kind.BadValue part
-  no_event : {part : Data} → is_event_word part ≡ false → Wrong role.event_word kind.BadValue part
-  no_request : {part : Data} → is_request_word part ≡ false → Wrong role.request_word kind.BadValue part
-  no_store : {part : Data} → is_store part ≡ false → Wrong role.store kind.BadValue part
-  argument : {part : Data} → Wrong role.no_argument kind.BadValue part
   some_module : {part : Data} → (item_count part == 0) ≡ false → Wrong role.no_modules kind.BadValue part
   -- too many
   too_many_items : {r : Role} {part : Data} (limit : ℕ) → limit_of r ≡ Some limit → limit < item_count part → Wrong r kind.TooMany part
   too_many_cells : {part : Data} (members : Members) → as_object part ≡ Some members → row_limit < member_count members → Wrong (role.running cells) kind.TooMany part
-  too_many_nodes : {r : Role} {part : Data} (members : Members) → is_flat_edit_role r ≡ true → as_object part ≡ Some members → node_limit < member_count members → Wrong r kind.TooMany part
+  too_many_nodes : {part : Data} {state : Option FlatState} (members : Members) → as_object part ≡ Some members → node_limit < member_count members → Wrong (role.change_edit state) kind.TooMany part
   too_many_rows : {part : Data} {tree : SchemaTree} → config_read tree part ≡ Err TooManyRows → Wrong (role.running (data_of tree)) kind.TooMany part
-  too_many_events : {part : Data} {edits : Edits} {counts : Counts} (items : Items) → as_array part ≡ Some items → event_limit < elementary_total counts.changes items → Wrong (role.events edits counts) kind.TooMany part
   -- texts of modules that can't be read (RFC 7950 section 6)
   no_module : {part : Data} (text : List ℕ) (fault : TextFault) → as_str part ≡ Some text → reading text ≡ Err fault → Wrong role.module_text kind.Yang part
   -- configurations and edits that can't be read
   no_cells : {part : Data} → are_all is_cell (as_object part) ≡ false → Wrong (role.running cells) kind.Content part
-  no_edit : {r : Role} {part : Data} → is_flat_edit_role r ≡ true → are_all is_change (as_object part) ≡ false → Wrong r kind.Content part
+  no_edit : {part : Data} {state : Option FlatState} → are_all is_change (as_object part) ≡ false → Wrong (role.change_edit state) kind.Content part
   no_data : {part : Data} {tree : SchemaTree} (k : JsonKind) (path : List ℕ) → config_read tree part ≡ Err (Bad k path) → Wrong (role.running (data_of tree)) kind.Content part
   -- configurations that aren't valid
   invalid : {part : Data} (found : FinMap nat_cmp ℕ) (refusal : Refusal) → cells_at part ≡ Ok found → flat_violation (unmarked found) ≡ Some refusal → Wrong (role.running cells) kind.Invalid part
@@ -206,10 +137,7 @@ pub data Wrong : Role → ScenarioKind → Data → Type 0 where
   unbuilt_form : {part : Data} → says part (codes "yang") ≡ true → Wrong (role.form false) kind.NotBuilt part
   unbuilt_change : {part : Data} → Wrong role.later_change kind.NotBuilt part
   unbuilt_operation : {part : Data} → is_unbuilt_operation part ≡ true → Wrong role.operation kind.NotBuilt part
-  unbuilt_result : {part : Data} {running : Option FlatState} (edit : FlatEdit) → flat_edit_at part ≡ Ok edit → goes_through running edit ≡ false → Wrong (role.change_edit running) kind.NotBuilt part
+  unbuilt_result : {part : Data} {running : Option FlatState} (edit : FlatEdit) → read flat_edit part ≡ Ok edit → goes_through running edit ≡ false → Wrong (role.change_edit running) kind.NotBuilt part
   unbuilt_beside : {part : Data} {count : ℕ} → (count == 0) ≡ false → (item_count part == 0) ≡ false → Wrong (role.operators count) kind.NotBuilt part
-  unbuilt_event : {part : Data} {edits : Edits} {counts : Counts} → is_unbuilt part ≡ true → Wrong (role.event edits counts) kind.NotBuilt part
-  unbuilt_request : {part : Data} {edits : Edits} {counts : Counts} → is_word part (codes "foreign") ≡ true → asks_unbuilt (at 3 part) ≡ true → Wrong (role.event edits counts) kind.NotBuilt part
   unbuilt_list : {part : Data} → (item_count part == 0) ≡ false → Wrong role.nothing kind.NotBuilt part
-  unbuilt_edit : {part : Data} → Wrong (role.edit no_edits) kind.NotBuilt part
   unbuilt_on : {part : Data} → as_bool part ≡ Some true → Wrong role.off kind.NotBuilt part

@@ -10,7 +10,8 @@ ghost use Rattle.nm_proto.specs.declared.kind.ScenarioKind.TheVariants.{Missing}
 ghost use Rattle.nm_reading.specs.declared.fault.Step.{Step};
 ghost use Rattle.nm_scenario.specs.declared.scenario.Scenario.{Scenario};
 ghost use Rattle.nm_scenario.specs.Scenario.{Reads, ReadsBytes, json_of};
-ghost use Rattle.nm_refusals.specs.Told.{Ascending, TellsWhole, ToldOfWhole, walked, LacksMember};
+ghost use Rattle.nm_form.specs.Places.{walked, LacksMember};
+ghost use Rattle.nm_refusals.specs.Told.{Ascending, TellsWhole, ToldOfWhole};
 ghost use Rattle.nm_refusals.specs.Kept.{ScenarioKeeps};
 ghost use Rattle.nm_refusals.specs.Order.{Reordered, Spells};
 

@@ -8,7 +8,7 @@ use std::test::Fail;
 fn met(answer: Result<Scenario, ReadError>) -> Result<Option<(ScenarioKind, usize)>, NoMemory> {
     match answer {
         Ok(_) => Ok(None),
-        Err(ReadError::Bad(fault)) => Ok(Some((fault.kind, fault.place.len()))),
+        Err(ReadError::Bad(fault)) => Ok(Some((fault.cause.kind, fault.place.len()))),
         Err(ReadError::NoMemory) => Err(NoMemory),
     }
 }

@@ -2,3 +2,4 @@ pub mod Report
 pub mod Trace
 pub mod Text
 pub mod Check
+pub mod Journal

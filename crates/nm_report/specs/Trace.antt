@@ -85,6 +85,8 @@ happened_text happened.Ended = codes "ended"
 happened_text (happened.Replied reply undone) = codes "reply " ++ reply_text reply ++ undone_text undone
 happened_text happened.Handled = codes "handled"
 happened_text (happened.Left undone) = codes "left" ++ undone_text undone
+happened_text (happened.Now clock undone) = codes "now " ++ decimal clock ++ undone_text undone
+happened_text (happened.Restarted undone) = codes "restarted" ++ undone_text undone
 
 abbrev pub trace_line : ℕ → Happened → List ℕ
 trace_line number what = decimal number ++ codes " " ++ happened_text what ++ codes "\n"

@@ -1,17 +1,17 @@
 ghost use Rattle.std.specs.Prelude.{◌≡◌, ◌++◌, IfOk, OnOk, All};
 ghost use Rattle.nm_world.specs.World.{IsSoundDevice};
 ghost use Rattle.std.specs.List.{flat_map};
-ghost use Rattle.nm_world.specs.Course.{is_submitted, is_decided, is_ended};
-ghost use Rattle.nm_report.specs.Text.{state_text, change_line, pair_text, outcome_line, outcome_lines, pair_line, pair_lines, outcome_word, start_text, head_text, pairs_text, running_lines, running_of, devices_text};
+ghost use Rattle.nm_recovery.specs.Recovery.{is_started, verdict_in, is_ended_in};
+ghost use Rattle.nm_report.specs.Text.{decided_text, ended_text, state_text, change_line, pair_text, outcome_line, outcome_lines, pair_line, pair_lines, outcome_word, start_text, head_text, pairs_text, running_lines, running_of, devices_text};
 
 use crate::report::DeviceReport;
 use crate::text::{HEADING, put, write_devices_running};
-use crate::trace::write_trace;
+use crate::trace::{write_trace, write_verdict};
 use nm_base::{ChangeNo, NoMemory, write_decimal};
-use nm_device::Recorded;
-use nm_proto::{Entry, Show};
-use nm_world::course::{is_decided, is_ended, is_submitted};
-use nm_world::{Outcome, Passed, World};
+use nm_history::{Outcome, Recorded};
+use nm_proto::{Entry, Show, Verdict};
+use nm_recovery::{is_ended_in, is_started, verdict_in};
+use nm_world::{Passed, World};
 use std::alloc::Global;
 
 /// The line of a change set, with what the journal says of it.
@@ -22,22 +22,33 @@ pub fn write_change(out: &mut Vec<u8>, change: ChangeNo, entries: &[Entry]) -> R
     put(out, "change ")?;
     write_decimal(u64::from(change.get()), out)?;
     put(out, " ")?;
-    put(out, state_word(entries))?;
+    write_state(out, change, entries)?;
     put(out, "\n")
 }
 
-fn state_word(entries: &[Entry]) -> &'static str
-    ensures { result.now ≡ state_text (is_submitted entries.now) (is_decided entries.now) (is_ended entries.now) }
+fn write_state(out: &mut Vec<u8>, change: ChangeNo, entries: &[Entry]) -> Result<(), NoMemory>
+    ensures { OnOk result (out.new.items ≡ out.old.items ++ state_text (is_started change entries.now) (verdict_in change entries.now) (is_ended_in change entries.now)) }
 {
-    if !is_submitted(entries) {
-        "unsubmitted"
-    } else if !is_decided(entries) {
-        "undecided"
-    } else if !is_ended(entries) {
-        "commit"
-    } else {
-        "commit ended"
+    if !is_started(entries, change) {
+        return put(out, "unsubmitted");
     }
+    write_decided(out, &verdict_in(entries, change))?;
+    put(out, ended_word(is_ended_in(entries, change)))
+}
+
+fn write_decided(out: &mut Vec<u8>, verdict: &Option<Verdict>) -> Result<(), NoMemory>
+    ensures { OnOk result (out.new.items ≡ out.old.items ++ decided_text verdict.now) }
+{
+    match verdict {
+        Some(verdict) => write_verdict(out, verdict),
+        None => put(out, "undecided"),
+    }
+}
+
+fn ended_word(ended: bool) -> &'static str
+    ensures { result.now ≡ ended_text ended }
+{
+    if ended { " ended" } else { "" }
 }
 
 fn write_pair(out: &mut Vec<u8>, change: ChangeNo, device: u64) -> Result<(), NoMemory>
@@ -57,7 +68,7 @@ fn word_of(outcome: Outcome) -> &'static str
         Outcome::Never => "never",
         Outcome::Pending => "pending",
         Outcome::Confirmed => "confirmed",
-        Outcome::Undone => "undone",
+        Outcome::Undone { .. } => "undone",
     }
 }
 

@@ -2,10 +2,10 @@ ghost use Rattle.std.specs.Prelude.{◌≡◌, ◌<◌, ◌-◌, ◌^◌, ◌++�
 ghost use Rattle.nm_report.specs.Report.{report_at, reports_from, differing, unsettled};
 
 use nm_base::{Label, NoMemory};
-use nm_device::Recorded;
+use nm_history::{Outcome, Recorded, outcome_of};
 use nm_proto::Content;
-use nm_world::outcome::{is_settled_at, outcome_of};
-use nm_world::{Link, Outcome};
+use nm_world::Link;
+use nm_world::settled::is_settled_at;
 use std::alloc::Global;
 
 /// What is reported of a change set at one of its devices.

@@ -3,7 +3,7 @@ ghost use Rattle.nm_world.specs.World.{IsSoundDevice};
 ghost use Rattle.nm_report.specs.Text.{running_line, running_lines, running_of};
 
 use nm_base::{NoMemory, write_decimal};
-use nm_device::Recorded;
+use nm_history::Recorded;
 use nm_proto::Show;
 
 /// The first line of a text.

@@ -168,6 +168,14 @@ fn write_replied(out: &mut Vec<u8>, reply: &Reply, undone: bool) -> Result<(), N
     put(out, undone_word(undone))
 }
 
+fn write_now(out: &mut Vec<u8>, clock: u64, undone: bool) -> Result<(), NoMemory>
+    ensures { OnOk result (out.new.items ≡ out.old.items ++ codes "now " ++ decimal clock ++ undone_text undone) }
+{
+    put(out, "now ")?;
+    write_decimal(clock, out)?;
+    put(out, undone_word(undone))
+}
+
 fn write_happened(out: &mut Vec<u8>, what: &Happened) -> Result<(), NoMemory>
     ensures { OnOk result (out.new.items ≡ out.old.items ++ happened_text what.now) }
 {
@@ -188,6 +196,11 @@ fn write_happened(out: &mut Vec<u8>, what: &Happened) -> Result<(), NoMemory>
         Happened::Handled => put(out, "handled"),
         Happened::Left { undone } => {
             put(out, "left")?;
+            put(out, undone_word(*undone))
+        }
+        Happened::Now { clock, undone } => write_now(out, *clock, *undone),
+        Happened::Restarted { undone } => {
+            put(out, "restarted")?;
             put(out, undone_word(*undone))
         }
     }

@@ -1,4 +1,5 @@
 pub mod Answered
 pub mod Counts
+pub mod Edits
 pub mod Json
 pub mod Single

@@ -16,10 +16,11 @@ use Rattle.nm_proto.specs.declared.kind.ScenarioKind.TheVariants.{NotBuilt}
 use Rattle.nm_reading.specs.declared.fault.Fault.{Fault}
 use Rattle.nm_reading.specs.Reading.{◌>>=◌, here, required, optional, object_at, only_known, list_at, natural_of, in_range, number_within, some_of}
 use Rattle.nm_events.specs.Limits.{change_limit, device_limit}
-use Rattle.nm_events.specs.Requests.{default_at}
+use Rattle.nm_form.specs.Read.{read}
+use Rattle.nm_events.specs.Arguments.{operation as default_operation}
 use Rattle.nm_scenario.specs.declared.scenario.ReadChange.{ReadChange}
 use Rattle.nm_scenario.specs.declared.scenario.ReadEdit.{ReadEdit}
-use Rattle.nm_scenario.specs.Flat.{flat_edit_at}
+use Rattle.nm_scenario.specs.Flat.{flat_edit}
 
 abbrev pub knows_change : List ℕ → Bool
 knows_change name = bytes_eq name (codes "timeout") || bytes_eq name (codes "edits")
@@ -54,7 +55,7 @@ goes_through (Some running) edit = result_is_valid (flat_edited running edit.cha
 -- an edit of a device with this running configuration
 unfoldable pub edit_at : Option FlatState → Data → Result FlatEdit Fault
 edit_at running part = do
-  edit ← flat_edit_at part
+  edit ← read flat_edit part
   if goes_through running edit then Ok edit else here NotBuilt
 
 -- one edit of a change set, its device above those before it
@@ -62,7 +63,7 @@ unfoldable pub entry_at : List FlatState → List ReadEdit → Data → Result R
 entry_at devices before part = do
   whole ← object_at part
   device ← required (codes "device") (device_within (last_device before + 1) (length devices)) part
-  operation ← optional (codes "default") Merge default_at part
+  operation ← optional (codes "default") Merge (read default_operation) part
   edit ← required (codes "edit") (edit_at (slice_get devices (device - 1))) part
   known ← only_known knows_edit part
   Ok (record { device = device; default_operation = operation; edit = edit })

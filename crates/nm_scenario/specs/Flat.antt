@@ -1,14 +1,16 @@
 -- Flat configurations and edits in JSON (this project's own): objects from keys, decimals below 2^32, to numbers.
-use Rattle.std.specs.Prelude.{ℕ, ◌+◌, ◌^◌, nat_lt, List, Option, Some, None, option_and_then, option_map, Result, Ok, if◌then◌else◌}
+use Rattle.std.specs.Prelude.{ℕ, ◌+◌, ◌^◌, nat_lt, List, Bool, true, ◌&&◌, Option, Some, None, is_some, unwrap_or, option_and_then, option_map, Result, Ok, Err, if◌then◌else◌}
 use Rattle.std.specs.Ordering.{nat_cmp}
 use Rattle.std.specs.FinMap.{FinMap, insert, empty}
 use Rattle.serde_json.specs.Data.{Data, null, boolean, number, string, array, object, Members, no_members, member}
-use Rattle.serde_json.specs.Find.{as_u64}
+use Rattle.serde_json.specs.Find.{as_u64, as_object}
 use Rattle.nm_base.specs.Decimal.{number_of}
 use Rattle.nm_proto.specs.declared.flat.FlatEdit.{FlatEdit}
 use Rattle.nm_proto.specs.declared.kind.ScenarioKind.TheVariants.{Content, TooMany}
+use Rattle.nm_reading.specs.declared.fault.Cause.{Cause}
 use Rattle.nm_reading.specs.declared.fault.Fault.{Fault}
-use Rattle.nm_reading.specs.Reading.{◌>>=◌, here, natural_of}
+use Rattle.nm_reading.specs.Reading.{◌>>=◌, here, natural_of, plain}
+use Rattle.nm_form.specs.Form.{Form, leaf}
 
 -- the greatest number of rows of one device, and of nodes of one edit
 abbrev pub row_limit : ℕ
@@ -57,24 +59,41 @@ change_of (string text) = None
 change_of (array items) = None
 change_of (object m) = None
 
-abbrev pub changes_after : FinMap nat_cmp (Option ℕ) → Members → Result (FinMap nat_cmp (Option ℕ)) Fault
-changes_after changes no_members = Ok changes
-changes_after changes (member name part rest) = do
+-- the changes so far, and then those of more members, one after another
+abbrev pub changes_read : FinMap nat_cmp (Option ℕ) → Members → Result (FinMap nat_cmp (Option ℕ)) Fault
+changes_read changes no_members = Ok changes
+changes_read changes (member name part rest) = do
   key ← or_unread (key_of name)
   change ← or_unread (change_of part)
-  changes_after (insert changes key change) rest
+  changes_read (insert changes key change) rest
 
--- the changes of an object of at most node_limit members
-abbrev pub changes_at : Data → Result (FinMap nat_cmp (Option ℕ)) Fault
-changes_at (object m) = if nat_lt node_limit (member_count m) then here TooMany else changes_after empty m
-changes_at null = here Content
-changes_at (boolean b) = here Content
-changes_at (number n) = here Content
-changes_at (string text) = here Content
-changes_at (array items) = here Content
-
--- a flat edit
-unfoldable pub flat_edit_at : Data → Result FlatEdit Fault
-flat_edit_at part = do
-  changes ← changes_at part
+abbrev pub flat_edit_read : Members → Result FlatEdit Fault
+flat_edit_read members = if nat_lt node_limit (member_count members) then here TooMany else do
+  changes ← changes_read empty members
   Ok (record { changes = changes })
+
+-- a member of a flat edit: a key, and a number or null
+abbrev pub is_change : List ℕ → Data → Bool
+is_change name part = is_some (key_of name) && is_some (change_of part)
+
+-- all members are so
+abbrev pub all_members : (List ℕ → Data → Bool) → Members → Bool
+all_members test no_members = true
+all_members test (member name part rest) = test name part && all_members test rest
+
+-- the changes so far and those of more members, all of which are changes
+abbrev pub changes_after : FinMap nat_cmp (Option ℕ) → Members → FinMap nat_cmp (Option ℕ)
+changes_after changes no_members = changes
+changes_after changes (member name part rest) = changes_after (insert changes (unwrap_or (key_of name) 0) (unwrap_or (change_of part) None)) rest
+
+abbrev pub flat_edit_of : Option Members → Result FlatEdit Cause
+flat_edit_of None = Err (plain Content)
+flat_edit_of (Some members) = if nat_lt node_limit (member_count members) then Err (plain TooMany) else
+    (if all_members is_change members then Ok (record { changes = changes_after empty members }) else Err (plain Content))
+
+unfoldable pub flat_edit_said : Data → Result FlatEdit Cause
+flat_edit_said part = flat_edit_of (as_object part)
+
+-- a flat edit: an object of at most node_limit members, all of which are changes
+abbrev pub flat_edit : Form FlatEdit
+flat_edit = leaf flat_edit_said

@@ -16,9 +16,11 @@ use Rattle.nm_reading.specs.declared.fault.Step.TheVariants.{Name, Item}
 use Rattle.nm_reading.specs.declared.fault.Fault.{Fault}
 use Rattle.nm_reading.specs.declared.fault.ReadError.{ReadError}
 use Rattle.nm_reading.specs.declared.fault.ReadError.TheVariants as error
-use Rattle.nm_reading.specs.Reading.{◌>>=◌, here, there, under, required, optional, only_known, empty_list_at, off_at, switch_at, unbuilt_at}
-use Rattle.nm_events.specs.Events.{events_at}
-use Rattle.nm_events.specs.Numbered.{events_from, edits_of_events}
+use Rattle.nm_reading.specs.Reading.{◌>>=◌, here, there, under, required, optional, only_known, empty_list_at, off_at, switch_at}
+use Rattle.nm_form.specs.Form.{Form, not_built}
+use Rattle.nm_form.specs.Read.{read as form_read}
+use Rattle.nm_events.specs.Events.{events_form}
+use Rattle.nm_events.specs.Numbered.{events_from, edits_of_events, selects_of_events}
 use Rattle.nm_scenario.specs.declared.scenario.Body.{Body}
 use Rattle.nm_scenario.specs.declared.scenario.Body.TheVariants.{Flat, Yang}
 use Rattle.nm_scenario.specs.declared.scenario.Scenario.{Scenario}
@@ -28,10 +30,11 @@ use Rattle.nm_scenario.specs.declared.head.Head.{Head}
 use Rattle.nm_scenario.specs.declared.head.Head.TheVariants as head
 use Rattle.nm_scenario.specs.declared.head.ReadModule.{ReadModule}
 use Rattle.nm_scenario.specs.Head.{head_at, flat_head_at, texts_of, statements_of}
-use Rattle.nm_scenario.specs.Flat.{flat_edit_at}
+use Rattle.nm_scenario.specs.Flat.{flat_edit}
 use Rattle.nm_scenario.specs.Devices.{devices_at, yang_devices_at}
 use Rattle.nm_scenario.specs.Changes.{changes_read_at, plans_from, edits_of}
 use Rattle.nm_scenario.specs.Operators.{operators_at}
+use Rattle.nm_scenario.specs.Counts.{count_in, counts_of}
 
 -- the members of a scenario
 abbrev pub knows_scenario : List ℕ → Bool
@@ -40,12 +43,12 @@ knows_scenario name = bytes_eq name (codes "netm") || bytes_eq name (codes "cont
 
 -- ---- what both contents have
 
--- the members after the change sets, in a scenario of so many change sets and devices whose edits are read so
-unfoldable pub rest_at : {E : Type 0} → (Data → Result E Fault) → ℕ → ℕ → Data → Result (Rest E) Fault
-rest_at read changes devices part = do
-  operators ← optional (codes "operators") [] (operators_at changes) part
+-- the members after the change sets, of a scenario whose edits are written so
+unfoldable pub rest_at : {E : Type 0} → Form E → Data → Result (Rest E) Fault
+rest_at edit part = do
+  operators ← optional (codes "operators") [] (operators_at (count_in (codes "changes") part)) part
   faults ← optional (codes "faults") tt (empty_list_at (here kind.NotBuilt)) part
-  events ← optional (codes "events") [] (events_at read changes devices operators) part
+  events ← optional (codes "events") [] (form_read (events_form edit (counts_of part))) part
   drain ← optional (codes "drain") tt off_at part
   trace ← optional (codes "trace") false switch_at part
   known ← only_known knows_scenario part
@@ -56,7 +59,7 @@ rest_at read changes devices part = do
 -- the scenario of what was read: the edits of the events come after those of the change sets
 abbrev pub flat_scenario : List FlatState → List ReadChange → Rest FlatEdit → Scenario
 flat_scenario devices changes rest =
-    record { body = Flat devices (edits_of changes ++ edits_of_events rest.events); changes = plans_from 0 changes; operators = rest.operators; events = events_from (length (edits_of changes)) rest.events; trace = rest.trace }
+    record { body = Flat devices (edits_of changes ++ edits_of_events rest.events); changes = plans_from 0 changes; operators = rest.operators; events = events_from rest.operators (length (edits_of changes)) 0 rest.events; selects = selects_of_events rest.events; trace = rest.trace }
 
 -- a scenario of flat contents, after its head
 unfoldable pub flat_scenario_at : Data → Result Scenario Fault
@@ -64,7 +67,7 @@ flat_scenario_at part = do
   modules ← optional (codes "modules") tt (empty_list_at (here kind.BadValue)) part
   devices ← required (codes "devices") devices_at part
   changes ← optional (codes "changes") [] (changes_read_at devices) part
-  rest ← rest_at flat_edit_at (length changes) (length devices) part
+  rest ← rest_at flat_edit part
   Ok (flat_scenario devices changes rest)
 
 abbrev pub is_flat : Body → Bool
@@ -86,14 +89,14 @@ tree_from (Err (TooLarge m place)) = at_module m
 -- the scenario of what was read. No edit has been, so none has a number
 abbrev pub yang_scenario : List (List ℕ) → SchemaTree → List Rows → Rest (Unit {0}) → Scenario
 yang_scenario texts tree devices rest =
-    record { body = Yang texts tree devices; changes = []; operators = rest.operators; events = events_from 0 rest.events; trace = rest.trace }
+    record { body = Yang texts tree devices; changes = []; operators = rest.operators; events = events_from rest.operators 0 0 rest.events; selects = selects_of_events rest.events; trace = rest.trace }
 
 -- a scenario of YANG contents, after its head, by the tree of its modules
 unfoldable pub yang_rest_at : SchemaTree → List (List ℕ) → Data → Result Scenario Fault
 yang_rest_at tree texts part = do
   devices ← required (codes "devices") (yang_devices_at tree) part
   changes ← optional (codes "changes") tt (empty_list_at (here kind.NotBuilt)) part
-  rest ← rest_at unbuilt_at 0 (length devices) part
+  rest ← rest_at not_built part
   Ok (yang_scenario texts tree devices rest)
 
 -- the same, by what its modules give

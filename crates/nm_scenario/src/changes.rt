@@ -10,6 +10,7 @@ use crate::scenario::{ReadChange, ReadEdit};
 use nm_base::{ChangeMask, ChangeNo, DEFAULT_TIMEOUT, DeviceNo, NoMemory};
 use nm_events::Operation;
 use nm_events::limits::{CHANGE_LIMIT, DEVICE_LIMIT};
+use nm_form::ByForm;
 use nm_proto::{
     ApplyFault, CheckFault, Content, DefaultOperation, FlatConfig, FlatContent, FlatEdit, Listed,
     Marks,
@@ -47,7 +48,7 @@ impl<'a> Reader for EditOf<'a> {
 
     #[tactic(auto, unfolding(crate::specs::Changes::edit_at))]
     fn read(&self, alloc: Global, part: &Value) -> Result<FlatEdit, ReadError> {
-        let edit = FlatEdits.read(alloc, part)?;
+        let edit = ByForm { reader: &FlatEdits }.read(alloc, part)?;
         if goes_through(alloc, self.running, &edit)? {
             return Ok(edit);
         }
@@ -178,7 +179,7 @@ impl<'a> ItemReader for Entry<'a> {
             part,
             "default",
             DefaultOperation::Merge,
-            &Operation,
+            &ByForm { reader: &Operation },
         )?;
         let edit = required_member(
             alloc,

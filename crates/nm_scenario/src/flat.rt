@@ -1,12 +1,14 @@
-ghost use Rattle.std.specs.Prelude.{◌≡◌, ℕ, if◌then◌else◌, nat_lt, string_bytes};
+ghost use Rattle.std.specs.Prelude.{◌≡◌, ℕ, if◌then◌else◌, nat_lt, Some, string_bytes};
 ghost use Rattle.std.specs.FinMap.{empty};
 ghost use Rattle.serde_json.specs.View.{view, members_view};
 ghost use Rattle.nm_reading.specs.Reading.{Gives, here, natural_of};
-ghost use Rattle.nm_scenario.specs.Flat.{flat_edit_at, row_limit, node_limit, key_of, change_of, or_unread, member_count, cells_after, cells_at, changes_after, changes_at};
+ghost use Rattle.nm_form.specs.Read.{told};
+ghost use Rattle.nm_scenario.specs.Flat.{flat_edit, flat_edit_of, flat_edit_read, row_limit, key_of, change_of, or_unread, member_count, cells_after, cells_at, changes_read};
 
 use nm_base::read_decimal;
+use nm_form::Reader;
 use nm_proto::{FlatEdit, NumberMap};
-use nm_reading::reader::{Reader, fault_here};
+use nm_reading::reader::fault_here;
 use nm_reading::{ReadError, ScenarioKind};
 use serde_json::{Map, Value};
 use std::alloc::Global;
@@ -76,41 +78,37 @@ pub struct FlatEdits;
 impl Reader for FlatEdits {
     type Out = FlatEdit;
 
-    ghost reads = { λ _. flat_edit_at };
+    ghost form = { λ _. flat_edit };
 
-    #[tactic(auto, unfolding(crate::specs::Flat::flat_edit_at))]
+    #[tactic(auto, unfolding(crate::specs::Flat::flat_edit_said))]
     fn read(&self, alloc: Global, part: &Value) -> Result<FlatEdit, ReadError> {
-        let changes = read_changes(alloc, part)?;
-        Ok(FlatEdit { changes })
+        match part.as_object() {
+            None => fault_here(alloc, ScenarioKind::Content),
+            Some(members) => edit_of(alloc, members),
+        }
     }
 }
 
-// The changes of a flat edit.
-fn read_changes(alloc: Global, part: &Value) -> Result<NumberMap<Option<u64>>, ReadError>
-    ensures { Gives result (changes_at (view part.now)) }
+#[tactic(auto, using(crate::proofs::Edits::edit_gives))]
+fn edit_of(alloc: Global, members: &Map<String, Value>) -> Result<FlatEdit, ReadError>
+    ensures { Gives result (told (flat_edit_of (Some (members_view members.now.entries)))) }
 {
-    match part.as_object() {
-        None => fault_here(alloc, ScenarioKind::Content),
-        Some(members) => changes_within(alloc, members),
-    }
+    changes_within(alloc, members)
 }
 
 #[tactic(auto, using(crate::proofs::Counts::counts))]
-fn changes_within(
-    alloc: Global,
-    members: &Map<String, Value>,
-) -> Result<NumberMap<Option<u64>>, ReadError>
-    ensures { Gives result (if nat_lt node_limit (member_count (members_view members.now.entries))
-        then here ScenarioKind.TooMany else changes_after empty (members_view members.now.entries)) }
+fn changes_within(alloc: Global, members: &Map<String, Value>) -> Result<FlatEdit, ReadError>
+    ensures { Gives result (flat_edit_read (members_view members.now.entries)) }
 {
     if members.len() > NODE_LIMIT {
         return fault_here(alloc, ScenarioKind::TooMany);
     }
-    changes(alloc, members)
+    let changes = changes(alloc, members)?;
+    Ok(FlatEdit { changes })
 }
 
 fn changes(alloc: Global, members: &Map<String, Value>) -> Result<NumberMap<Option<u64>>, ReadError>
-    ensures { Gives result (changes_after empty (members_view members.now.entries)) }
+    ensures { Gives result (changes_read empty (members_view members.now.entries)) }
 {
     let mut found = NumberMap::new(alloc);
     for (name, part) in members {

@@ -3,7 +3,7 @@
 ghost use Rattle.std.specs.Prelude.{◌≡◌, IfOk, IsTrue};
 ghost use Rattle.serde_json.specs.View.{view};
 ghost use Rattle.nm_reading.specs.Reading.{Gives};
-ghost use Rattle.nm_scenario.specs.Flat.{flat_edit_at};
+ghost use Rattle.nm_scenario.specs.Flat.{flat_edit};
 ghost use Rattle.nm_scenario.specs.Scenario.{flat_scenario, flat_scenario_at, is_flat};
 
 use crate::changes::Changes;
@@ -34,7 +34,7 @@ pub fn read_flat(alloc: Global, whole: &Value) -> Result<Scenario, ReadError>
     let devices = required_member(alloc, whole, "devices", &Devices)?;
     let reader = Changes { devices: &devices };
     let changes = optional_member(alloc, whole, "changes", Listed::new(alloc), &reader)?;
-    let rest = read_rest(alloc, whole, changes.len(), devices.len(), &FlatEdits)?;
+    let rest = read_rest(alloc, whole, &FlatEdits)?;
     Ok(put_together(alloc, devices, changes, rest)?)
 }
 
@@ -49,12 +49,19 @@ fn put_together(
     ensures flat { IfOk result (λ scenario. IsTrue (is_flat scenario.body)) }
 {
     let Numbered { changes, mut edits } = with_numbers(alloc, reads)?;
-    let events = with_event_numbers(alloc, rest.events, &mut edits)?;
+    let Rest {
+        operators,
+        events,
+        trace,
+    } = rest;
+    let mut selects = Listed::new(alloc);
+    let events = with_event_numbers(alloc, &operators, events, &mut edits, &mut selects)?;
     Ok(Scenario {
         body: Body::Flat { devices, edits },
         changes,
-        operators: rest.operators,
+        operators,
         events,
-        trace: rest.trace,
+        selects,
+        trace,
     })
 }

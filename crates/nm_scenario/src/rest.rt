@@ -1,15 +1,19 @@
 //! The members that both contents have after the change sets.
 
+ghost use Rattle.std.specs.Prelude.{◌≡◌};
 ghost use Rattle.serde_json.specs.View.{view};
 ghost use Rattle.nm_reading.specs.Reading.{Gives};
+ghost use Rattle.nm_scenario.specs.Counts.{count_in, counts_of};
 ghost use Rattle.nm_scenario.specs.Scenario.{knows_scenario, rest_at};
 
 use crate::operators::Operators;
 use nm_base::Label;
-use nm_events::{Events, ReadEvent};
+use nm_events::{Counts, Events, ReadEvent};
+use nm_form::{ByForm, Reader};
 use nm_proto::Listed;
-use nm_reading::reader::{Names, Reader, optional_member, read_only_known};
+use nm_reading::reader::{Names, optional_member, read_only_known};
 use nm_reading::values::{EmptyList, Off, Switch};
+use nm_reading::words::item_count;
 use nm_reading::{ReadError, ScenarioKind};
 use serde_json::Value;
 use std::alloc::Global;
@@ -43,29 +47,51 @@ impl Names for ScenarioNames {
     }
 }
 
-/// The members after the change sets, in a scenario of so many change sets and devices whose edits are read so.
+// How many items a member has.
+fn count_in(whole: &Value, name: &str) -> usize
+    ensures { result ≡ count_in name.now (view whole.now) }
+{
+    match whole.get(name) {
+        None => 0,
+        Some(part) => item_count(part),
+    }
+}
+
+// How many change sets, devices and operators there are, by the members.
+fn counts_of(whole: &Value) -> Counts
+    ensures { result ≡ counts_of (view whole.now) }
+{
+    Counts {
+        changes: count_in(whole, "changes"),
+        devices: count_in(whole, "devices"),
+        operators: count_in(whole, "operators"),
+    }
+}
+
+/// The members after the change sets, of a scenario whose edits are read so.
 #[tactic(auto, unfolding(crate::specs::Scenario::rest_at))]
 pub fn read_rest<R: Reader>(
     alloc: Global,
     whole: &Value,
-    changes: usize,
-    devices: usize,
     edits: &R,
 ) -> Result<Rest<R::Out>, ReadError>
-    ensures { Gives result (rest_at (R.reads edits.now) changes devices (view whole.now)) }
+    ensures { Gives result (rest_at (R.form edits.now) (view whole.now)) }
 {
+    let counts = counts_of(whole);
     let none = Listed::new(alloc);
-    let operators = optional_member(alloc, whole, "operators", none, &Operators { changes })?;
+    let reader = Operators {
+        changes: counts.changes,
+    };
+    let operators = optional_member(alloc, whole, "operators", none, &reader)?;
     let faults = EmptyList {
         otherwise: ScenarioKind::NotBuilt,
     };
     optional_member(alloc, whole, "faults", (), &faults)?;
-    let reader = Events {
-        changes,
-        devices,
-        operators: &operators,
+    let events = Events {
+        counts: &counts,
         edits,
     };
+    let reader = ByForm { reader: &events };
     let events = optional_member(alloc, whole, "events", Listed::new(alloc), &reader)?;
     optional_member(alloc, whole, "drain", (), &Off)?;
     let trace = optional_member(alloc, whole, "trace", false, &Switch)?;

@@ -16,6 +16,8 @@ pub struct Scenario {
     pub operators: Listed<Label>,
     /// What happens, in order.
     pub events: Listed<Event>,
+    /// The texts that the partial locks of the events select, numbered from 0 by `SelectNo`.
+    pub selects: Listed<Listed<Label>>,
     /// Whether each event is told.
     pub trace: bool,
 }

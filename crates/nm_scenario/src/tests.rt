@@ -20,7 +20,7 @@ fn told(alloc: Global, read: Result<Scenario, ReadError>) -> Result<Vec<u8>, Fai
 }
 
 fn fault_text(alloc: Global, fault: &Fault) -> Result<Vec<u8>, Fail> {
-    let mut text = Vec::from_slice(alloc, fault.kind.word().as_bytes())?;
+    let mut text = Vec::from_slice(alloc, fault.cause.kind.word().as_bytes())?;
     text.push(b' ')?;
     write_place(alloc, &mut text, fault.place.as_slice())?;
     Ok(text)

@@ -14,13 +14,14 @@ use nm_base::{Label, NoMemory};
 use nm_config::Config;
 use nm_events::limits::DEVICE_LIMIT;
 use nm_events::with_event_numbers;
+use nm_form::Unbuilt;
 use nm_json::{JsonFault, config_of};
 use nm_proto::Listed;
 use nm_reading::reader::{
     ItemReader, Reader, fault_at, fault_here, optional_member, read_list, read_object,
     read_only_known, required_member, seen_from_outside,
 };
-use nm_reading::values::{EmptyList, Unbuilt, at_least_one};
+use nm_reading::values::{EmptyList, at_least_one};
 use nm_reading::{ReadError, ScenarioKind, Step};
 use nm_schema::{SchemaFault, build};
 use nm_tree::Schema;
@@ -143,7 +144,7 @@ fn read_built(
         otherwise: ScenarioKind::NotBuilt,
     };
     optional_member(alloc, whole, "changes", (), &none)?;
-    let rest = read_rest(alloc, whole, 0, devices.len(), &Unbuilt)?;
+    let rest = read_rest(alloc, whole, &Unbuilt)?;
     Ok(put_together(alloc, texts, schema, devices, rest)?)
 }
 
@@ -157,7 +158,13 @@ fn put_together(
     ensures { IfOk result (λ scenario. scenario ≡ yang_scenario modules schema devices rest) }
 {
     let mut edits = Listed::new(alloc);
-    let events = with_event_numbers(alloc, rest.events, &mut edits)?;
+    let Rest {
+        operators,
+        events,
+        trace,
+    } = rest;
+    let mut selects = Listed::new(alloc);
+    let events = with_event_numbers(alloc, &operators, events, &mut edits, &mut selects)?;
     Ok(Scenario {
         body: Body::Yang {
             modules,
@@ -165,8 +172,9 @@ fn put_together(
             devices,
         },
         changes: Listed::new(alloc),
-        operators: rest.operators,
+        operators,
         events,
-        trace: rest.trace,
+        selects,
+        trace,
     })
 }

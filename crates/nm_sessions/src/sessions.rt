@@ -1,4 +1,4 @@
-ghost use Rattle.std.specs.Prelude.{◌≡◌, ◌≢◌, ◌↔◌, false, ℕ, List, Some, None, Err, length, option_copied, IfOk, OnOk, OnErr, IfSome, IfNone};
+ghost use Rattle.std.specs.Prelude.{◌≡◌, ◌≢◌, ◌↔◌, false, ℕ, List, Some, None, Err, length, option_copied, IfOk, OnOk, OnErr, IfSome, IfNone, if◌then◌else◌};
 ghost use Rattle.slab.specs.Slab.{get};
 ghost use Rattle.nm_sessions.specs.Sessions.{id_after};
 
@@ -114,6 +114,23 @@ impl Sessions {
         ensures { result ≡ is_open self.now session }
     {
         key_of(&self.table, session).is_some()
+    }
+
+    /// The session of a number, and None exactly where no session of that number is open.
+    pub fn numbered(&self, number: u32) -> Option<SessionId>
+        ensures { result ≡ (if is_open self.now number then Some number else None) }
+    {
+        if self.count() == 0 {
+            return None;
+        }
+        let Some(session) = SessionId::new(number) else {
+            return None;
+        };
+        if self.is_open(session) {
+            Some(session)
+        } else {
+            None
+        }
     }
 
     /// How many sessions are open.

@@ -1,3 +1,4 @@
 pub mod Safe
 pub mod Rounds
-pub mod Standings
+pub mod Replies
+pub mod Clocks

@@ -1,5 +1,5 @@
 pub mod Link
 pub mod Course
 pub mod World
-pub mod Outcome
+pub mod Safe
 pub mod Support

@@ -3,12 +3,12 @@ use Rattle.std.specs.Prelude.{◌≡◌, ℕ, ◌+◌, ◌<◌, ◌≤◌, List,
 use Rattle.nm_proto.specs.declared.message.Reply.{Reply}
 use Rattle.nm_proto.specs.declared.plan.PlannedEdit.{PlannedEdit}
 use Rattle.nm_proto.specs.declared.message.Request.{Request}
-use Rattle.nm_device.specs.declared.event.Noted.{Noted}
-use Rattle.nm_device.specs.History.{RecordedState}
+use Rattle.nm_history.specs.declared.event.Noted.{Noted}
+use Rattle.nm_history.specs.History.{RecordedState}
 use Rattle.nm_device.specs.Table.{is_error}
 use Rattle.nm_world.specs.Link.{LinkState}
 use Rattle.nm_world.specs.declared.course.Course.{Course}
-use Rattle.nm_world.specs.Outcome.{Effect, effect_of, effect_of_event}
+use Rattle.nm_history.specs.Effect.{effect_of, noted_effect, is_done_reply}
 use Rattle.nm_world.specs.Course.{is_done, requests_of, is_acknowledged, is_decided}
 use Rattle.nm_world.specs.World.{SceneState}
 
@@ -23,10 +23,11 @@ abbrev pub is_verdict : Option Reply → Bool
 is_verdict None = false
 is_verdict (Some reply) = is_done (Some reply) || is_error reply
 
--- a request that was delivered on a link, and the reply to it
+-- a request that was delivered on a link, the reply to it, and whether it undid a pending commit other than by a cancel
 pub record Exchange : Type 0 where
   pub request : Request
   pub reply : Reply
+  pub undone : Bool
 
 -- a device's history is what was exchanged with it, as far as pending commits go
 abbrev pub AreNoted : List Exchange → List Noted → Type 0
@@ -34,7 +35,9 @@ AreNoted [] [] = Unit {0}
 AreNoted [] (entry ∷ history) = ⊥
 AreNoted (exchange ∷ exchanges) [] = ⊥
 AreNoted (exchange ∷ exchanges) (entry ∷ history) =
-    (entry.reply ≡ Some exchange.reply) × (effect_of_event entry.event ≡ effect_of exchange.request) × AreNoted exchanges history
+    (entry.reply ≡ Some exchange.reply)
+    × (noted_effect entry ≡ effect_of exchange.request (is_done_reply (Some exchange.reply)) exchange.undone)
+    × AreNoted exchanges history
 
 -- a link that has an edit, and what was exchanged on it: requests are sent in order and one at a time, the seventh only
 -- with a decision in the journal, and there is one only where the device acknowledged
@@ -56,7 +59,7 @@ pub record IsTraced (course : Course) (planned : PlannedEdit) (decided : Bool) (
   pub followed : IsFollowed course planned decided link exchanges
 
 -- the same at each place, without operators
-pub record IsSupported {Config : Type 0} (course : Course) (w : SceneState Config) : Type 0 where
+pub record IsSupported {Config Node : Type 0} (course : Course) (w : SceneState Config Node) : Type 0 where
   pub alone : w.operators ≡ []
-  pub followed : (place : ℕ) (link : LinkState) (r : RecordedState Config) → slice_get w.links place ≡ Some link → slice_get w.devices place ≡ Some r
+  pub followed : (place : ℕ) (link : LinkState) (r : RecordedState Config Node) → slice_get w.links place ≡ Some link → slice_get w.devices place ≡ Some r
       → (planned : PlannedEdit) → link.edit ≡ Some planned → IsTraced course planned (is_decided w.entries) link r.history

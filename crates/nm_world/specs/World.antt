@@ -1,18 +1,20 @@
 -- The world: devices with their histories, the manager's links and journal, operators, and what each event does to it.
 -- An event that doesn't apply changes nothing but the trail (this project's own). The code changes its parts in place;
 -- these are functions of the whole.
-use Rattle.std.specs.Prelude.{◌≡◌, ℕ, zero, suc, ◌+◌, ◌-◌, ◌==◌, List, [], ◌∷◌, ◌++◌, Bool, false, ◌&&◌, nat_le, length, map, find, replicate, Option, Some, None, is_some, option_and_then, slice_get, slice_set, Result, Ok, Err, if◌then◌else◌}
+use Rattle.std.specs.Prelude.{◌≡◌, ℕ, zero, suc, ◌+◌, ◌-◌, ◌^◌, ◌==◌, List, [], ◌∷◌, ◌++◌, Bool, false, ◌&&◌, nat_le, length, map, find, replicate, Option, Some, None, is_some, option_and_then, slice_get, slice_set, Result, Ok, Err, if◌then◌else◌}
 use Rattle.nm_base.specs.declared.fault.NoMemory.{NoMemory}
 use Rattle.nm_proto.specs.declared.message.Request.{Request}
 use Rattle.nm_proto.specs.declared.message.Reply.{Reply}
 use Rattle.nm_proto.specs.declared.journal.Verdict.TheVariants as verdict
 use Rattle.nm_proto.specs.declared.plan.PlannedEdit.{PlannedEdit}
 use Rattle.nm_proto.specs.declared.plan.Event.{Event}
-use Rattle.nm_proto.specs.declared.plan.Event.TheVariants.{Submit, Turn, Deliver, Answer, Foreign, Leave, Round}
+use Rattle.nm_proto.specs.declared.plan.Event.TheVariants.{Submit, Turn, Deliver, Answer, Advance, Restart, Foreign, Leave, Round}
 use Rattle.nm_proto.specs.Content.{Meaning, TablesState}
 use Rattle.nm_sessions.specs.Sessions.{is_open}
-use Rattle.nm_device.specs.Device.{IsSound}
-use Rattle.nm_device.specs.History.{RecordedState, recorded, is_opening, Served, served, lost}
+use Rattle.nm_device.specs.Device.{IsInTime, IsSound}
+use Rattle.nm_history.specs.declared.event.DeviceEvent.TheVariants as device_event
+use Rattle.nm_history.specs.History.{RecordedState, recorded, recorded_with, Served, Parted, served, lost, advancing, restarting}
+use Rattle.nm_device.specs.Table.{is_opening}
 use Rattle.nm_world.specs.Link.{LinkState}
 use Rattle.nm_world.specs.declared.course.Course.{Course}
 use Rattle.nm_world.specs.declared.course.Action.{Action}
@@ -27,23 +29,24 @@ use Rattle.nm_world.specs.Course.{unused, outstanding, requests_of, next_action,
 
 -- what stands at a moment. Device d and its link stand at place d - 1, and so does the session that an operator was last
 -- given on it
-pub record SceneState (Config : Type 0) : Type 0 where
-  pub devices : List (RecordedState Config)
+pub record SceneState (Config Node : Type 0) : Type 0 where
+  pub devices : List (RecordedState Config Node)
   pub links : List LinkState
   pub entries : List Entry
   pub operators : List (List (Option ℕ))
 
 -- the same with the trail, which tells each elementary event with what came of it, oldest first
-pub record WorldState (Config : Type 0) : Type 0 where
-  pub devices : List (RecordedState Config)
+pub record WorldState (Config Node : Type 0) : Type 0 where
+  pub devices : List (RecordedState Config Node)
   pub links : List LinkState
   pub entries : List Entry
   pub operators : List (List (Option ℕ))
   pub trail : List Passed
 
--- the device is sound for the content
-abbrev pub IsSoundDevice : {Config TheEdit Node : Type 0} → Meaning Config TheEdit Node → RecordedState Config → Type 0
-IsSoundDevice m r = IsSound m r.device
+-- the device is sound for the content, and its clock is far from the end of its range
+pub record IsSoundDevice {Config TheEdit Node : Type 0} (m : Meaning Config TheEdit Node) (r : RecordedState Config Node) : Type 0 where
+  pub sound : IsSound m r.device
+  pub in_time : IsInTime r.device.clock
 
 -- a configuration that a device may begin with: it belongs to the content and is valid
 pub record IsFirst {Config TheEdit Node : Type 0} (m : Meaning Config TheEdit Node) (config : Config) : Type 0 where
@@ -103,12 +106,12 @@ slot_in (Some session) = session
 abbrev pub slot_of : List (Option ℕ) → ℕ → Option ℕ
 slot_of operator place = slot_in (slice_get operator place)
 
-abbrev pub open_on : {Config : Type 0} → RecordedState Config → Option ℕ → Option ℕ
+abbrev pub open_on : {Config Node : Type 0} → RecordedState Config Node → Option ℕ → Option ℕ
 open_on r None = None
 open_on r (Some session) = if is_open r.device.sessions session then Some session else None
 
 -- the session that it has there, where that is still open
-abbrev pub session_at : {Config : Type 0} → List (Option ℕ) → RecordedState Config → ℕ → Option ℕ
+abbrev pub session_at : {Config Node : Type 0} → List (Option ℕ) → RecordedState Config Node → ℕ → Option ℕ
 session_at operator r place = open_on r (slot_of operator place)
 
 abbrev pub with_session : List (Option ℕ) → ℕ → Option ℕ → List (Option ℕ)
@@ -123,71 +126,103 @@ with_opened operator place reply = with_session operator place (session_in reply
 abbrev pub operator_at : List (List (Option ℕ)) → ℕ → Option (List (Option ℕ))
 operator_at operators number = if number == 0 then None else slice_get operators (number - 1)
 
+-- ---- a device alone
+
+-- a device after time or a restart, and what came of it
+pub record DeviceMoved (Config Node : Type 0) : Type 0 where
+  pub device : RecordedState Config Node
+  pub happened : Happened
+
+-- a device is as time or a restart leaves it, and this came of it
+pub record IsDeviceMoved {Config Node : Type 0} (what : Happened) (device : RecordedState Config Node) (moved : DeviceMoved Config Node) : Type 0 where
+  pub happened_is : what ≡ moved.happened
+  pub device_is : device ≡ moved.device
+
+-- the greatest clock, in seconds: far above what the events of a scenario can make of one
+abbrev pub latest : ℕ
+latest = 2 ^ 62
+
+module _ {Config TheEdit Node : Type 0} (m : Meaning Config TheEdit Node) where
+  abbrev pub later_by : RecordedState Config Node → ℕ → DeviceMoved Config Node
+  later_by r seconds = record {
+    device = recorded_with r (device_event.Advanced seconds) (advancing m r.device seconds);
+    happened = happened.Now (r.device.clock + seconds) (advancing m r.device seconds).undone;
+  }
+
+  -- the clock of a device rises, up to the greatest
+  abbrev pub advanced_by : RecordedState Config Node → ℕ → DeviceMoved Config Node
+  advanced_by r seconds = if nat_le (r.device.clock + seconds) latest then later_by r seconds else record { device = r; happened = happened.Idle }
+
+  -- a device restarts
+  abbrev pub restarted_device : RecordedState Config Node → DeviceMoved Config Node
+  restarted_device r = record { device = recorded_with r device_event.Restarted (restarting m r.device); happened = happened.Restarted (restarting m r.device).undone }
+
 -- ---- a device and its link, or a device and an operator
 
 -- a device and its link after a delivery, and what came of it
-pub record Delivery (Config : Type 0) : Type 0 where
-  pub device : RecordedState Config
+pub record Delivery (Config Node : Type 0) : Type 0 where
+  pub device : RecordedState Config Node
   pub link : LinkState
   pub happened : Happened
 
 -- a device and an operator after a request, and what came of it
-pub record Asking (Config : Type 0) : Type 0 where
-  pub device : RecordedState Config
+pub record Asking (Config Node : Type 0) : Type 0 where
+  pub device : RecordedState Config Node
   pub operator : List (Option ℕ)
   pub happened : Happened
 
 -- a device and its link are as a delivery leaves them, and this came of it
-pub record IsDelivered {Config : Type 0} (what : Happened) (device : RecordedState Config) (link : LinkState) (d : Delivery Config) : Type 0 where
+pub record IsDelivered {Config Node : Type 0} (what : Happened) (device : RecordedState Config Node) (link : LinkState) (d : Delivery Config Node) : Type 0 where
   pub happened_is : what ≡ d.happened
   pub device_is : device ≡ d.device
   pub link_is : link ≡ d.link
 
 -- a device and an operator are as a request leaves them, and this came of it
-pub record IsAsked {Config : Type 0} (what : Happened) (device : RecordedState Config) (operator : List (Option ℕ)) (a : Asking Config) : Type 0 where
+pub record IsAsked {Config Node : Type 0} (what : Happened) (device : RecordedState Config Node) (operator : List (Option ℕ)) (a : Asking Config Node) : Type 0 where
   pub happened_is : what ≡ a.happened
   pub device_is : device ≡ a.device
   pub operator_is : operator ≡ a.operator
 
-module _ {Config : Type 0} where
-  abbrev pub replied_on : RecordedState Config → LinkState → Option (Served Config) → Delivery Config
+module _ {Config Node : Type 0} where
+  abbrev pub replied_on : RecordedState Config Node → LinkState → Option (Served Config Node) → Delivery Config Node
   replied_on r link None = record { device = r; link = link; happened = happened.Idle }
   replied_on r link (Some s) = record { device = s.after; link = with_reply link s.reply; happened = happened.Replied s.reply s.undone }
 
-  abbrev pub not_asked : RecordedState Config → List (Option ℕ) → Asking Config
+  abbrev pub not_asked : RecordedState Config Node → List (Option ℕ) → Asking Config Node
   not_asked r operator = record { device = r; operator = operator; happened = happened.Idle }
 
-  abbrev pub replied_to : RecordedState Config → List (Option ℕ) → ℕ → Option (Served Config) → Asking Config
+  abbrev pub replied_to : RecordedState Config Node → List (Option ℕ) → ℕ → Option (Served Config Node) → Asking Config Node
   replied_to r operator place None = not_asked r operator
   replied_to r operator place (Some s) = record { device = s.after; operator = with_opened operator place s.reply; happened = happened.Replied s.reply s.undone }
 
-  abbrev pub left_if : RecordedState Config → List (Option ℕ) → Option (RecordedState Config) → Asking Config
+  abbrev pub left_if : RecordedState Config Node → List (Option ℕ) → Option (Parted Config Node) → Asking Config Node
   left_if r operator None = not_asked r operator
-  left_if r operator (Some after) = record { device = after; operator = operator; happened = happened.Left false }
+  left_if r operator (Some parted) = record { device = parted.after; operator = operator; happened = happened.Left parted.undone }
 
-  abbrev pub left_on : RecordedState Config → List (Option ℕ) → Option ℕ → Asking Config
+module _ {Config TheEdit Node : Type 0} (m : Meaning Config TheEdit Node) where
+  abbrev pub left_on : RecordedState Config Node → List (Option ℕ) → Option ℕ → Asking Config Node
   left_on r operator None = not_asked r operator
-  left_on r operator (Some session) = left_if r operator (lost r session)
+  left_on r operator (Some session) = left_if r operator (lost m r session)
 
   -- the session that the operator has on the device at a place is lost
-  abbrev pub left_from : RecordedState Config → List (Option ℕ) → ℕ → Asking Config
+  unfoldable pub left_from : RecordedState Config Node → List (Option ℕ) → ℕ → Asking Config Node
   left_from r operator place = left_on r operator (session_at operator r place)
 
 module _ {Config TheEdit Node : Type 0} (m : Meaning Config TheEdit Node) (tables : TablesState TheEdit) where
-  abbrev pub delivered_if : RecordedState Config → LinkState → Option Request → Delivery Config
+  abbrev pub delivered_if : RecordedState Config Node → LinkState → Option Request → Delivery Config Node
   delivered_if r link None = record { device = r; link = link; happened = happened.Idle }
   delivered_if r link (Some request) = replied_on r link (served m tables r (session_of link) request)
 
   -- the device does the request that is outstanding on its link, and sends its reply
-  abbrev pub delivered_to : RecordedState Config → LinkState → Delivery Config
+  abbrev pub delivered_to : RecordedState Config Node → LinkState → Delivery Config Node
   delivered_to r link = delivered_if r link (outstanding link)
 
   -- who has a session doesn't ask for another
-  abbrev pub asked_in : RecordedState Config → List (Option ℕ) → ℕ → Request → Option ℕ → Asking Config
+  abbrev pub asked_in : RecordedState Config Node → List (Option ℕ) → ℕ → Request → Option ℕ → Asking Config Node
   asked_in r operator place request session = if is_opening request && is_some session then not_asked r operator else replied_to r operator place (served m tables r session request)
 
   -- the device at a place does a request of an operator
-  abbrev pub asked_of : RecordedState Config → List (Option ℕ) → ℕ → Request → Asking Config
+  abbrev pub asked_of : RecordedState Config Node → List (Option ℕ) → ℕ → Request → Asking Config Node
   asked_of r operator place request = asked_in r operator place request (session_at operator r place)
 
 -- ---- the lists that an event changes, one place of each
@@ -206,61 +241,87 @@ links_handled links place number None = record { links = links; happened = happe
 links_handled links place number (Some link) = record { links = slice_set links place (handled_on link number).link; happened = (handled_on link number).happened }
 
 -- the devices and the links after a delivery, and what came of it
-pub record Deliveries (Config : Type 0) : Type 0 where
-  pub devices : List (RecordedState Config)
+pub record Deliveries (Config Node : Type 0) : Type 0 where
+  pub devices : List (RecordedState Config Node)
   pub links : List LinkState
   pub happened : Happened
 
 -- the devices and the operators after a request, and what came of it
-pub record Askings (Config : Type 0) : Type 0 where
-  pub devices : List (RecordedState Config)
+pub record Askings (Config Node : Type 0) : Type 0 where
+  pub devices : List (RecordedState Config Node)
   pub operators : List (List (Option ℕ))
   pub happened : Happened
 
-module _ {Config : Type 0} where
-  abbrev pub none_delivered : List (RecordedState Config) → List LinkState → Deliveries Config
+module _ {Config Node : Type 0} where
+  abbrev pub none_delivered : List (RecordedState Config Node) → List LinkState → Deliveries Config Node
   none_delivered devices links = record { devices = devices; links = links; happened = happened.Idle }
 
-  abbrev pub one_delivered : List (RecordedState Config) → List LinkState → ℕ → Delivery Config → Deliveries Config
+  abbrev pub one_delivered : List (RecordedState Config Node) → List LinkState → ℕ → Delivery Config Node → Deliveries Config Node
   one_delivered devices links place d = record { devices = slice_set devices place d.device; links = slice_set links place d.link; happened = d.happened }
 
-  abbrev pub none_asked : List (RecordedState Config) → List (List (Option ℕ)) → Askings Config
+  abbrev pub none_asked : List (RecordedState Config Node) → List (List (Option ℕ)) → Askings Config Node
   none_asked devices operators = record { devices = devices; operators = operators; happened = happened.Idle }
 
-  abbrev pub one_asked : List (RecordedState Config) → List (List (Option ℕ)) → ℕ → ℕ → Asking Config → Askings Config
+  abbrev pub one_asked : List (RecordedState Config Node) → List (List (Option ℕ)) → ℕ → ℕ → Asking Config Node → Askings Config Node
   one_asked devices operators number place a = record { devices = slice_set devices place a.device; operators = slice_set operators (number - 1) a.operator; happened = a.happened }
 
   -- an operator who leaves keeps the number of its session
-  abbrev pub one_left : List (RecordedState Config) → List (List (Option ℕ)) → ℕ → Asking Config → Askings Config
+  abbrev pub one_left : List (RecordedState Config Node) → List (List (Option ℕ)) → ℕ → Asking Config Node → Askings Config Node
   one_left devices operators place a = record { devices = slice_set devices place a.device; operators = operators; happened = a.happened }
 
-  abbrev pub parted : List (RecordedState Config) → List (List (Option ℕ)) → ℕ → ℕ → Option (List (Option ℕ)) → Option (RecordedState Config) → Askings Config
+module _ {Config TheEdit Node : Type 0} (m : Meaning Config TheEdit Node) where
+  abbrev pub parted : List (RecordedState Config Node) → List (List (Option ℕ)) → ℕ → ℕ → Option (List (Option ℕ)) → Option (RecordedState Config Node) → Askings Config Node
   parted devices operators number place None r = none_asked devices operators
   parted devices operators number place (Some operator) None = none_asked devices operators
-  parted devices operators number place (Some operator) (Some r) = one_left devices operators place (left_from r operator place)
+  parted devices operators number place (Some operator) (Some r) = one_left devices operators place (left_from m r operator place)
 
 module _ {Config TheEdit Node : Type 0} (m : Meaning Config TheEdit Node) (tables : TablesState TheEdit) where
-  abbrev pub devices_delivered : List (RecordedState Config) → List LinkState → ℕ → Option LinkState → Option (RecordedState Config) → Deliveries Config
+  abbrev pub devices_delivered : List (RecordedState Config Node) → List LinkState → ℕ → Option LinkState → Option (RecordedState Config Node) → Deliveries Config Node
   devices_delivered devices links place None r = none_delivered devices links
   devices_delivered devices links place (Some link) None = none_delivered devices links
   devices_delivered devices links place (Some link) (Some r) = one_delivered devices links place (delivered_to m tables r link)
 
-  abbrev pub devices_asked : List (RecordedState Config) → List (List (Option ℕ)) → ℕ → ℕ → Request → Option (List (Option ℕ)) → Option (RecordedState Config) → Askings Config
+  abbrev pub devices_asked : List (RecordedState Config Node) → List (List (Option ℕ)) → ℕ → ℕ → Request → Option (List (Option ℕ)) → Option (RecordedState Config Node) → Askings Config Node
   devices_asked devices operators number place request None r = none_asked devices operators
   devices_asked devices operators number place request (Some operator) None = none_asked devices operators
   devices_asked devices operators number place request (Some operator) (Some r) = one_asked devices operators number place (asked_of m tables r operator place request)
+
+-- the devices after time or a restart of one, and what came of it
+pub record DevicesMoved (Config Node : Type 0) : Type 0 where
+  pub devices : List (RecordedState Config Node)
+  pub happened : Happened
+
+module _ {Config Node : Type 0} where
+  abbrev pub one_moved : List (RecordedState Config Node) → ℕ → DeviceMoved Config Node → DevicesMoved Config Node
+  one_moved devices place moved = record { devices = slice_set devices place moved.device; happened = moved.happened }
+
+  abbrev pub none_moved : List (RecordedState Config Node) → DevicesMoved Config Node
+  none_moved devices = record { devices = devices; happened = happened.Idle }
+
+module _ {Config TheEdit Node : Type 0} (m : Meaning Config TheEdit Node) where
+  abbrev pub devices_advanced : List (RecordedState Config Node) → ℕ → ℕ → Option (RecordedState Config Node) → DevicesMoved Config Node
+  devices_advanced devices place seconds None = none_moved devices
+  devices_advanced devices place seconds (Some r) = one_moved devices place (advanced_by m r seconds)
+
+  abbrev pub devices_restarted : List (RecordedState Config Node) → ℕ → Option (RecordedState Config Node) → DevicesMoved Config Node
+  devices_restarted devices place None = none_moved devices
+  devices_restarted devices place (Some r) = one_moved devices place (restarted_device m r)
+
+pub record AreDevicesMoved {Config Node : Type 0} (what : Happened) (devices : List (RecordedState Config Node)) (moved : DevicesMoved Config Node) : Type 0 where
+  pub happened_is : what ≡ moved.happened
+  pub devices_are : devices ≡ moved.devices
 
 -- the links are as an event leaves them, and this came of it
 pub record AreMoved (what : Happened) (links : List LinkState) (moved : LinksMoved) : Type 0 where
   pub happened_is : what ≡ moved.happened
   pub links_are : links ≡ moved.links
 
-pub record AreDelivered {Config : Type 0} (what : Happened) (devices : List (RecordedState Config)) (links : List LinkState) (d : Deliveries Config) : Type 0 where
+pub record AreDelivered {Config Node : Type 0} (what : Happened) (devices : List (RecordedState Config Node)) (links : List LinkState) (d : Deliveries Config Node) : Type 0 where
   pub happened_is : what ≡ d.happened
   pub devices_are : devices ≡ d.devices
   pub links_are : links ≡ d.links
 
-pub record AreAsked {Config : Type 0} (what : Happened) (devices : List (RecordedState Config)) (operators : List (List (Option ℕ))) (a : Askings Config) : Type 0 where
+pub record AreAsked {Config Node : Type 0} (what : Happened) (devices : List (RecordedState Config Node)) (operators : List (List (Option ℕ))) (a : Askings Config Node) : Type 0 where
   pub happened_is : what ≡ a.happened
   pub devices_are : devices ≡ a.devices
   pub operators_are : operators ≡ a.operators
@@ -268,67 +329,85 @@ pub record AreAsked {Config : Type 0} (what : Happened) (devices : List (Recorde
 -- ---- the whole
 
 -- what stands after an elementary event, and what came of it
-pub record Came (Config : Type 0) : Type 0 where
-  pub after : SceneState Config
+pub record Came (Config Node : Type 0) : Type 0 where
+  pub after : SceneState Config Node
   pub happened : Happened
 
-module _ {Config : Type 0} where
-  abbrev pub came : SceneState Config → Happened → Came Config
+module _ {Config Node : Type 0} where
+  abbrev pub came : SceneState Config Node → Happened → Came Config Node
   came w what = record { after = w; happened = what }
 
   -- an event that doesn't apply
-  abbrev pub idle : SceneState Config → Came Config
+  abbrev pub idle : SceneState Config Node → Came Config Node
   idle w = came w happened.Idle
 
-  abbrev pub with_links : SceneState Config → LinksMoved → Came Config
+  abbrev pub with_links : SceneState Config Node → LinksMoved → Came Config Node
   with_links w moved = came (record w { links = moved.links }) moved.happened
 
-  abbrev pub with_deliveries : SceneState Config → Deliveries Config → Came Config
+  abbrev pub with_deliveries : SceneState Config Node → Deliveries Config Node → Came Config Node
   with_deliveries w d = came (record w { devices = d.devices; links = d.links }) d.happened
 
-  abbrev pub with_askings : SceneState Config → Askings Config → Came Config
+  abbrev pub with_askings : SceneState Config Node → Askings Config Node → Came Config Node
   with_askings w a = came (record w { devices = a.devices; operators = a.operators }) a.happened
 
-  abbrev pub with_entry : SceneState Config → Entry → SceneState Config
+  abbrev pub with_devices : SceneState Config Node → DevicesMoved Config Node → Came Config Node
+  with_devices w moved = came (record w { devices = moved.devices }) moved.happened
+
+  abbrev pub with_entry : SceneState Config Node → Entry → SceneState Config Node
   with_entry w entry = record w { entries = w.entries ++ entry ∷ [] }
 
   -- the change set is submitted, once
-  abbrev pub submitted : Course → SceneState Config → Came Config
+  abbrev pub submitted : Course → SceneState Config Node → Came Config Node
   submitted course w = if is_submitted w.entries then idle w else came (with_entry w (start_of course)) happened.Started
 
-  abbrev pub sent_at : Course → SceneState Config → ℕ → Option LinkState → Came Config
+  abbrev pub sent_at : Course → SceneState Config Node → ℕ → Option LinkState → Came Config Node
   sent_at course w place link = with_links w (links_sent course w.links place link)
 
-  abbrev pub acted : Course → SceneState Config → Action → Came Config
+  abbrev pub acted : Course → SceneState Config Node → Action → Came Config Node
   acted course w Wait = idle w
   acted course w (Send place) = sent_at course w place (slice_get w.links place)
   acted course w Decide = came (with_entry w (Decided course.change verdict.Commit)) (happened.Decided verdict.Commit)
   acted course w Finish = came (with_entry w (Ended course.change course.devices)) happened.Ended
 
   -- one action of the manager
-  abbrev pub turned : Course → SceneState Config → Came Config
+  abbrev pub turned : Course → SceneState Config Node → Came Config Node
   turned course w = acted course w (next_action w.entries w.links)
 
-  abbrev pub handled_at : SceneState Config → ℕ → ℕ → Option LinkState → Came Config
+  abbrev pub handled_at : SceneState Config Node → ℕ → ℕ → Option LinkState → Came Config Node
   handled_at w place number link = with_links w (links_handled w.links place number link)
 
   -- the manager handles a reply of the link at a place
-  abbrev pub answered : SceneState Config → ℕ → ℕ → Came Config
+  abbrev pub answered : SceneState Config Node → ℕ → ℕ → Came Config Node
   answered w place number = handled_at w place number (slice_get w.links place)
 
-  abbrev pub left_at : SceneState Config → ℕ → ℕ → Option (List (Option ℕ)) → Option (RecordedState Config) → Came Config
-  left_at w number place operator r = with_askings w (parted w.devices w.operators number place operator r)
+module _ {Config TheEdit Node : Type 0} (m : Meaning Config TheEdit Node) where
+  abbrev pub left_at : SceneState Config Node → ℕ → ℕ → Option (List (Option ℕ)) → Option (RecordedState Config Node) → Came Config Node
+  left_at w number place operator r = with_askings w (parted m w.devices w.operators number place operator r)
+
+  abbrev pub advanced_at : SceneState Config Node → ℕ → ℕ → Option (RecordedState Config Node) → Came Config Node
+  advanced_at w place seconds r = with_devices w (devices_advanced m w.devices place seconds r)
+
+  -- the clock of a device rises
+  abbrev pub advanced : SceneState Config Node → ℕ → ℕ → Came Config Node
+  advanced w place seconds = advanced_at w place seconds (slice_get w.devices place)
+
+  abbrev pub restarted_at : SceneState Config Node → ℕ → Option (RecordedState Config Node) → Came Config Node
+  restarted_at w place r = with_devices w (devices_restarted m w.devices place r)
+
+  -- a device restarts. Its links stay as they are: no scenario with a change set restarts a device yet
+  abbrev pub restarted : SceneState Config Node → ℕ → Came Config Node
+  restarted w place = restarted_at w place (slice_get w.devices place)
 
   -- the session that an operator has at a device is lost
-  abbrev pub left : SceneState Config → ℕ → ℕ → Came Config
+  abbrev pub left : SceneState Config Node → ℕ → ℕ → Came Config Node
   left w number place = left_at w number place (operator_at w.operators number) (slice_get w.devices place)
 
-module _ {Config : Type 0} where
-  abbrev pub scene_of : WorldState Config → SceneState Config
+module _ {Config Node : Type 0} where
+  abbrev pub scene_of : WorldState Config Node → SceneState Config Node
   scene_of w = record { devices = w.devices; links = w.links; entries = w.entries; operators = w.operators }
 
   -- the world after an elementary event, which its trail tells with what came of it
-  abbrev pub passed : WorldState Config → Event → Came Config → WorldState Config
+  abbrev pub passed : WorldState Config Node → Event → Came Config Node → WorldState Config Node
   passed w event c = record {
     devices = c.after.devices;
     links = c.after.links;
@@ -343,57 +422,59 @@ sending_of (happened.Sent device link request) = Some (record { device = device;
 sending_of _ = None
 
 module _ {Config TheEdit Node : Type 0} (m : Meaning Config TheEdit Node) (tables : TablesState TheEdit) where
-  abbrev pub delivered_at : SceneState Config → ℕ → Option LinkState → Option (RecordedState Config) → Came Config
+  abbrev pub delivered_at : SceneState Config Node → ℕ → Option LinkState → Option (RecordedState Config Node) → Came Config Node
   delivered_at w place link r = with_deliveries w (devices_delivered m tables w.devices w.links place link r)
 
-  abbrev pub delivered : SceneState Config → ℕ → Came Config
+  abbrev pub delivered : SceneState Config Node → ℕ → Came Config Node
   delivered w place = delivered_at w place (slice_get w.links place) (slice_get w.devices place)
 
-  abbrev pub asked_at : SceneState Config → ℕ → ℕ → Request → Option (List (Option ℕ)) → Option (RecordedState Config) → Came Config
+  abbrev pub asked_at : SceneState Config Node → ℕ → ℕ → Request → Option (List (Option ℕ)) → Option (RecordedState Config Node) → Came Config Node
   asked_at w number place request operator r = with_askings w (devices_asked m tables w.devices w.operators number place request operator r)
 
   -- an operator asks a device
-  abbrev pub asked : SceneState Config → ℕ → ℕ → Request → Came Config
+  abbrev pub asked : SceneState Config Node → ℕ → ℕ → Request → Came Config Node
   asked w number place request = asked_at w number place request (operator_at w.operators number) (slice_get w.devices place)
 
   -- what an elementary event does. The first link of a device is the only one, and what isn't built changes nothing
-  abbrev pub elementary : Course → SceneState Config → Event → Came Config
+  abbrev pub elementary : Course → SceneState Config Node → Event → Came Config Node
   elementary course w (Submit change) = submitted course w
   elementary course w (Turn change) = turned course w
   elementary course w (Deliver change device link) = if link == 1 then delivered w (device - 1) else idle w
   elementary course w (Answer change device link number) = if link == 1 then answered w (device - 1) number else idle w
   elementary course w (Foreign operator device request) = asked w operator (device - 1) request
-  elementary course w (Leave operator device) = left w operator (device - 1)
+  elementary course w (Leave operator device) = left m w operator (device - 1)
+  elementary course w (Advance device seconds) = advanced m w (device - 1) seconds
+  elementary course w (Restart device) = restarted m w (device - 1)
   elementary course w _ = idle w
 
   -- an elementary event, told in the trail
-  abbrev pub one_step : Course → WorldState Config → Event → WorldState Config
+  abbrev pub one_step : Course → WorldState Config Node → Event → WorldState Config Node
   one_step course w event = passed w event (elementary course (scene_of w) event)
 
   -- after a delivery: the answer of the last reply on the link
-  abbrev pub last_answered : Course → WorldState Config → ℕ → Sending → WorldState Config
+  abbrev pub last_answered : Course → WorldState Config Node → ℕ → Sending → WorldState Config Node
   last_answered course w change sending = one_step course w (Answer change sending.device sending.link (replies_on (slice_get w.links (sending.device - 1))))
 
   -- after a turn that sent: the delivery, and the answer of the last reply
-  abbrev pub followed : Course → WorldState Config → ℕ → Option Sending → WorldState Config
+  abbrev pub followed : Course → WorldState Config Node → ℕ → Option Sending → WorldState Config Node
   followed course w change None = w
   followed course w change (Some sending) = last_answered course (one_step course w (Deliver change sending.device sending.link)) change sending
 
   -- a turn, and what follows where it sent
-  abbrev pub round : Course → WorldState Config → ℕ → WorldState Config
+  abbrev pub round : Course → WorldState Config Node → ℕ → WorldState Config Node
   round course w change = followed course (one_step course w (Turn change)) change (sending_of (elementary course (scene_of w) (Turn change)).happened)
 
-  abbrev pub rounds : ℕ → Course → WorldState Config → ℕ → WorldState Config
+  abbrev pub rounds : ℕ → Course → WorldState Config Node → ℕ → WorldState Config Node
   rounds zero course w change = w
   rounds (suc n) course w change = rounds n course (round course w change) change
 
   -- what an event does: a round stands for its elementary events
-  abbrev pub world_step : Course → WorldState Config → Event → WorldState Config
+  abbrev pub world_step : Course → WorldState Config Node → Event → WorldState Config Node
   world_step course w (Round change turns) = rounds turns course w change
   world_step course w event = one_step course w event
 
   -- a whole run
-  abbrev pub run : Course → WorldState Config → List Event → WorldState Config
+  abbrev pub run : Course → WorldState Config Node → List Event → WorldState Config Node
   run course w [] = w
   run course w (event ∷ events) = run course (world_step course w event) events
 
@@ -409,7 +490,7 @@ links_from device zero edits = []
 links_from device (suc count) edits = unused (planned_for device edits) ∷ links_from (device + 1) count edits
 
 -- devices with these running configurations, nothing submitted, and so many operators without sessions
-abbrev pub begin : {Config : Type 0} → List Config → List PlannedEdit → ℕ → SceneState Config
+abbrev pub begin : {Config Node : Type 0} → List Config → List PlannedEdit → ℕ → SceneState Config Node
 begin running edits operators = record {
   devices = map recorded running;
   links = links_from 1 (length running) edits;
@@ -418,30 +499,30 @@ begin running edits operators = record {
 }
 
 -- the same, with nothing in the trail
-abbrev pub start : {Config : Type 0} → List Config → List PlannedEdit → ℕ → WorldState Config
+abbrev pub start : {Config Node : Type 0} → List Config → List PlannedEdit → ℕ → WorldState Config Node
 start running edits operators = let scene = begin running edits operators in
     record { devices = scene.devices; links = scene.links; entries = scene.entries; operators = scene.operators; trail = [] }
 
 -- a world as the code holds it: its content, its tables, the course of its change set, and its state
-pub record Whole (TheContent Config TheEdit : Type 0) : Type 0 where
+pub record Whole (TheContent Config TheEdit Node : Type 0) : Type 0 where
   pub content : TheContent
   pub tables : TablesState TheEdit
   pub course : Course
-  pub state : WorldState Config
+  pub state : WorldState Config Node
 
 -- the same of what stands at a moment
-pub record Staged (TheContent Config TheEdit : Type 0) : Type 0 where
+pub record Staged (TheContent Config TheEdit Node : Type 0) : Type 0 where
   pub content : TheContent
   pub tables : TablesState TheEdit
   pub course : Course
-  pub state : SceneState Config
+  pub state : SceneState Config Node
 
-module _ {TheContent Config TheEdit : Type 0} where
+module _ {TheContent Config TheEdit Node : Type 0} where
   -- the same world in another state
-  abbrev pub with_state : Whole TheContent Config TheEdit → WorldState Config → Whole TheContent Config TheEdit
+  abbrev pub with_state : Whole TheContent Config TheEdit Node → WorldState Config Node → Whole TheContent Config TheEdit Node
   with_state w state = record w { state = state }
 
   -- a call that does an elementary event. Where there is no memory, nothing changes
-  abbrev pub Comes : Result Happened NoMemory → Staged TheContent Config TheEdit → Staged TheContent Config TheEdit → Came Config → Type 0
+  abbrev pub Comes : Result Happened NoMemory → Staged TheContent Config TheEdit Node → Staged TheContent Config TheEdit Node → Came Config Node → Type 0
   Comes (Ok what) old new c = (what ≡ c.happened) × (new ≡ record old { state = c.after })
   Comes (Err fault) old new c = new ≡ old

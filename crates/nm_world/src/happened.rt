@@ -33,6 +33,15 @@ pub enum Happened {
     Left {
         undone: bool,
     },
+    /// The clock of a device rose to this, in seconds.
+    Now {
+        clock: u64,
+        undone: bool,
+    },
+    /// A device restarted.
+    Restarted {
+        undone: bool,
+    },
 }
 
 /// A link on which a request was sent.

@@ -1,6 +1,6 @@
 //! The world: devices with their histories, the manager's links and journal for one change set, and operators.
 //!
-//! Stands on `nm_device`. The layers above rely on each event as an equation between the world before and after it, on
+//! Stands on `nm_history`. The layers above rely on each event as an equation between the world before and after it, on
 //! the trail of what came of each, and on `every_run_is_safe`.
 #![tactic(auto)]
 
@@ -8,9 +8,9 @@ pub mod course;
 pub mod happened;
 pub mod link;
 pub mod operator;
-pub mod outcome;
 pub mod safety;
 mod scene;
+pub mod settled;
 mod steps;
 pub mod world;
 #[cfg(test)]
@@ -20,5 +20,4 @@ pub use course::{Action, Course};
 pub use happened::{Happened, Passed, Sending};
 pub use link::Link;
 pub use operator::Operator;
-pub use outcome::Outcome;
 pub use world::World;

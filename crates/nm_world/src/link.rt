@@ -8,7 +8,7 @@ ghost use Rattle.nm_world.specs.Course.{is_done, session_in};
 use crate::course::Course;
 use crate::happened::Happened;
 use nm_base::{NoMemory, SessionId};
-use nm_device::Recorded;
+use nm_history::Recorded;
 use nm_proto::{Content, PlannedEdit, Reply, Request, Tables};
 use std::alloc::Global;
 use std::marker::Model;

@@ -1,7 +1,7 @@
 ghost use Rattle.std.specs.Prelude.{◌≡◌, IfOk, replicate, None};
 
 use nm_base::{NoMemory, SessionId};
-use nm_device::Recorded;
+use nm_history::Recorded;
 use nm_proto::{Content, Reply};
 use std::alloc::Global;
 use std::marker::Model;

@@ -3,16 +3,16 @@
 
 ghost use Rattle.std.specs.Prelude.{◌≡◌, ◌≤◌, ◌-◌, IfOk, None, map, replicate, slice_get};
 ghost use Rattle.std.specs.List.{All};
-ghost use Rattle.nm_device.specs.History.{recorded};
+ghost use Rattle.nm_history.specs.History.{recorded};
 ghost use Rattle.nm_world.specs.World.{planned_for, links_from};
 
 use crate::course::{Action, Course, is_submitted, next_action};
 use crate::happened::Happened;
 use crate::link::Link;
 use crate::operator::Operator;
-use crate::steps::{ask_at, deliver_at, handle_at, leave_at, send_at};
+use crate::steps::{advance_at, ask_at, deliver_at, handle_at, leave_at, restart_at, send_at};
 use nm_base::NoMemory;
-use nm_device::Recorded;
+use nm_history::Recorded;
 use nm_proto::{Content, Entry, Event, Listed, PlannedEdit, Request, Tables, Verdict};
 use std::alloc::Global;
 use std::marker::Model;
@@ -54,7 +54,7 @@ impl<C: Content + Drop> Model for Scene<C> {
     ghost use Rattle.std.specs.List.{All};
     ghost use Rattle.nm_world.specs.World.{Staged, IsSoundDevice};
 
-    ghost Value = { Staged C C.Config C.Edit };
+    ghost Value = { Staged C C.Config C.Edit C.Node };
 
     ghost view = { λ w. record {
       content = w.content;
@@ -132,7 +132,7 @@ impl<C: Content + Drop> Scene<C> {
 // The elementary events. Where there is no memory, nothing changes.
 impl<C: Content + Drop> Scene<C> {
     ghost use Rattle.std.specs.Prelude.{slice_get};
-    ghost use Rattle.nm_world.specs.World.{Comes, submitted, turned, acted, sent_at, answered, delivered, asked, left, elementary};
+    ghost use Rattle.nm_world.specs.World.{Comes, submitted, turned, acted, sent_at, answered, delivered, asked, left, advanced, restarted, elementary};
 
     // Submits the change set, once.
     fn submit(&mut self) -> Result<Happened, NoMemory>
@@ -233,7 +233,7 @@ impl<C: Content + Drop> Scene<C> {
 
     // The session that an operator, by its number from 1, has on the device at a place, from 0, is lost.
     fn leave(&mut self, operator: usize, place: usize) -> Result<Happened, NoMemory>
-        ensures { Comes result self.old self.new (left self.old.state operator place) }
+        ensures { Comes result self.old self.new (left (C.meaning self.old.content) self.old.state operator place) }
     {
         let happened = leave_at(
             &self.content,
@@ -242,6 +242,22 @@ impl<C: Content + Drop> Scene<C> {
             operator,
             place,
         )?;
+        Ok(happened)
+    }
+
+    // The clock of the device at a place, from 0, rises by some seconds.
+    fn advance(&mut self, place: usize, seconds: u32) -> Result<Happened, NoMemory>
+        ensures { Comes result self.old self.new (advanced (C.meaning self.old.content) self.old.state place seconds) }
+    {
+        let happened = advance_at(&self.content, &mut self.devices, place, seconds)?;
+        Ok(happened)
+    }
+
+    // The device at a place, from 0, restarts.
+    fn restart(&mut self, place: usize) -> Result<Happened, NoMemory>
+        ensures { Comes result self.old self.new (restarted (C.meaning self.old.content) self.old.state place) }
+    {
+        let happened = restart_at(&self.content, &mut self.devices, place)?;
         Ok(happened)
     }
 
@@ -271,12 +287,14 @@ impl<C: Content + Drop> Scene<C> {
             Event::Leave { operator, device } => {
                 self.leave(*operator as usize, usize::from(device.get()) - 1)
             }
+            Event::Advance { device, seconds } => {
+                self.advance(usize::from(device.get()) - 1, *seconds)
+            }
+            Event::Restart { device } => self.restart(usize::from(device.get()) - 1),
             Event::Deliver { .. }
             | Event::Answer { .. }
             | Event::Break { .. }
             | Event::Lose { .. }
-            | Event::Advance { .. }
-            | Event::Restart { .. }
             | Event::Forget { .. }
             | Event::Crash
             | Event::Renew { .. }

@@ -2,15 +2,16 @@
 
 ghost use Rattle.std.specs.Prelude.{◌≡◌, IfOk, OnErr, slice_get, ◌&&◌, option_copied};
 ghost use Rattle.std.specs.List.{All};
-ghost use Rattle.nm_device.specs.History.{is_opening, served};
-ghost use Rattle.nm_world.specs.World.{replied_to, IsSoundDevice, IsAsked, AreMoved, AreDelivered, AreAsked, asked_of, left_from, links_sent, links_handled, devices_delivered, devices_asked, operator_at, parted};
+ghost use Rattle.nm_history.specs.History.{served};
+ghost use Rattle.nm_device.specs.Table.{is_opening};
+ghost use Rattle.nm_world.specs.World.{replied_to, IsSoundDevice, IsAsked, AreMoved, AreDelivered, AreAsked, asked_of, left_from, links_sent, links_handled, devices_delivered, devices_asked, operator_at, parted, IsDeviceMoved, AreDevicesMoved, advanced_by, restarted_device, devices_advanced, devices_restarted};
 
 use crate::course::Course;
 use crate::happened::Happened;
 use crate::link::Link;
 use crate::operator::Operator;
 use nm_base::{NoMemory, SessionId};
-use nm_device::Recorded;
+use nm_history::Recorded;
 use nm_proto::{Content, Request, Tables};
 
 // A device does a request of an operator. One that has a session there doesn't ask for another.
@@ -64,6 +65,7 @@ fn reply_to<C: Content>(
 }
 
 // The session that an operator has on a device is lost.
+#[tactic(auto, unfolding(crate::specs::World::left_from))]
 fn leave_from<C: Content>(
     content: &C,
     device: &mut Recorded<C>,
@@ -72,13 +74,13 @@ fn leave_from<C: Content>(
 ) -> Result<Happened, NoMemory>
     requires sound { IsSoundDevice (C.meaning content.now) device.old }
     ensures unchanged { OnErr result (device.new ≡ device.old) }
-    ensures left { IfOk result (λ happened. IsAsked happened device.new operator.now (left_from device.old operator.now place)) }
+    ensures left { IfOk result (λ happened. IsAsked happened device.new operator.now (left_from (C.meaning content.now) device.old operator.now place)) }
     ensures sound { IsSoundDevice (C.meaning content.now) device.new }
 {
     let Some(session) = operator.session(device, place) else {
         return Ok(Happened::Idle);
     };
-    match device.lose(session)? {
+    match device.lose(content, session)? {
         Some(undone) => Ok(Happened::Left { undone }),
         None => Ok(Happened::Idle),
     }
@@ -195,7 +197,7 @@ pub fn leave_at<C: Content>(
 ) -> Result<Happened, NoMemory>
     requires sound { All (IsSoundDevice (C.meaning content.now)) devices.old.items }
     ensures unchanged { OnErr result (devices.new.items ≡ devices.old.items) }
-    ensures left { IfOk result (λ happened. AreAsked happened devices.new.items operators.now (parted devices.old.items operators.now number place (operator_at operators.now number) (slice_get devices.old.items place))) }
+    ensures left { IfOk result (λ happened. AreAsked happened devices.new.items operators.now (parted (C.meaning content.now) devices.old.items operators.now number place (operator_at operators.now number) (slice_get devices.old.items place))) }
     ensures sound { All (IsSoundDevice (C.meaning content.now)) devices.new.items }
 {
     let Some(operator) = operator_at(operators, number) else {
@@ -205,4 +207,73 @@ pub fn leave_at<C: Content>(
         return Ok(Happened::Idle);
     }
     leave_from(content, &mut devices[place], operator, place)
+}
+
+/// The greatest clock of a device, in seconds. The events of a scenario are too few to reach it.
+pub const LATEST: u64 = 1 << 62;
+
+// The clock of a device rises, up to the greatest.
+#[tactic(auto, unfolding(nm_device::specs::Device::IsInTime))]
+fn advance_by<C: Content>(
+    content: &C,
+    device: &mut Recorded<C>,
+    seconds: u32,
+) -> Result<Happened, NoMemory>
+    requires sound { IsSoundDevice (C.meaning content.now) device.old }
+    ensures unchanged { OnErr result (device.new ≡ device.old) }
+    ensures advanced { IfOk result (λ happened. IsDeviceMoved happened device.new (advanced_by (C.meaning content.now) device.old seconds)) }
+    ensures sound { IsSoundDevice (C.meaning content.now) device.new }
+{
+    let clock = device.device().clock() + u64::from(seconds);
+    if clock > LATEST {
+        return Ok(Happened::Idle);
+    }
+    let undone = device.advance(content, seconds)?;
+    Ok(Happened::Now { clock, undone })
+}
+
+/// The clock of the device at a place rises by some seconds.
+pub fn advance_at<C: Content>(
+    content: &C,
+    devices: &mut Vec<Recorded<C>>,
+    place: usize,
+    seconds: u32,
+) -> Result<Happened, NoMemory>
+    requires sound { All (IsSoundDevice (C.meaning content.now)) devices.old.items }
+    ensures unchanged { OnErr result (devices.new.items ≡ devices.old.items) }
+    ensures advanced { IfOk result (λ happened. AreDevicesMoved happened devices.new.items (devices_advanced (C.meaning content.now) devices.old.items place seconds (slice_get devices.old.items place))) }
+    ensures sound { All (IsSoundDevice (C.meaning content.now)) devices.new.items }
+{
+    if place >= devices.len() {
+        return Ok(Happened::Idle);
+    }
+    advance_by(content, &mut devices[place], seconds)
+}
+
+// A device restarts.
+fn restart_of<C: Content>(content: &C, device: &mut Recorded<C>) -> Result<Happened, NoMemory>
+    requires sound { IsSoundDevice (C.meaning content.now) device.old }
+    ensures unchanged { OnErr result (device.new ≡ device.old) }
+    ensures restarted { IfOk result (λ happened. IsDeviceMoved happened device.new (restarted_device (C.meaning content.now) device.old)) }
+    ensures sound { IsSoundDevice (C.meaning content.now) device.new }
+{
+    let undone = device.restart(content)?;
+    Ok(Happened::Restarted { undone })
+}
+
+/// The device at a place restarts.
+pub fn restart_at<C: Content>(
+    content: &C,
+    devices: &mut Vec<Recorded<C>>,
+    place: usize,
+) -> Result<Happened, NoMemory>
+    requires sound { All (IsSoundDevice (C.meaning content.now)) devices.old.items }
+    ensures unchanged { OnErr result (devices.new.items ≡ devices.old.items) }
+    ensures restarted { IfOk result (λ happened. AreDevicesMoved happened devices.new.items (devices_restarted (C.meaning content.now) devices.old.items place (slice_get devices.old.items place))) }
+    ensures sound { All (IsSoundDevice (C.meaning content.now)) devices.new.items }
+{
+    if place >= devices.len() {
+        return Ok(Happened::Idle);
+    }
+    restart_of(content, &mut devices[place])
 }

@@ -8,7 +8,7 @@ use crate::happened::{Passed, Sending};
 use crate::link::Link;
 use crate::scene::Scene;
 use nm_base::{ChangeNo, NoMemory};
-use nm_device::Recorded;
+use nm_history::Recorded;
 use nm_proto::{Content, Entry, Event, Listed, PlannedEdit, Tables};
 use std::alloc::Global;
 use std::marker::Model;
@@ -30,7 +30,7 @@ impl<C: Content + Drop> Drop for World<C> {
 impl<C: Content + Drop> Model for World<C> {
     ghost use Rattle.nm_world.specs.World.{Whole};
 
-    ghost Value = { Whole C C.Config C.Edit };
+    ghost Value = { Whole C C.Config C.Edit C.Node };
 
     ghost view = { λ w. record {
       content = w.scene.content;

@@ -5,12 +5,11 @@ ghost use Rattle.std.specs.List.{All};
 
 use crate::course::Course;
 use crate::happened::{Happened, Passed};
-use crate::outcome::{Outcome, outcome_of};
 use crate::world::World;
 use nm_base::{
     ChangeNo, DEFAULT_TIMEOUT, DeviceMask, DeviceNo, EditNo, Label, MANAGER, NoMemory, SessionId,
 };
-use nm_device::Recorded;
+use nm_history::{Outcome, Recorded, outcome_of};
 use nm_proto::{
     Content, DefaultOperation, Event, FlatConfig, FlatContent, FlatEdit, Listed, NumberMap,
     PlannedEdit, Reply, Request, Show, Tables,

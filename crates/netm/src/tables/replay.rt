@@ -208,13 +208,9 @@ static REPLIES: [Row; 20] = [
     Row(
         "kill",
         r#"["foreign",1,1,["kill",1]]"#,
-        "scenario not-built /events/1",
+        "reply error invalid-value",
     ),
-    Row(
-        "restart",
-        r#"["restart",1]"#,
-        "scenario not-built /events/1",
-    ),
+    Row("restart", r#"["restart",1]"#, "restarted"),
     Row(
         "a bad store",
         r#"["foreign",1,1,["lock","startup"]]"#,

@@ -309,119 +309,186 @@ fn edits(rt: HostRuntime) -> Result<(), Fail> {
     all_answer(rt.alloc(), &REQUESTS, &EDITS)
 }
 
-static FOREIGN: Frame = Frame {
-    command: "check",
-    open: r#"{"netm":1,"contents":"flat","devices":[{"running":{"7":1}}],"operators":[{"user":"ann"}],"events":["#,
-    close: "]}",
-    head: "",
-    tail: "",
-};
-
-// Requests that aren't built are told at the event, before what else is wrong with it.
-static UNBUILT: [Row; 20] = [
-    Row(
-        "partial-lock",
-        r#"["foreign",1,1,["partial-lock",["7"]]]"#,
-        "scenario not-built /events/0",
-    ),
+// Partial locks, confirmed commits, cancels and kills.
+static LOCKS_AND_COMMITS: [Row; 26] = [
+    Row("partial-lock", r#"["partial-lock",["7"]]"#, ""),
+    Row("partial-lock of nothing", r#"["partial-lock",[]]"#, ""),
     Row(
         "partial-lock alone",
-        r#"["foreign",1,1,["partial-lock"]]"#,
-        "scenario not-built /events/0",
+        r#"["partial-lock"]"#,
+        "scenario bad-value /events/0/3",
     ),
     Row(
         "partial-lock of a number",
-        r#"["foreign",1,1,["partial-lock",7]]"#,
-        "scenario not-built /events/0",
+        r#"["partial-lock",7]"#,
+        "scenario bad-value /events/0/3/1",
     ),
     Row(
-        "partial-unlock",
-        r#"["foreign",1,1,["partial-unlock",1]]"#,
-        "scenario not-built /events/0",
+        "a number among texts",
+        r#"["partial-lock",["7",7]]"#,
+        "scenario bad-value /events/0/3/1/1",
     ),
+    Row(
+        "65 texts",
+        r#"["partial-lock",["","","","","","","","","","","","","","","","","","","","","","","","","","","","","","","","","","","","","","","","","","","","","","","","","","","","","","","","","","","","","","","","",""]]"#,
+        "scenario too-many /events/0/3/1",
+    ),
+    Row("partial-unlock", r#"["partial-unlock",4294967295]"#, ""),
     Row(
         "partial-unlock below",
-        r#"["foreign",1,1,["partial-unlock",-1]]"#,
-        "scenario not-built /events/0",
+        r#"["partial-unlock",-1]"#,
+        "scenario bad-value /events/0/3/1",
     ),
     Row(
-        "kill",
-        r#"["foreign",1,1,["kill",1]]"#,
-        "scenario not-built /events/0",
+        "partial-unlock above",
+        r#"["partial-unlock",4294967296]"#,
+        "scenario bad-value /events/0/3/1",
     ),
+    Row("kill", r#"["kill",0]"#, ""),
     Row(
         "kill alone",
-        r#"["foreign",1,1,["kill"]]"#,
-        "scenario not-built /events/0",
+        r#"["kill"]"#,
+        "scenario bad-value /events/0/3",
     ),
+    Row(
+        "kill a text",
+        r#"["kill","1"]"#,
+        "scenario bad-value /events/0/3/1",
+    ),
+    Row(
+        "another case of kill",
+        r#"["Kill",1]"#,
+        "scenario bad-value /events/0/3/0",
+    ),
+    Row("cancel-commit", r#"["cancel-commit"]"#, ""),
+    Row(
+        "cancel-commit by id",
+        r#"["cancel-commit",{"persist-id":"x"}]"#,
+        "",
+    ),
+    Row(
+        "cancel-commit of a number",
+        r#"["cancel-commit",7]"#,
+        "scenario bad-value /events/0/3/1",
+    ),
+    Row(
+        "cancel-commit with a token",
+        r#"["cancel-commit",{"persist":"x"}]"#,
+        "scenario unknown /events/0/3/1/persist",
+    ),
+    Row(
+        "a confirmed commit",
+        r#"["commit",{"confirmed":true,"timeout":4294967295,"persist":"x","persist-id":"y"}]"#,
+        "",
+    ),
+    Row("commit with an object", r#"["commit",{}]"#, ""),
+    Row(
+        "a timeout of none",
+        r#"["commit",{"confirmed":true,"timeout":0}]"#,
+        "",
+    ),
+    Row(
+        "a timeout above",
+        r#"["commit",{"timeout":4294967296}]"#,
+        "scenario bad-value /events/0/3/1/timeout",
+    ),
+    Row(
+        "confirmed by a number",
+        r#"["commit",{"confirmed":1}]"#,
+        "scenario bad-value /events/0/3/1/confirmed",
+    ),
+    Row(
+        "commit with another member",
+        r#"["commit",{"a":1}]"#,
+        "scenario unknown /events/0/3/1/a",
+    ),
+    Row(
+        "commit with an empty token",
+        r#"["commit",{"persist":""}]"#,
+        "scenario bad-value /events/0/3/1/persist",
+    ),
+    Row(
+        "a token of 65 bytes",
+        r#"["commit",{"persist-id":"ttttttttttttttttttttttttttttttttttttttttttttttttttttttttttttttttt"}]"#,
+        "scenario bad-value /events/0/3/1/persist-id",
+    ),
+    Row(
+        "commit with two",
+        r#"["commit",{},{}]"#,
+        "scenario bad-value /events/0/3",
+    ),
+];
+
+#[test]
+fn locks_and_commits(rt: HostRuntime) -> Result<(), Fail> {
+    all_answer(rt.alloc(), &REQUESTS, &LOCKS_AND_COMMITS)
+}
+
+static WHOLE_EVENTS: Frame = Frame {
+    command: "check",
+    open: r#"{"netm":1,"contents":"flat","devices":[{"running":{"7":1}}],"operators":[{"user":"ann"}],"events":["#,
+    close: "]}",
+    head: "netm check 1\ndevice 1 rows 1\nchanges 0 operators 1 events ",
+    tail: "\n",
+};
+
+// Events without change sets, and whose fault comes first.
+static EVENTS: [Row; 12] = [
     Row(
         "kill by nobody",
         r#"["foreign",9,9,["kill",1]]"#,
-        "scenario not-built /events/0",
+        "scenario bad-value /events/0/1",
     ),
     Row(
         "kill and one more",
         r#"["foreign",1,1,["kill",1],1]"#,
-        "scenario not-built /events/0",
+        "scenario bad-value /events/0",
     ),
     Row(
-        "cancel-commit",
-        r#"["foreign",1,1,["cancel-commit"]]"#,
-        "scenario not-built /events/0",
+        "a bad kill as the second event",
+        r#"["leave",1,1],["foreign",1,1,["kill"]]"#,
+        "scenario bad-value /events/1/3",
     ),
     Row(
-        "cancel-commit by id",
-        r#"["foreign",1,1,["cancel-commit",{"persist-id":"x"}]]"#,
-        "scenario not-built /events/0",
+        "a bad event before a bad kill",
+        r#"["leave"],["foreign",1,1,["kill"]]"#,
+        "scenario bad-value /events/0",
+    ),
+    Row("advance", r#"["advance",1,4294967295]"#, "1"),
+    Row(
+        "advance alone",
+        r#"["advance"]"#,
+        "scenario bad-value /events/0",
     ),
     Row(
-        "cancel-commit of a number",
-        r#"["foreign",1,1,["cancel-commit",7]]"#,
-        "scenario not-built /events/0",
+        "advance of device 2",
+        r#"["advance",2,1]"#,
+        "scenario bad-value /events/0/1",
     ),
     Row(
-        "a confirmed commit",
-        r#"["foreign",1,1,["commit",{"confirmed":true}]]"#,
-        "scenario not-built /events/0",
+        "advance below",
+        r#"["advance",1,-1]"#,
+        "scenario bad-value /events/0/2",
     ),
     Row(
-        "commit with an object",
-        r#"["foreign",1,1,["commit",{}]]"#,
-        "scenario not-built /events/0",
+        "advance above",
+        r#"["advance",1,4294967296]"#,
+        "scenario bad-value /events/0/2",
+    ),
+    Row("restart", r#"["restart",1]"#, "1"),
+    Row(
+        "restart of device 0",
+        r#"["restart",0]"#,
+        "scenario bad-value /events/0/1",
     ),
     Row(
-        "commit with another member",
-        r#"["foreign",1,1,["commit",{"a":1}]]"#,
-        "scenario not-built /events/0",
-    ),
-    Row(
-        "commit with an empty token",
-        r#"["foreign",1,1,["commit",{"persist":""}]]"#,
-        "scenario not-built /events/0",
-    ),
-    Row(
-        "commit with an object by nobody",
-        r#"["foreign",0,0,["commit",{}]]"#,
-        "scenario not-built /events/0",
-    ),
-    Row(
-        "another case of kill",
-        r#"["foreign",1,1,["Kill",1]]"#,
-        "scenario bad-value /events/0/3/0",
-    ),
-    Row(
-        "kill as the second event",
-        r#"["leave",1,1],["foreign",1,1,["kill",1]]"#,
-        "scenario not-built /events/1",
-    ),
-    Row(
-        "a bad event before kill",
-        r#"["leave"],["foreign",1,1,["kill",1]]"#,
+        "restart with two",
+        r#"["restart",1,1]"#,
         "scenario bad-value /events/0",
     ),
 ];
 
 #[test]
-fn unbuilt(rt: HostRuntime) -> Result<(), Fail> {
-    all_answer(rt.alloc(), &FOREIGN, &UNBUILT)
+fn events_without_changes(rt: HostRuntime) -> Result<(), Fail> {
+    all_answer(rt.alloc(), &WHOLE_EVENTS, &EVENTS)
 }

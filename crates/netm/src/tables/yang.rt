@@ -90,7 +90,7 @@ static AFTER_DEVICES: [Row; 37] = [
     Row(
         "kill",
         r#","events":[["foreign",1,1,["kill",1]]]"#,
-        "scenario not-built /events/0",
+        "1 events 1",
     ),
     Row(
         "foreign of operator 2",

@@ -128,10 +128,10 @@ module _ (course : Course) (planned : PlannedEdit) where
       (λ _. f)
 
   -- one more request is delivered, and its reply sent
-  pub delivered_followed : (decided : Bool) (link : LinkState) (history : List Exchange) (request : Request) (reply : Reply) → slice_get link.sent (length link.replies) ≡ Some request
+  pub delivered_followed : (decided : Bool) (link : LinkState) (history : List Exchange) (request : Request) (reply : Reply) (undone : Bool) → slice_get link.sent (length link.replies) ≡ Some request
       → (slice_get (requests_of course planned) 5 ≡ Some request → is_verdict (Some reply) ≡ true)
-      → IsFollowed course planned decided link history → IsFollowed course planned decided (record link { replies = link.replies ++ reply ∷ [] }) (history ++ record { request = request; reply = reply } ∷ [])
-  delivered_followed decided link history request reply out verdict f =
+      → IsFollowed course planned decided link history → IsFollowed course planned decided (record link { replies = link.replies ++ reply ∷ [] }) (history ++ record { request = request; reply = reply; undone = undone } ∷ [])
+  delivered_followed decided link history request reply undone out verdict f =
       let longer : length (link.replies ++ reply ∷ []) ≡ length link.replies + 1 = length-append link.replies (reply ∷ []) in
       let noted : length link.replies ≡ length history = ap length f.replies_are_noted ∙ length-map history (λ (n : Exchange). n.reply) in
       let asked : length (map (λ (n : Exchange). n.request) history) ≡ length link.replies = length-map history (λ (n : Exchange). n.request) ∙ sym noted in
@@ -139,9 +139,9 @@ module _ (course : Course) (planned : PlannedEdit) where
       let undelivered : length link.replies < length link.sent = slice_get_within link.sent (length link.replies) request out in
       let handled : link.handled ≤ length link.replies = f.handled_replies in
       record {
-        requests_are_noted = subst (λ requests. IsBeginning requests (requests_of course planned)) (sym (map-append (λ (n : Exchange). n.request) history (record { request = request; reply = reply } ∷ [])))
+        requests_are_noted = subst (λ requests. IsBeginning requests (requests_of course planned)) (sym (map-append (λ (n : Exchange). n.request) history (record { request = request; reply = reply; undone = undone } ∷ [])))
             (beginning_more (map (λ (n : Exchange). n.request) history) (requests_of course planned) request f.requests_are_noted (ap (slice_get (requests_of course planned)) asked ∙ next));
-        replies_are_noted = ap (λ replies. replies ++ reply ∷ []) f.replies_are_noted ∙ sym (map-append (λ (n : Exchange). n.reply) history (record { request = request; reply = reply } ∷ []));
+        replies_are_noted = ap (λ replies. replies ++ reply ∷ []) f.replies_are_noted ∙ sym (map-append (λ (n : Exchange). n.reply) history (record { request = request; reply = reply; undone = undone } ∷ []));
         sent_in_order = f.sent_in_order;
         handled_replies = omega arith;
         delivered_requests = omega arith;

@@ -1,5 +1,5 @@
 use Rattle.std.proofs.Common.{◌≡◌, ◌++◌, length, map}
-use Rattle.nm_device.specs.History.{recorded}
+use Rattle.nm_history.specs.History.{recorded}
 use Rattle.nm_world.proofs.scene.fresh_devices.Given as goal
 
 -- what was made and what is left make the whole

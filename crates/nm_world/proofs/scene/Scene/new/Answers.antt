@@ -1,5 +1,5 @@
 use Rattle.std.proofs.Common.{◌≡◌, map}
-use Rattle.nm_device.specs.History.{recorded}
+use Rattle.nm_history.specs.History.{recorded}
 use Rattle.nm_world.proofs.Rounds.{fresh-sound}
 use Rattle.nm_world.proofs.scene.Scene.new.Goals as goal
 

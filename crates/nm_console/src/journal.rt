@@ -1,0 +1,68 @@
+//! The command `journal`.
+
+ghost use Rattle.std.specs.Prelude.{◌≡◌, ◌≤◌, IfOk, IsErrOf, IsTrue};
+ghost use Rattle.nm_base.specs.Count.{Rose};
+ghost use Rattle.nm_journal.specs.Fits.{OfImage};
+ghost use Rattle.nm_console.specs.Status.{is_whole};
+ghost use Rattle.nm_console.specs.Console.{Tells, TellsJournal, damaged, listed};
+
+use crate::refusal::write_damaged;
+use crate::said::Said;
+use crate::status::Status;
+use nm_base::NoMemory;
+use nm_disk::Disk;
+use nm_journal::{JournalFault, read_disk};
+use nm_proto::Entry;
+use nm_report::write_journal;
+use std::alloc::Global;
+
+/// Why nothing is said of a journal.
+#[derive(Clone, Copy, Debug, PartialEq, Eq)]
+pub enum JournalStop {
+    DiskFault,
+    NoMemory,
+}
+
+/// The answer to the journal on a disk, which stays as it is.
+#[tactic(auto, using(crate::proofs::Journals::journals))]
+pub fn journal_answer<D: Disk>(alloc: Global, disk: &mut D) -> Result<Said, JournalStop>
+    ensures told { IfOk result (λ said. OfImage (D.told disk.old) (λ image. TellsJournal image said.status said.text.items)) }
+    ensures whole { IfOk result (λ said. IsTrue (is_whole said.status)) }
+    ensures disk_fault { IsErrOf result JournalStop.DiskFault → Rose (D.faults disk.old) (D.faults disk.new) }
+    ensures same { D.told disk.new ≡ D.told disk.old }
+    ensures count { D.faults disk.old ≤ D.faults disk.new }
+{
+    match read_disk(alloc, disk) {
+        Ok(entries) => say_entries(alloc, entries.as_slice()),
+        Err(JournalFault::Damaged { offset }) => say_damaged(alloc, offset),
+        Err(JournalFault::DiskFault) => Err(JournalStop::DiskFault),
+        Err(_) => Err(JournalStop::NoMemory),
+    }
+}
+
+fn say_entries(alloc: Global, entries: &[Entry]) -> Result<Said, JournalStop>
+    ensures told { IfOk result (λ said. Tells (listed entries.now) said.status said.text.items) }
+    ensures no_disk_fault { IsErrOf result JournalStop.DiskFault → ⊥ }
+{
+    match write_journal(alloc, entries) {
+        Ok(text) => Ok(Said {
+            status: Status::Ok,
+            text,
+        }),
+        Err(NoMemory) => Err(JournalStop::NoMemory),
+    }
+}
+
+fn say_damaged(alloc: Global, offset: u64) -> Result<Said, JournalStop>
+    ensures told { IfOk result (λ said. Tells (damaged offset) said.status said.text.items) }
+    ensures no_disk_fault { IsErrOf result JournalStop.DiskFault → ⊥ }
+{
+    let mut text = Vec::new(alloc);
+    match write_damaged(&mut text, offset) {
+        Ok(()) => Ok(Said {
+            status: Status::Journal,
+            text,
+        }),
+        Err(NoMemory) => Err(JournalStop::NoMemory),
+    }
+}

@@ -1,0 +1,49 @@
+-- What holds of each event that is read (this project's own): it names change sets, devices and operators that there are.
+use Rattle.std.specs.Prelude.{ℕ, ◌*◌, ◌≤◌, List}
+use Rattle.std.specs.List.{All, sum_by}
+use Rattle.nm_proto.specs.declared.plan.Event.{Event}
+use Rattle.nm_proto.specs.declared.plan.Event.TheVariants.{Submit, Turn, Deliver, Answer, Break, Lose, Advance, Restart, Forget, Crash, Renew, Foreign, Leave, Round}
+use Rattle.nm_events.specs.declared.event.ReadEvent.{ReadEvent}
+use Rattle.nm_events.specs.declared.event.ReadEvent.TheVariants.{Other, Asked}
+use Rattle.nm_events.specs.declared.arguments.Counts.{Counts}
+use Rattle.nm_events.specs.Limits.{event_limit, turn_limit}
+
+-- a number from one to another
+abbrev pub IsWithin : ℕ → ℕ → ℕ → Type 0
+IsWithin low high n = (low ≤ n) × (n ≤ high)
+
+-- an event speaks of change sets, devices and operators that there are; links, replies and seconds may be any
+abbrev pub EventKeeps : Counts → Event → Type 0
+EventKeeps c (Submit change) = IsWithin 1 c.changes change
+EventKeeps c (Turn change) = IsWithin 1 c.changes change
+EventKeeps c (Deliver change device link) = IsWithin 1 c.changes change × IsWithin 1 c.devices device
+EventKeeps c (Answer change device link number) = IsWithin 1 c.changes change × IsWithin 1 c.devices device
+EventKeeps c (Break change device) = IsWithin 1 c.changes change × IsWithin 1 c.devices device
+EventKeeps c (Lose change device link) = IsWithin 1 c.changes change × IsWithin 1 c.devices device
+EventKeeps c (Advance device seconds) = IsWithin 1 c.devices device
+EventKeeps c (Restart device) = IsWithin 1 c.devices device
+EventKeeps c (Forget change) = IsWithin 1 c.changes change
+EventKeeps c Crash = Unit {0}
+EventKeeps c (Renew change device) = IsWithin 1 c.changes change × IsWithin 1 c.devices device
+EventKeeps c (Foreign operator device request) = IsWithin 1 c.operators operator × IsWithin 1 c.devices device
+EventKeeps c (Leave operator device) = IsWithin 1 c.operators operator × IsWithin 1 c.devices device
+EventKeeps c (Round change turns) = IsWithin 1 c.changes change × IsWithin 1 turn_limit turns
+
+-- the same before edits have numbers
+abbrev pub ReadKeeps : {E : Type 0} → Counts → ReadEvent E → Type 0
+ReadKeeps c (Other event) = EventKeeps c event
+ReadKeeps c (Asked operator device request) = IsWithin 1 c.operators operator × IsWithin 1 c.devices device
+
+-- how many elementary events an event stands for: three for each turn of a round, else one
+abbrev pub weight : Event → ℕ
+weight (Round change turns) = 3 * turns
+weight _ = 1
+
+abbrev pub read_weight : {E : Type 0} → ReadEvent E → ℕ
+read_weight (Other event) = weight event
+read_weight (Asked operator device request) = 1
+
+-- the events that are read: each speaks of what there is, and they aren't too many
+pub record EventsKeep {E : Type 0} (c : Counts) (events : List (ReadEvent E)) : Type 0 where
+  pub keep : All (ReadKeeps c) events
+  pub weigh : sum_by read_weight events ≤ event_limit
