@@ -11,6 +11,13 @@ fn started(change: ChangeNo, devices: u32) -> Entry {
     }
 }
 
+fn refused_by(device: DeviceNo) -> Verdict {
+    Verdict::Abort(AbortCause::Refused {
+        device,
+        tag: Tag::LockDenied,
+    })
+}
+
 // A change set over devices 1 and 2 that was committed and isn't ended: one is found, with its two devices.
 #[test]
 fn decided_ones_are_found(rt: HostRuntime) -> Result<(), Fail> {
@@ -44,16 +51,12 @@ fn each_change_set_has_its_own_words(rt: HostRuntime) -> Result<(), Fail> {
     let one = DeviceNo::new(1).ok_or("1")?;
     let other = DeviceNo::new(2).ok_or("2")?;
     let third = DeviceNo::new(3).ok_or("3")?;
-    let verdict = Verdict::Abort(AbortCause::Refused {
-        device: third,
-        tag: Tag::LockDenied,
-    });
     let entries = [
         started(two, 5),
         started(five, 1),
         Entry::Decided {
             change: two,
-            verdict,
+            verdict: refused_by(third),
         },
         Entry::Ended {
             change: two,
@@ -61,7 +64,12 @@ fn each_change_set_has_its_own_words(rt: HostRuntime) -> Result<(), Fail> {
         },
     ];
     for (change, devices, told, kept) in [
-        (two, DeviceMask(5), Some(verdict), Some(DeviceMask(0))),
+        (
+            two,
+            DeviceMask(5),
+            Some(refused_by(third)),
+            Some(DeviceMask(0)),
+        ),
         (five, DeviceMask(1), None, None),
     ] {
         assert!(rt; is_started(&entries, change));
