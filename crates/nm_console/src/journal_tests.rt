@@ -22,17 +22,16 @@ const CLOSED: [u8; 16] = [0, 2, 0, 0, 0, 1, 1, 0, 0, 0, 0, 0, 0, 0, 0, 0];
 
 const NO_KIND: [u8; 16] = [1, 9, 0, 0, 0, 1, 1, 0, 0, 0, 0, 0, 0, 0, 0, 0];
 
-// A disk with these records and a closed gate behind them. The calls of these numbers fail, from the first one of a
-// program on.
+// A disk with these records and a closed gate behind them.
 fn disk_of(alloc: Global, records: &[[u8; 16]]) -> Result<MemoryDisk, Fail> {
     let mut disk = MemoryDisk::with_limit(alloc, 8192, 100)?;
-    let mut at = 0;
     for record in records {
-        let _ = disk.write_at(at, record.as_slice());
-        at += 16;
+        let end = disk.bytes().len() as u64;
+        let _ = disk.write_at(end, record.as_slice());
     }
-    if at > 0 {
-        let _ = disk.write_at(at, &[0]);
+    let end = disk.bytes().len() as u64;
+    if end > 0 {
+        let _ = disk.write_at(end, &[0]);
     }
     Ok(disk)
 }
