@@ -1,0 +1,14 @@
+pub mod Acts
+pub mod Events
+pub mod Authors
+pub mod Numbers
+pub mod Keeping
+pub mod Users
+pub mod Strangers
+pub mod Marked
+pub mod Readings
+pub mod Named
+pub mod Tokens
+pub mod Owns
+pub mod Outcomes
+pub mod Tells
