@@ -1,4 +1,4 @@
-ghost use Rattle.std.specs.Prelude.{◌≡◌, ◌↔◌, List, IsTrue, IfOk, OnOk, OnErr, None, option_copied};
+ghost use Rattle.std.specs.Prelude.{◌≡◌, ◌↔◌, List, IsTrue, IfOk, OnOk, OnErr, None, option_copied, slice_get};
 ghost use Rattle.std.specs.FinMap as map;
 ghost use Rattle.std.specs.Map.Iter.{ShowsInOrder, deref_pair};
 ghost use Rattle.std.specs.List.{list_any};
@@ -105,6 +105,16 @@ impl Config {
         let after = (Bound::Excluded(path), Bound::Unbounded);
         match self.tree.range(after).next() {
             Some((next, _)) => Some(next),
+            None => None,
+        }
+    }
+
+    /// The path of the first row.
+    pub fn first_path(&self) -> Option<&Path>
+        ensures { option_copied result ≡ slice_get (map.keys self.now) 0 }
+    {
+        match self.iter().next() {
+            Some((first, _)) => Some(first),
             None => None,
         }
     }

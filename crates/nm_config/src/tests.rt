@@ -1,4 +1,4 @@
-use crate::{Config, copy, get, insert, is_under, remove_under};
+use crate::{Config, RowMap, copy, get, insert, is_under, remove_under};
 use nm_base::{Label, NoMemory};
 use nm_types::{Chosen, Path, Step, Value};
 use std::alloc::Global;
@@ -182,5 +182,30 @@ fn next(rt: HostRuntime) -> Result<(), Fail> {
         };
         assert_eq!(rt; found, *expected);
     }
+    Ok(())
+}
+
+// The value of a row, whatever the rows lie over.
+fn number_at<M: RowMap>(rows: &M, path: &Path) -> i128 {
+    rows.value(path).map_or(0, number)
+}
+
+// A configuration is rows that lie over nothing.
+#[test]
+fn as_rows(rt: HostRuntime) -> Result<(), Fail> {
+    let alloc = rt.alloc();
+    let mut config = filled(alloc)?;
+    let list = path(alloc, &[("list", "")])?;
+    let last = path(alloc, &[("lists", "")])?;
+    assert_eq!(rt; RowMap::row_count(&config), 8);
+    assert!(rt; RowMap::any_under(&config, &list));
+    RowMap::take_under(&mut config, &list)?;
+    RowMap::put(&mut config, path(alloc, &[("lists", "")])?, Value::Int(9))?;
+    assert_eq!(rt; number_at(&config, &last), 9);
+    assert_eq!(rt; RowMap::listed(&config, alloc)?.len(), 3);
+    let first = RowMap::next_after(&config, None);
+    assert_eq!(rt; first.map_or(0, |first| number_at(&config, first)), 1);
+    let after = RowMap::next_after(&config, Some(&list));
+    assert_eq!(rt; after.map_or(0, |after| number_at(&config, after)), 9);
     Ok(())
 }
