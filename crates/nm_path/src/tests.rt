@@ -111,6 +111,7 @@ fn put(
 ) -> Result<(), NoMemory> {
     let node = Node {
         parent,
+        case_in: None,
         module: Label::new(alloc, module)?,
         name: Label::new(alloc, name)?,
         kind: kind_of(alloc, shape)?,

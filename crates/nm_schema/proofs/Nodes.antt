@@ -61,7 +61,7 @@ module _ (rows : List Row) (facts : Facts) (x : ℕ) (n : Node) where
       → node_with rows place k ≡ Some n → IsPlaced rows facts x n
   with_kind place row None there row_there is e = absurd (cc)
   with_kind place row (Some k) there row_there is e =
-      let made : Node = record { parent = place.parent; «module» = module_name rows place.owner; name = argument_at rows place.row; kind = k } in
+      let made : Node = record { parent = place.parent; case_in = None; «module» = module_name rows place.owner; name = argument_at rows place.row; kind = k } in
       let same : made ≡ n = cc in
       record {
         place = place;

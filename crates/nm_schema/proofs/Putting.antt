@@ -61,7 +61,7 @@ with-place : (rows : List Row) (place : Instance) (k : Option NodeKind) (node : 
     → (node.parent ≡ place.parent) × (node.«module» ≡ module_name rows place.owner)
 with-place rows place None node e = absurd (cc)
 with-place rows place (Some k) node e =
-    let made : Node = record { parent = place.parent; «module» = module_name rows place.owner; name = argument_at rows place.row; kind = k } in
+    let made : Node = record { parent = place.parent; case_in = None; «module» = module_name rows place.owner; name = argument_at rows place.row; kind = k } in
     let same : made ≡ node = cc in
     (ap (λ (n : Node). n.parent) (sym same), ap (λ (n : Node). n.«module») (sym same))
 

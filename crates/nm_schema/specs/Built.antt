@@ -41,10 +41,10 @@ first_unknown rows facts = find (is_unknown rows facts) (range_with_len 0 (lengt
 
 -- ---- the tree
 
--- the nodes of the given modules, and those of the marker module after them
+-- the nodes of the given modules, and those of the marker module after them; no choices
 abbrev pub tree_of : List Row → Facts → SchemaTree
 tree_of rows facts =
-    record { modules = module_names rows; nodes = known_nodes rows facts ++ marker_nodes (length (known_nodes rows facts)) }
+    record { modules = module_names rows; nodes = known_nodes rows facts ++ marker_nodes (length (known_nodes rows facts)); choices = []; cases = [] }
 
 abbrev pub outcome : List Row → Facts → Option Fault → Option ℕ → Option ℕ → Result SchemaTree Fault
 outcome rows facts (Some f) m x = Err f

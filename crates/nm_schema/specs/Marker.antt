@@ -11,7 +11,7 @@ abbrev pub change_type : TypeOfLeaf
 change_type = record { kind = integer (pos 0) (pos 4294967295); limits = [] }
 
 abbrev pub marker_node : Option ℕ → List ℕ → NodeKind → Node
-marker_node parent name k = record { parent = parent; «module» = marker_name; name = name; kind = k }
+marker_node parent name k = record { parent = parent; case_in = None; «module» = marker_name; name = name; kind = k }
 
 -- container `changes`
 unfoldable pub changes_node : Node

@@ -21,7 +21,7 @@ module_name rows m = get_or (module_names rows) m []
 abbrev pub node_with : List Row → Instance → Option NodeKind → Option Node
 node_with rows node None = None
 node_with rows node (Some k) =
-    Some (record { parent = node.parent; «module» = module_name rows node.owner; name = argument_at rows node.row; kind = k })
+    Some (record { parent = node.parent; case_in = None; «module» = module_name rows node.owner; name = argument_at rows node.row; kind = k })
 
 abbrev pub node_by : List Row → Facts → ℕ → Instance → Option Row → Option Node
 node_by rows facts x node None = None

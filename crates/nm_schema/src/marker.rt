@@ -24,6 +24,7 @@ fn changes_node(alloc: Global) -> Result<Node, NoMemory>
 {
     Ok(Node {
         parent: None,
+        case_in: None,
         module: marker_name(alloc)?,
         name: Label::new(alloc, "changes")?,
         kind: NodeKind::Container { presence: false },
@@ -47,6 +48,7 @@ fn applied_node(alloc: Global, changes: usize) -> Result<Node, NoMemory>
     let keys = only(alloc, changes + 2)?;
     Ok(Node {
         parent: Some(changes),
+        case_in: None,
         module: marker_name(alloc)?,
         name: Label::new(alloc, "applied")?,
         kind: NodeKind::List {
@@ -84,6 +86,7 @@ fn change_node(alloc: Global, changes: usize) -> Result<Node, NoMemory>
 {
     Ok(Node {
         parent: Some(changes + 1),
+        case_in: None,
         module: marker_name(alloc)?,
         name: Label::new(alloc, "change")?,
         kind: NodeKind::Leaf {
@@ -100,6 +103,8 @@ pub(crate) fn put_marker(alloc: Global, schema: &mut Schema) -> Result<(), NoMem
     requires { length schema.old.nodes < 2 ^ 63 }
     ensures nodes { OnOk result (schema.new.nodes ≡ schema.old.nodes ++ spec.marker_nodes (length schema.old.nodes)) }
     ensures modules { OnOk result (schema.new.modules ≡ schema.old.modules) }
+    ensures choices { OnOk result (schema.new.choices ≡ schema.old.choices) }
+    ensures cases { OnOk result (schema.new.cases ≡ schema.old.cases) }
 {
     let changes = schema.push(changes_node(alloc)?)?;
     schema.push(applied_node(alloc, changes)?)?;

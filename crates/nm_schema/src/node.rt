@@ -89,6 +89,7 @@ pub(crate) fn node_of(
         None => Ok(None),
         Some(kind) => Ok(Some(Node {
             parent: node.parent,
+            case_in: None,
             module: name_of(alloc, names, node.owner)?,
             name: argument_at(alloc, grounds.rows(), node.row)?,
             kind,

@@ -115,6 +115,8 @@ fn put_node(
     ensures put { result ≡ Ok true → nodes.AreNodes grounds.now.rows grounds.now.facts (number + 1) schema.new.nodes }
     ensures few { length schema.new.nodes ≤ length schema.old.nodes + 1 }
     ensures modules { schema.new.modules ≡ schema.old.modules }
+    ensures choices { schema.new.choices ≡ schema.old.choices }
+    ensures cases { schema.new.cases ≡ schema.old.cases }
 {
     let Some(node) = node_of(alloc, grounds, names, number)? else {
         return Ok(false);
@@ -134,6 +136,8 @@ fn put_nodes(
     ensures nodes { result ≡ Ok None → schema.new.nodes ≡ nodes.known_nodes grounds.now.rows grounds.now.facts }
     ensures few { length schema.new.nodes ≤ 20001 }
     ensures modules { schema.new.modules ≡ schema.old.modules }
+    ensures choices { schema.new.choices ≡ schema.old.choices }
+    ensures cases { schema.new.cases ≡ schema.old.cases }
 {
     let expansion = grounds.expansion();
     expansion.laws();

@@ -2,3 +2,4 @@ pub mod Positions
 pub mod Indexes
 pub mod Changes
 pub mod Finding
+pub mod Nesting

@@ -1,6 +1,6 @@
 //! The nodes of a schema tree.
 
-ghost use Rattle.std.specs.Prelude.{◌≡◌, IfOk, None, MatchOption, Some};
+ghost use Rattle.std.specs.Prelude.{◌≡◌, IfOk, None, MatchOption, Some, option_copied};
 ghost use Rattle.nm_base.specs.Numbers.{is_among};
 ghost use Rattle.nm_tree.specs.Nodes as spec;
 
@@ -106,6 +106,8 @@ pub enum NodeKind {
 pub struct Node {
     /// The number of the node that it stands in, and None at the top.
     pub parent: Option<usize>,
+    /// The number of the innermost case that it stands in, among the choices of what it stands in; None in no case.
+    pub case_in: Option<usize>,
     /// The name of the module that it belongs to.
     pub module: Label,
     pub name: Label,
@@ -121,6 +123,83 @@ impl Node {
             NodeKind::Leaf { leaf_type, .. } => Some(leaf_type.get()),
             NodeKind::LeafList { leaf_type, .. } => Some(leaf_type.get()),
             _ => None,
+        }
+    }
+
+    /// The default of a leaf.
+    pub fn default(&self) -> Option<&Value>
+        ensures { option_copied result ≡ spec.default_of self.now.kind }
+    {
+        match &self.kind {
+            NodeKind::Leaf { default, .. } => default.as_ref(),
+            _ => None,
+        }
+    }
+
+    /// Whether it is a leaf that has to be there.
+    pub fn is_mandatory(&self) -> bool
+        ensures { result ≡ spec.is_mandatory self.now.kind }
+    {
+        match &self.kind {
+            NodeKind::Leaf { mandatory, .. } => *mandatory,
+            _ => false,
+        }
+    }
+
+    /// Where a leaf or a leaf-list of type leafref leads.
+    pub fn reference(&self) -> Option<Reference>
+        ensures { result ≡ spec.reference_of self.now.kind }
+    {
+        match &self.kind {
+            NodeKind::Leaf { reference, .. } => *reference,
+            NodeKind::LeafList { reference, .. } => *reference,
+            _ => None,
+        }
+    }
+
+    /// How many entries a list or a leaf-list may have. Nothing is said of other nodes.
+    pub fn elements(&self) -> Elements
+        ensures { result ≡ spec.elements_of self.now.kind }
+    {
+        match &self.kind {
+            NodeKind::LeafList { elements, .. } => *elements,
+            NodeKind::List { elements, .. } => *elements,
+            _ => Elements {
+                min: None,
+                max: None,
+            },
+        }
+    }
+
+    /// The keys of a list.
+    pub fn keys(&self) -> &[usize]
+        ensures { result.now ≡ spec.keys_of self.now.kind }
+    {
+        match &self.kind {
+            NodeKind::List { keys, .. } => keys.as_slice(),
+            _ => &[],
+        }
+    }
+
+    /// The leafs that each unique statement of a list names.
+    pub fn uniques(&self) -> &[Numbers]
+        ensures { result.now ≡ spec.uniques_of self.now.kind }
+    {
+        match &self.kind {
+            NodeKind::List { uniques, .. } => uniques.as_slice(),
+            _ => &[],
+        }
+    }
+
+    /// Whether it is a list or a container with presence: it is there by a row of its own, and what may or has to stand
+    /// below it depends on that row.
+    pub fn is_guard(&self) -> bool
+        ensures { result ≡ spec.is_guard self.now.kind }
+    {
+        match &self.kind {
+            NodeKind::Container { presence } => *presence,
+            NodeKind::List { .. } => true,
+            _ => false,
         }
     }
 

@@ -1,24 +1,27 @@
 //! Schema trees.
 
-ghost use Rattle.std.specs.Prelude.{◌≡◌, [], ◌∷◌, ◌++◌, length, slice_get, IfOk, OnOk, OnErr, None, Some, MatchOption, nat_eq, ℕ, ◌<◌, IsTrue, ◌↔◌, IfSome};
+ghost use Rattle.std.specs.Prelude.{◌≡◌, [], ◌∷◌, ◌++◌, length, slice_get, IfOk, OnOk, OnErr, None, Some, MatchOption, nat_eq, ℕ, ◌<◌, IsTrue, ◌↔◌, IfSome, option_copied};
 ghost use Rattle.std.specs.Vec.{vec_capacity};
 ghost use Rattle.nm_tree.specs.Nodes as spec;
 ghost use Rattle.nm_tree.specs.Levels as level_spec;
 
+use crate::choice::{CaseNode, ChoiceNode};
 use crate::level::Level;
-use crate::node::{Node, Reference, put_keys, put_reference};
+use crate::node::{Elements, Node, Reference, put_keys, put_reference};
 use nm_base::{Groups, Label, NoMemory, Numbers};
-use nm_types::LeafType;
+use nm_types::{LeafType, Value};
 use std::alloc::Global;
 use std::collections::BTreeMap;
 use std::marker::Model;
 
-/// A schema tree. It is seen as the names of its modules and the list of its nodes.
+/// A schema tree. It is seen as the names of its modules and the lists of its nodes, its choices and their cases.
 #[derive(Drop)]
 pub struct Schema {
     alloc: Global,
     modules: Vec<Label>,
     nodes: Vec<Node>,
+    choices: Vec<ChoiceNode>,
+    cases: Vec<CaseNode>,
     // What stands directly in each node.
     levels: Vec<Level>,
     // What stands at the top of each module.
@@ -26,14 +29,14 @@ pub struct Schema {
 }
 
 impl Model for Schema {
-    ghost use Rattle.nm_tree.specs.Nodes.{SchemaTree};
+    ghost use Rattle.nm_tree.specs.Nodes.{SchemaTree, AreNested};
     ghost use Rattle.nm_tree.specs.Levels.{IsIndexed, IsTree};
 
     ghost Value = { SchemaTree };
 
-    ghost view = { λ s. record { modules = s.modules.items; nodes = s.nodes.items } };
+    ghost view = { λ s. record { modules = s.modules.items; nodes = s.nodes.items; choices = s.choices.items; cases = s.cases.items } };
 
-    ghost invariant = { λ s. IsTree s.nodes.items × IsIndexed s.nodes.items s.levels.items s.top };
+    ghost invariant = { λ s. IsTree s.nodes.items × IsIndexed s.nodes.items s.levels.items s.top × AreNested s.choices.items s.cases.items };
 }
 
 // Puts a node into the top of its module.
@@ -115,11 +118,15 @@ impl Schema {
     pub fn new(alloc: Global, modules: Vec<Label>) -> Schema
         ensures modules { result.modules ≡ modules.items }
         ensures nodes { result.nodes ≡ [] }
+        ensures choices { result.choices ≡ [] }
+        ensures cases { result.cases ≡ [] }
     {
         Schema {
             alloc,
             modules,
             nodes: Vec::new(alloc),
+            choices: Vec::new(alloc),
+            cases: Vec::new(alloc),
             levels: Vec::new(alloc),
             top: BTreeMap::new(alloc),
         }
@@ -151,6 +158,30 @@ impl Schema {
         put_node(self.alloc, &mut self.levels, &mut self.top, &node, at)?;
         self.levels.push_reserved(Level::new(self.alloc));
         self.nodes.push_reserved(node);
+        Ok(at)
+    }
+
+    /// Puts a choice at the end and answers its number. The tree stays as it was where memory runs out.
+    pub fn push_choice(&mut self, choice: ChoiceNode) -> Result<usize, NoMemory>
+        requires { IfSome choice.case_in (λ case. case < length self.old.cases) }
+        ensures pushed { OnOk result (self.new ≡ spec.with_choice self.old choice) }
+        ensures number { IfOk result (λ at. at ≡ length self.old.choices) }
+        ensures unchanged { OnErr result (self.new ≡ self.old) }
+    {
+        let at = self.choices.len();
+        self.choices.push(choice)?;
+        Ok(at)
+    }
+
+    /// Puts a case at the end and answers its number. The tree stays as it was where memory runs out.
+    pub fn push_case(&mut self, case: CaseNode) -> Result<usize, NoMemory>
+        requires { case.choice < length self.old.choices }
+        ensures pushed { OnOk result (self.new ≡ spec.with_case self.old case) }
+        ensures number { IfOk result (λ at. at ≡ length self.old.cases) }
+        ensures unchanged { OnErr result (self.new ≡ self.old) }
+    {
+        let at = self.cases.len();
+        self.cases.push(case)?;
         Ok(at)
     }
 
@@ -243,11 +274,115 @@ impl Schema {
         self.nodes.get(at)?.leaf_type()
     }
 
-    // The node that a node stands in.
-    fn parent(&self, at: usize) -> Option<usize>
+    /// The node that a node stands in, and None at the top.
+    pub fn parent(&self, at: usize) -> Option<usize>
         ensures { result ≡ spec.parent_of self.now.nodes at }
     {
         self.nodes.get(at)?.parent
+    }
+
+    /// The default of a leaf.
+    pub fn default(&self, at: usize) -> Option<&Value>
+        ensures { option_copied result ≡ spec.default_at self.now.nodes at }
+    {
+        self.nodes.get(at)?.default()
+    }
+
+    /// Whether a node is a leaf that has to be there.
+    pub fn is_mandatory(&self, at: usize) -> bool
+        ensures { result ≡ spec.is_mandatory_at self.now.nodes at }
+    {
+        match self.nodes.get(at) {
+            None => false,
+            Some(node) => node.is_mandatory(),
+        }
+    }
+
+    /// Where a leaf or a leaf-list of type leafref leads.
+    pub fn reference(&self, at: usize) -> Option<Reference>
+        ensures { result ≡ spec.reference_at self.now.nodes at }
+    {
+        self.nodes.get(at)?.reference()
+    }
+
+    /// How many entries a list or a leaf-list may have. Nothing is said of other nodes.
+    pub fn elements(&self, at: usize) -> Elements
+        ensures { result ≡ spec.elements_at self.now.nodes at }
+    {
+        match self.nodes.get(at) {
+            None => Elements {
+                min: None,
+                max: None,
+            },
+            Some(node) => node.elements(),
+        }
+    }
+
+    /// The keys of a list.
+    pub fn keys(&self, at: usize) -> &[usize]
+        ensures { result.now ≡ spec.keys_at self.now.nodes (Some at) }
+    {
+        match self.nodes.get(at) {
+            None => &[],
+            Some(node) => node.keys(),
+        }
+    }
+
+    /// The leafs that each unique statement of a list names.
+    pub fn uniques(&self, at: usize) -> &[Numbers]
+        ensures { result.now ≡ spec.uniques_at self.now.nodes at }
+    {
+        match self.nodes.get(at) {
+            None => &[],
+            Some(node) => node.uniques(),
+        }
+    }
+
+    /// Whether a node is a list or a container with presence: what may or has to stand below it depends on its row.
+    pub fn is_guard(&self, at: usize) -> bool
+        ensures { result ≡ spec.is_guard_at self.now.nodes at }
+    {
+        match self.nodes.get(at) {
+            None => false,
+            Some(node) => node.is_guard(),
+        }
+    }
+
+    /// The innermost case that a node stands in, among the choices of what it stands in.
+    pub fn case_in(&self, at: usize) -> Option<usize>
+        ensures { result ≡ spec.case_at self.now.nodes at }
+    {
+        self.nodes.get(at)?.case_in
+    }
+
+    /// The choices, each after the one that it is nested in.
+    pub fn choices(&self) -> &[ChoiceNode]
+        ensures { result.now ≡ self.now.choices }
+    {
+        self.choices.as_slice()
+    }
+
+    /// The cases, each after its choice.
+    pub fn cases(&self) -> &[CaseNode]
+        ensures { result.now ≡ self.now.cases }
+    {
+        self.cases.as_slice()
+    }
+
+    /// The choice that a case is of.
+    pub fn choice_of(&self, case: usize) -> Option<usize>
+        ensures { result ≡ spec.choice_at self.now.cases case }
+    {
+        Some(self.cases.get(case)?.choice)
+    }
+
+    /// The case that the choice of a case stands in: the next one outwards.
+    pub fn outer_case(&self, case: usize) -> Option<usize>
+        ensures outer { result ≡ spec.outer_case self.now.choices self.now.cases case }
+        ensures outwards { IfSome result (λ outer. outer < case) }
+    {
+        let choice = self.choice_of(case)?;
+        self.choices.get(choice)?.case_in
     }
 
     /// Whether a leaf is a key of the list that it stands in.
@@ -269,5 +404,12 @@ impl Schema {
         ensures { level_spec.IsTree self.now.nodes }
     {
         let _count = self.nodes.len();
+    }
+
+    /// What holds of the choices and cases. It does nothing: its contract is the law.
+    pub fn choice_laws(&self)
+        ensures { spec.AreNested self.now.choices self.now.cases }
+    {
+        let _count = self.cases.len();
     }
 }

@@ -52,6 +52,7 @@ fn put(
 ) -> Result<Option<usize>, NoMemory> {
     let node = Node {
         parent,
+        case_in: None,
         module: Label::new(alloc, module)?,
         name: Label::new(alloc, name)?,
         kind: kind_of(alloc, shape)?,
@@ -159,6 +160,95 @@ fn references_are_set(rt: HostRuntime) -> Result<(), Fail> {
             _ => assert!(rt; false, "no leaf"),
         },
         None => assert!(rt; false, "no node"),
+    }
+    Ok(())
+}
+
+// RFC 7950 section 7.9: in the container of module b the choice `how` with the cases `fixed` and `other`, and in `other`
+// the choice `kind` with the case `plain`. Choices of a case that isn't there and cases of such a choice aren't put.
+fn with_choices(alloc: Global) -> Result<Schema, NoMemory> {
+    let mut schema = sample(alloc)?;
+    put_choice(alloc, &mut schema, None, "how")?;
+    put_case(alloc, &mut schema, 0, "fixed")?;
+    put_case(alloc, &mut schema, 0, "other")?;
+    put_choice(alloc, &mut schema, Some(1), "kind")?;
+    put_case(alloc, &mut schema, 1, "plain")?;
+    put_choice(alloc, &mut schema, Some(3), "lost")?;
+    put_case(alloc, &mut schema, 2, "lost")?;
+    Ok(schema)
+}
+
+fn put_choice(
+    alloc: Global,
+    schema: &mut Schema,
+    case_in: Option<usize>,
+    name: &str,
+) -> Result<(), NoMemory> {
+    let choice = ChoiceNode {
+        parent: Some(4),
+        case_in,
+        module: Label::new(alloc, "b")?,
+        name: Label::new(alloc, name)?,
+        mandatory: true,
+    };
+    if case_in.is_none_or(|case| case < schema.cases().len()) {
+        schema.push_choice(choice)?;
+    }
+    Ok(())
+}
+
+fn put_case(alloc: Global, schema: &mut Schema, choice: usize, name: &str) -> Result<(), NoMemory> {
+    let case = CaseNode {
+        choice,
+        name: Label::new(alloc, name)?,
+    };
+    if choice < schema.choices().len() {
+        schema.push_case(case)?;
+    }
+    Ok(())
+}
+
+// RFC 7950 section 7.9: cases are of choices, and choices may stand in cases.
+#[test]
+fn cases_lead_outwards(rt: HostRuntime) -> Result<(), Fail> {
+    let schema = with_choices(rt.alloc())?;
+    assert_eq!(rt; schema.choices().len(), 2);
+    assert_eq!(rt; schema.cases().len(), 3);
+    for (case, choice, outer) in [
+        (0, Some(0), None),
+        (1, Some(0), None),
+        (2, Some(1), Some(1)),
+        (3, None, None),
+    ]
+    .as_slice()
+    {
+        assert_eq!(rt; schema.choice_of(*case), *choice, "{case}");
+        assert_eq!(rt; schema.outer_case(*case), *outer, "{case}");
+    }
+    Ok(())
+}
+
+// RFC 7950 sections 7.6 and 7.8: what a leaf, a list and a container say of themselves.
+#[test]
+fn nodes_say_what_they_are(rt: HostRuntime) -> Result<(), Fail> {
+    let schema = sample(rt.alloc())?;
+    for (node, parent, is_guard) in [
+        (0, None, true),
+        (1, Some(0), false),
+        (4, None, false),
+        (9, None, false),
+    ]
+    .as_slice()
+    {
+        assert_eq!(rt; schema.parent(*node), *parent, "{node}");
+        assert_eq!(rt; schema.is_guard(*node), *is_guard, "{node}");
+        assert!(rt; schema.case_in(*node).is_none(), "{node}");
+        assert!(rt; schema.default(*node).is_none(), "{node}");
+        assert!(rt; schema.reference(*node).is_none(), "{node}");
+        assert!(rt; schema.elements(*node).min.is_none(), "{node}");
+        assert!(rt; !schema.is_mandatory(*node), "{node}");
+        assert!(rt; schema.keys(*node).is_empty(), "{node}");
+        assert!(rt; schema.uniques(*node).is_empty(), "{node}");
     }
     Ok(())
 }

@@ -275,6 +275,7 @@ fn put(
 ) -> Result<usize, NoMemory> {
     let node = Node {
         parent,
+        case_in: None,
         module: Label::new(alloc, row.1)?,
         name: Label::new(alloc, row.2)?,
         kind: node_kind(alloc, row.3)?,

@@ -9,6 +9,8 @@ pub loop-number-init : goal.loop-number-init
 loop-number-init c = record {
   put = none-put c.args.grounds.now.rows c.args.grounds.now.facts c.args.schema.now.nodes c.requires;
   modules = refl;
+  choices = refl;
+  cases = refl;
   rest = unknown-start c.args.grounds.now.rows c.args.grounds.now.facts;
 }
 
@@ -27,6 +29,8 @@ loop-number-preserved c =
     record {
       put = c.in-Ok-true.ensures.put (ap (λ (known : Bool). Ok known) c.in-Ok-true.field-0-test);
       modules = c.in-Ok-true.ensures.modules ∙ c.loop-number.invariant.modules;
+      choices = c.in-Ok-true.ensures.choices ∙ c.loop-number.invariant.choices;
+      cases = c.in-Ok-true.ensures.cases ∙ c.loop-number.invariant.cases;
       rest = unknown-next c.args.grounds.now.rows c.args.grounds.now.facts c.loop-number.number lt there c.loop-number.invariant.rest;
     }
 

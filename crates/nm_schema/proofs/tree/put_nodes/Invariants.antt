@@ -9,5 +9,7 @@ abbrev pub invariant-loop-number : goal.invariant-loop-number
 invariant-loop-number l = record {
   put : AreNodes l.grounds.rows l.grounds.facts l.number l.schema.nodes;
   modules : l.schema.modules ≡ l.fn.schema.modules;
+  choices : l.schema.choices ≡ l.fn.schema.choices;
+  cases : l.schema.cases ≡ l.fn.schema.cases;
   rest : from (is_unknown l.grounds.rows l.grounds.facts) l.number (length l.grounds.facts.nodes) ≡ first_unknown l.grounds.rows l.grounds.facts;
 }

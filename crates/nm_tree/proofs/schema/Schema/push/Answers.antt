@@ -12,4 +12,4 @@ invariant_of-self-2 c =
     let below = rw (at, c.in_ok-reserve-2.ensures.items) at c.in_ok-put_node.ensures.below in
     let above = rw at at c.in_ok-put_node.ensures.top in
     rw (c.push_reserved-2.ensures.items, c.in_ok-reserve.ensures.items, c.push_reserved.ensures.items)
-    (tree_push nodes n c.self.invariant.0 follows, indexed_push nodes c.self.inside.levels.items c.put_node.new.levels.items c.self.inside.top c.put_node.new.top n c.new.result c.self.invariant.1 below above c.new.ensures.order c.new.ensures.first)
+    (tree_push nodes n c.self.invariant.0 follows, indexed_push nodes c.self.inside.levels.items c.put_node.new.levels.items c.self.inside.top c.put_node.new.top n c.new.result c.self.invariant.1 below above c.new.ensures.order c.new.ensures.first, c.self.invariant.2)
