@@ -1,0 +1,10 @@
+pub mod Among
+pub mod Least
+pub mod Leading
+pub mod Areas
+pub mod Looked
+pub mod Placed
+pub mod Guarding
+pub mod Telling
+pub mod Sampled
+pub mod Configs
