@@ -1,0 +1,4 @@
+pub mod Faults
+pub mod Pass
+pub mod Kept
+pub mod End

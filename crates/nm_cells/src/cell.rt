@@ -1,0 +1,66 @@
+//! A device behind its lock.
+
+ghost use Rattle.std.specs.Prelude.{◌≡◌, true, Some, IfOk, OnErr};
+ghost use Rattle.nm_cells.specs.Kept.{IsKept};
+ghost use Rattle.nm_cells.specs.Pass.{is_operator};
+
+use crate::kept::KeptDevice;
+use crate::pass::Pass;
+use nm_base::{DeviceNo, NoMemory, SessionId};
+use nm_plan::RunName;
+use nm_proto::Content;
+use std::sync::{Mutex, Wait};
+
+/// A device of a run behind its lock. What its type keeps is so whenever the lock is free.
+pub struct DeviceCell<C: Content, N: RunName<C, C::Config, C::Edit>> {
+    device: DeviceNo,
+    state: Mutex<KeptDevice<C, N>>,
+}
+
+impl<C: Content, N: RunName<C, C::Config, C::Edit>> Drop for DeviceCell<C, N> {
+    fn drop(self) {
+        let DeviceCell { device: _, state } = self;
+        drop(state);
+    }
+}
+
+impl<C: Content, N: RunName<C, C::Config, C::Edit>> DeviceCell<C, N> {
+    ghost use Rattle.nm_cells.specs.End.{FoundHungUp};
+
+    /// Puts a device behind a lock, under the number by which passes tell it.
+    pub fn new(device: DeviceNo, state: KeptDevice<C, N>) -> DeviceCell<C, N>
+        ensures { result.device ≡ device }
+    {
+        DeviceCell {
+            device,
+            state: Mutex::new(state),
+        }
+    }
+
+    /// An operator hangs up a session, once the lock is free. Answers the place of the loss in the device's history, and
+    /// keeps the loss in the pass at this place. Answers None where the session isn't open or is the manager's.
+    pub fn hang_up<R: Wait>(
+        &self,
+        rt: &R,
+        content: &C,
+        pass: &mut Pass,
+        session: SessionId,
+    ) -> Result<Option<u32>, NoMemory>
+        requires operator { is_operator pass.old.owner ≡ true }
+        requires content { N.run.content ≡ Some content.now }
+        ensures pass { IfOk result (λ position. FoundHungUp position pass.old pass.new self.now.device session) }
+        ensures unchanged { OnErr result (pass.new ≡ pass.old) }
+    {
+        self.state.lock(rt).end(content, self.device, pass, session)
+    }
+
+    /// The device, taken out of its lock.
+    pub fn into_state(self) -> KeptDevice<C, N>
+        ensures { IsKept C.meaning N.run result }
+    {
+        let DeviceCell { device: _, state } = self;
+        let state = state.into_inner();
+        let _ = state.number();
+        state
+    }
+}
