@@ -2,6 +2,7 @@
 -- c stands at place c - 1.
 use Rattle.std.specs.Prelude.{position, IfSome, ◌*◌, ◌==◌, map, ◌≡◌, ℕ, suc, ◌-◌, List, [], ◌∷◌, ◌++◌, slice_get, slice_set, Bool, true, false, not, ◌&&◌, Option, Some, None, if◌then◌else◌}
 use Rattle.nm_proto.specs.declared.ask.Ask.{Ask}
+use Rattle.nm_proto.specs.declared.message.Request.{Request}
 use Rattle.nm_proto.specs.declared.message.Reply.{Reply}
 use Rattle.nm_proto.specs.declared.journal.Verdict.{Verdict}
 use Rattle.nm_proto.specs.declared.journal.Entry.{Entry}
@@ -22,7 +23,7 @@ use Rattle.nm_wire.specs.Wire.{WireState, no_links}
 use Rattle.nm_manager.specs.declared.action.Action.{Action}
 use Rattle.nm_manager.specs.declared.action.Action.TheVariants as action
 use Rattle.nm_manager.specs.Queues.{is_ready_in}
-use Rattle.nm_manager.specs.Slot.{SlotState, SlotStep, fresh_slot, wires_on, told_wire, lost_wire, side_at, wire_of_side, sends, renews, receives, decided, breaks, lost_memory, cut_off, to_commit}
+use Rattle.nm_manager.specs.Slot.{SlotState, SlotStep, fresh_slot, asked_on, restarted_slot, wires_on, told_wire, lost_wire, side_at, wire_of_side, sends, renews, receives, decided, breaks, lost_memory, cut_off, to_commit}
 
 -- the journal's entries, and what is kept of each change set
 pub record ManagerState : Type 0 where
@@ -152,6 +153,10 @@ entry_by change (Some slot) = entry_of change (next_action slot.course)
 abbrev pub entry_next : ManagerState → ℕ → Option Entry
 entry_next state change = entry_by change (slot_at state change)
 
+-- the entry that a turn writes, where it writes one
+abbrev pub entry_turned : ManagerState → ℕ → Option Entry
+entry_turned state change = if is_ready_in state.entries change then entry_next state change else None
+
 -- the disk failed where an entry was written
 abbrev pub FailsAt : Option Entry → Managing → Managing → Type 0
 FailsAt None old new = ⊥
@@ -161,6 +166,31 @@ FailsAt (Some entry) old new = new ≡ failed_at old entry
 abbrev pub MayRead : List Entry → Option Entry → List ℕ → Type 0
 MayRead entries None image = ReadsAs entries image
 MayRead entries (Some entry) image = ReadsWithOrWithout entries entry image
+
+-- ---- what is asked
+
+abbrev pub request_by : ManagerState → Option ChangePlan → Option SlotState → ℕ → Ask → Option Request
+request_by state None slot device what = None
+request_by state (Some plan) None device what = None
+request_by state (Some plan) (Some slot) device what = asked_on plan state.entries slot device what (side_at slot device)
+
+-- the request that asks this of a device for a change set
+abbrev pub request_to : List ChangePlan → ManagerState → ℕ → ℕ → Ask → Option Request
+request_to plans state change device what = request_by state (slice_get plans (change - 1)) (slot_at state change) device what
+
+abbrev pub request_of : List ChangePlan → ManagerState → ℕ → NextAction → Option Request
+request_of plans state change next.Wait = None
+request_of plans state change (next.Send device what) = request_to plans state change device what
+request_of plans state change (next.Decide verdict) = None
+request_of plans state change (next.Finish kept) = None
+
+abbrev pub request_after : List ChangePlan → ManagerState → ℕ → Option SlotState → Option Request
+request_after plans state change None = None
+request_after plans state change (Some slot) = request_of plans state change (next_action slot.course)
+
+-- the request that a turn sends, where it sends one
+abbrev pub request_next : List ChangePlan → ManagerState → ℕ → Option Request
+request_next plans state change = if is_ready_in state.entries change then request_after plans state change (slot_at state change) else None
 
 -- ---- what comes to one change set
 
@@ -225,6 +255,10 @@ told_on state change device link reply = wires_in state change device (told_wire
 -- the device's side of a link ends
 abbrev pub lost_on : ManagerState → ℕ → ℕ → ℕ → ManagerState
 lost_on state change device link = wires_in state change device (lost_wire link) (slot_at state change)
+
+-- a device restarts: its sides of all links end, those of each change set
+abbrev pub restarted_on : ManagerState → ℕ → ManagerState
+restarted_on state device = record state { slots = map (restarted_slot device) state.slots }
 
 -- ---- the manager starts anew
 

@@ -16,7 +16,7 @@ use Rattle.nm_resync.specs.Resync as resync
 use Rattle.nm_resync.specs.Resync.{ResyncState, fresh_resync, resync_ask, settled_in}
 use Rattle.nm_wire.specs.declared.link.Exchange.{Exchange}
 use Rattle.nm_wire.specs.Wire as wire
-use Rattle.nm_wire.specs.Wire.{WireState, no_links, begun, sent, handled, broken, told, lost, due}
+use Rattle.nm_wire.specs.Wire.{WireState, no_links, begun, sent, handled, broken, told, lost, restarted, due}
 use Rattle.nm_manager.specs.declared.action.Action.{Action}
 use Rattle.nm_manager.specs.declared.action.Action.TheVariants as action
 use Rattle.nm_manager.specs.Requests.{request_for}
@@ -111,6 +111,10 @@ sends_request new device before now side (Some request) = sends_if (may_go new s
 abbrev pub sends_in_fact : ChangePlan → List Entry → CourseState → SideState → ℕ → Ask → PairStep
 sends_in_fact plan entries now side device in_fact =
     sends_request (opens in_fact) device now (course.with_sent now device) side (request_for plan entries now.change device in_fact)
+
+abbrev pub asked_on : ChangePlan → List Entry → SlotState → ℕ → Ask → Option SideState → Option Request
+asked_on plan entries slot device what None = None
+asked_on plan entries slot device what (Some side) = request_for plan entries slot.course.change device (asked_in_fact side.resync what)
 
 -- this is asked of a device
 abbrev pub sends_pair : ChangePlan → List Entry → CourseState → SideState → ℕ → Ask → PairStep
@@ -248,3 +252,7 @@ lost_wire link links = lost links link
 abbrev pub wires_on : (WireState → WireState) → SlotState → ℕ → Option SideState → SlotState
 wires_on happens slot device None = slot
 wires_on happens slot device (Some side) = with_side slot device (with_wire side (happens side.wire))
+
+-- the device restarts
+abbrev pub restarted_slot : ℕ → SlotState → SlotState
+restarted_slot device slot = wires_on restarted slot device (side_at slot device)

@@ -71,7 +71,8 @@ impl Ledger {
 
     /// The entries of the journal.
     pub(crate) fn entries(&self) -> &[Entry]
-        ensures { result.now ≡ self.now.entries }
+        ensures value { result.now ≡ self.now.entries }
+        ensures whole { self.now.has_failed ≡ false → self.now.failed ≡ None }
     {
         self.journal.entries()
     }

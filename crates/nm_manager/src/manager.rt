@@ -1,6 +1,6 @@
 //! The manager's calls.
 
-ghost use Rattle.std.specs.Prelude.{◌≡◌, ◌≤◌, ◌<◌, ◌-◌, length, ◌⊎◌, ◌*◌, ℕ, IfSome, position, slice_get, Err, Some, None, IsSome, option_copied, IfOk, IfErr, OnOk, OnErr, [], true, false, is_ok};
+ghost use Rattle.std.specs.Prelude.{◌≡◌, ◌≤◌, ◌<◌, ◌-◌, length, ◌⊎◌, ◌*◌, ℕ, IfSome, position, slice_get, map, Err, Some, None, IsSome, option_copied, IfOk, IfErr, OnOk, OnErr, [], true, false, is_ok};
 ghost use Rattle.std.specs.List.{All};
 ghost use Rattle.nm_base.specs.Count.{Rose};
 ghost use Rattle.nm_disk.specs.Image.{AnyMoment};
@@ -9,7 +9,8 @@ ghost use Rattle.nm_journal.specs.Fits.{Fits, ReadsAs, ReadsWithOrWithout, IsDam
 ghost use Rattle.nm_journal.specs.Keeps.{KeepsJournal};
 ghost use Rattle.nm_wire.specs.Wire.{outstanding_at, session_at, is_open_at, counts_of, link_at};
 ghost use Rattle.nm_manager.specs.Requests.{IsWellFormed};
-ghost use Rattle.nm_manager.specs.Manager.{slots_from, slot_at, sent_by, decided_by, finishes, FailsAt, MayRead, acts, start_at, entry_of, entry_next, start_anew, fault_of, change_of, is_strange};
+ghost use Rattle.nm_manager.specs.Slot.{restarted_slot};
+ghost use Rattle.nm_manager.specs.Manager.{slots_from, slot_at, sent_by, decided_by, finishes, FailsAt, MayRead, acts, start_at, entry_of, entry_turned, start_anew, fault_of, change_of, is_strange};
 ghost use Rattle.nm_proto.specs.declared.journal.Entry.TheVariants.{Decided, Ended};
 ghost use Rattle.nm_manager.specs.declared.action.TurnFault.TheVariants as fault;
 
@@ -123,9 +124,9 @@ impl Manager {
         ensures keeps { KeepsJournal D.told D.faults D.may_leave (journal_of self.new) disk.old disk.new }
         ensures no_memory { result ≡ Err fault.NoMemory → (self.new ≡ self.old) × (disk.new ≡ disk.old) }
         ensures disk_fault { result ≡ Err fault.DiskFault → Rose (D.faults disk.old) (D.faults disk.new) }
-        ensures failed { result ≡ Err fault.DiskFault → FailsAt (entry_next self.old.state change) self.old self.new }
+        ensures failed { result ≡ Err fault.DiskFault → FailsAt (entry_turned self.old.state change) self.old self.new }
         // A crash at any moment of the call leaves the entries from before it, with the new one or without.
-        ensures any_moment { IsSome (D.told disk.old) → AnyMoment D.moment D.might_have_left disk.old disk.new (MayRead self.old.state.entries (entry_next self.old.state change)) }
+        ensures any_moment { IsSome (D.told disk.old) → AnyMoment D.moment D.might_have_left disk.old disk.new (MayRead self.old.state.entries (entry_turned self.old.state change)) }
         ensures no_other { IfErr result (λ why. (why ≡ fault.NoMemory) ⊎ (why ≡ fault.DiskFault)) }
     {
         if !self.ledger.is_ready(change) {
@@ -282,6 +283,74 @@ impl Manager {
     }
 }
 
+// What goes out next, and what a device's restart does.
+impl Manager {
+    ghost use Rattle.nm_manager.specs.Manager.{with_state, request_to, request_next, request_of, restarted_on};
+    ghost use Rattle.nm_manager.specs.Queues.{is_ready_in};
+
+    /// The change sets that were given, the first of them first.
+    pub fn plans(&self) -> &[ChangePlan]
+        ensures value { result.now ≡ self.now.plans }
+        ensures few { length self.now.plans ≤ 64 }
+    {
+        self.plans.as_slice()
+    }
+
+    /// Whether a change set was submitted, isn't ended, and each that was submitted before it on one of its devices is.
+    pub fn is_ready(&self, change: ChangeNo) -> bool
+        ensures { result ≡ is_ready_in self.now.state.entries change }
+    {
+        self.ledger.is_ready(change)
+    }
+
+    /// The request that asks this of a device for a change set, and None where there is none.
+    pub fn request_to(
+        &self,
+        change: ChangeNo,
+        device: DeviceNo,
+        ask: Ask,
+    ) -> Result<Option<Request>, NoMemory>
+        requires given { change ≤ length self.now.plans }
+        ensures { IfOk result (λ request. request ≡ request_to self.now.plans self.now.state change device ask) }
+    {
+        let plan = &self.plans.as_slice()[place_of(change)];
+        let slot = &self.slots[place_of(change)];
+        slot.request_to(self.alloc, plan, self.ledger.entries(), device, ask)
+    }
+
+    /// The request that the next turn of a change set sends, and None where it sends none.
+    pub fn request_next(&self, change: ChangeNo) -> Result<Option<Request>, NoMemory>
+        requires given { change ≤ length self.now.plans }
+        ensures { IfOk result (λ request. request ≡ request_next self.now.plans self.now.state change) }
+    {
+        if !self.ledger.is_ready(change) {
+            return Ok(None);
+        }
+        let action = self.slots[place_of(change)].course().next_action();
+        self.request_of(change, &action)
+    }
+
+    // The request that this action sends.
+    fn request_of(&self, change: ChangeNo, action: &NextAction) -> Result<Option<Request>, NoMemory>
+        requires given { change ≤ length self.now.plans }
+        ensures { IfOk result (λ request. request ≡ request_of self.now.plans self.now.state change action.now) }
+    {
+        match action {
+            NextAction::Send { device, ask } => self.request_to(change, *device, *ask),
+            NextAction::Wait | NextAction::Decide(_) | NextAction::Finish { .. } => Ok(None),
+        }
+    }
+
+    /// A device restarts: its sides of all links end, and what was outstanding on them is dropped. It takes time as there are
+    /// change sets, and as links were made since the last restart.
+    pub fn restart(&mut self, device: DeviceNo)
+        ensures restarted { self.new ≡ with_state self.old (restarted_on self.old.state device) }
+        ensures entries { self.new.state.entries ≡ self.old.state.entries }
+    {
+        restart_all(&mut self.slots, device);
+    }
+}
+
 // The manager starts anew.
 impl Manager {
     ghost use Rattle.nm_manager.specs.Manager.{journal_of, recovered, is_strange, IsStrangeAt};
@@ -408,7 +477,8 @@ impl Manager {
 
     /// The entries of the journal, the first of them first.
     pub fn entries(&self) -> &[Entry]
-        ensures { result.now ≡ self.now.state.entries }
+        ensures value { result.now ≡ self.now.state.entries }
+        ensures whole { self.now.has_failed ≡ false → self.now.failed ≡ None }
     {
         self.ledger.entries()
     }
@@ -488,6 +558,15 @@ fn all_anew(slots: &mut Vec<Slot>, plans: &[ChangePlan], entries: &[Entry])
     for place in 0..plans.len() {
         let change = ChangeNo::new(place as u32 + 1).unwrap();
         slots[place].start_anew(entries, change, plans[place].devices());
+    }
+}
+
+// A device restarts, for each change set.
+fn restart_all(slots: &mut Vec<Slot>, device: DeviceNo)
+    ensures { slots.new.items ≡ map (restarted_slot device) slots.old.items }
+{
+    for place in 0..slots.len() {
+        slots[place].restart(device);
     }
 }
 

@@ -4,7 +4,7 @@ ghost use Rattle.std.specs.Prelude.{◌≡◌, ◌<◌, ◌++◌, length, map, r
 ghost use Rattle.nm_decider.specs.Course.{seat_count};
 ghost use Rattle.nm_decider.specs.Course as course;
 ghost use Rattle.nm_manager.specs.Slot.{SideState, fresh_side, asked_in_fact, opens, may_go, gone, number_of, is_resync, awaits_resync, settled_by, learns, resync_goes_on, is_commit, to_commit, anew, cut_off, with_wire, told_wire, lost_wire, sends_pair, renews_pair, receives_pair, breaks_pair};
-ghost use Rattle.nm_wire.specs.Wire.{outstanding_at, is_open_at};
+ghost use Rattle.nm_wire.specs.Wire.{outstanding_at, is_open_at, restarted};
 ghost use Rattle.nm_recovery.specs.Recovery.{verdict_in};
 ghost use Rattle.nm_manager.specs.Manager.{starts_anew, course_after};
 
@@ -100,6 +100,13 @@ impl Side {
         self.wire.drop_link(link)
     }
 
+    // The device restarts: its sides of all links end.
+    fn restart(&mut self)
+        ensures { self.new ≡ with_wire self.old (restarted self.old.wire) }
+    {
+        self.wire.restart();
+    }
+
     // What became of the device is to be found out from the beginning.
     fn anew(&mut self, commit: bool)
         ensures { self.new ≡ anew commit self.old }
@@ -136,7 +143,7 @@ impl Model for Slot {
 }
 
 impl Slot {
-    ghost use Rattle.nm_manager.specs.Slot.{fresh_slot, side_at, sends, renews, receives, decided, breaks, lost_memory, wires_on, wire_of_side};
+    ghost use Rattle.nm_manager.specs.Slot.{fresh_slot, side_at, sends, renews, receives, decided, breaks, lost_memory, wires_on, wire_of_side, asked_on, restarted_slot};
 
     /// What is kept of a change set that isn't submitted.
     pub(crate) fn new(
@@ -181,6 +188,21 @@ impl Slot {
     {
         let side = &mut self.sides[place_of(device)];
         send_on(alloc, plan, entries, &mut self.course, side, device, ask)
+    }
+
+    /// The request that asks this of a device, and None where there is none.
+    pub(crate) fn request_to(
+        &self,
+        alloc: Global,
+        plan: &ChangePlan,
+        entries: &[Entry],
+        device: DeviceNo,
+        ask: Ask,
+    ) -> Result<Option<Request>, NoMemory>
+        ensures { IfOk result (λ request. request ≡ asked_on plan.now entries.now self.now device ask (side_at self.now device)) }
+    {
+        let in_fact = self.side(device).asked_in_fact(ask);
+        request_for(alloc, plan, entries, self.course.change(), device, in_fact)
     }
 
     /// The timer of the pending commit of a device is set anew, where it may be. Where there is no memory nothing changes.
@@ -228,6 +250,13 @@ impl Slot {
         ensures lost { self.new ≡ wires_on (lost_wire link) self.old device (side_at self.old device) }
     {
         self.sides[place_of(device)].drop_link(link)
+    }
+
+    /// The device restarts: its sides of all links end, and what was outstanding is dropped.
+    pub(crate) fn restart(&mut self, device: DeviceNo)
+        ensures { self.new ≡ restarted_slot device self.old }
+    {
+        self.sides[place_of(device)].restart();
     }
 
     /// The verdict stands.

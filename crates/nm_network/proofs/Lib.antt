@@ -1,0 +1,5 @@
+pub mod Loops
+pub mod Staging
+pub mod Clocks
+pub mod Meetings
+pub mod Beginnings

@@ -1,0 +1,14 @@
+use Rattle.std.proofs.Common.{◌-◌, ◌∙◌, slice_get, subst, sym}
+use Rattle.nm_network.specs.World.{Staged, AreInTime, delivering_at}
+use Rattle.nm_network.proofs.Staging.{met_so}
+use Rattle.nm_network.proofs.scene.Scene.deliver.Goals as goal
+
+pub returns : goal.returns
+returns g c =
+    let s = c.self.inside in
+    rw (← c.self.view_is) (met_so s.content s.tables s.users s.strayed c.in_ok-happened.happened s.devices.items c.deliver_at.new.devices.items s.manager c.deliver_at.new.manager s.operators.items c.args.device
+    (delivering_at (g.C.Content.meaning s.content) s.tables s.manager.state c.args.change c.args.device c.args.link (slice_get s.devices.items (c.args.device - 1)))
+    c.in_ok-happened.ensures.met)
+
+pub deliver_at-requires-clause-in_time : goal.deliver_at-requires-clause-in_time
+deliver_at-requires-clause-in_time g c = subst (λ (w : Staged _ _ _ _). AreInTime w.state.devices) (sym c.self.view_is) c.requires.in_time
