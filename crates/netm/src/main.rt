@@ -36,7 +36,13 @@ fn run(rt: HostRuntime, alloc: Global) -> Result<Status, NoMemory> {
     ))
 }
 
-// The file that the words name, and else an empty disk in memory, which no command uses yet.
+// How large the disk of a journal without a file is, in bytes and in calls: a journal has at most 192 records of 16 bytes,
+// and each is appended by four calls.
+const DISK_BYTES: u64 = 8192;
+
+const DISK_CALLS: u32 = 1_000_000;
+
+// The file that the words name, and else an empty disk in memory.
 fn disk(
     rt: HostRuntime,
     alloc: Global,
@@ -44,7 +50,7 @@ fn disk(
 ) -> Result<AnyDisk<HostRuntime>, NoMemory> {
     match journal_path(alloc, words)? {
         Some(path) => Ok(AnyDisk::File(FileDisk::at(rt, path))),
-        None => Ok(AnyDisk::Memory(MemoryDisk::with_limit(alloc, 0, 0)?)),
+        None => Ok(AnyDisk::Memory(MemoryDisk::with_limit(alloc, DISK_BYTES, DISK_CALLS)?)),
     }
 }
 

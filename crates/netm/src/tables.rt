@@ -39,7 +39,7 @@ fn written(alloc: Global, command: &str, bytes: &[u8]) -> Result<(u8, String), F
     let bytes = Vec::from_slice(alloc, bytes)?;
     let mut input = MemorySource::new(bytes, Vec::new(alloc));
     let mut output = MemorySink::new(alloc, 8192, Vec::new(alloc))?;
-    let mut journal = MemoryDisk::with_limit(alloc, 0, 0)?;
+    let mut journal = MemoryDisk::with_limit(alloc, 64, 32)?;
     let status = console(
         alloc,
         words.as_slice(),

@@ -24,7 +24,7 @@ use Rattle.nm_console.specs.Refusal.{of_whole}
 use Rattle.nm_journal.specs.Entries.{entries_of}
 use Rattle.nm_journal.specs.Fits.{OfImage}
 use Rattle.nm_console.specs.Words.{reads_input}
-use Rattle.nm_console.specs.Console.{Answer, AreFirst, Tells, TellsJournal, Says, IsTold, IsOnly, IsKnown, RunsSafely, RunsSafelyBy, faulted, checked, journalled, replayed, usage_told, course_of, plan_of, tables_of}
+use Rattle.nm_console.specs.Console.{Answer, AreFirst, Tells, TellsJournal, TellsOver, Says, Stores, Streams, IsTold, IsOnly, IsKnown, RunsSafely, RunsSafelyBy, entries_left, replay_entries, faulted, checked, journalled, replayed, usage_told, course_of, plan_of, tables_of}
 use Rattle.nm_console.proofs.Valid.{devices_valid}
 
 held : (left : Option (List ℕ)) (other : List ℕ) → IfSome left (λ told. told ≡ unwrap_or left other)
@@ -59,35 +59,40 @@ only : (command : Option Command) (bytes image : List ℕ) (status : Status) (te
 only None bytes image status text a other words b = tells_one usage_told status other text words a b
 only (Some Check) bytes image status text a other words b =
     tells_one (checked a.outcome) status other text words a.tells (subst (λ outcome. Tells (checked outcome) other words) (one_of_bytes bytes b.outcome a.outcome b.reads a.reads) b.tells)
-only (Some Replay) bytes image status text a other words b = tells_one (replayed (flat_scenario_of bytes)) status other text words a b
+only (Some Replay) bytes image status text a other words b = tells_one (replayed image (flat_scenario_of bytes)) status other text words a b
 only (Some Journal) bytes image status text a other words b = tells_one (journalled (entries_of image)) status other text words a b
 
 -- what the program says to bytes is safe, no other answer is told of them, and what is read of them is known
-says : (left stored : Option (List ℕ)) (command : Option Command) (bytes image : List ℕ) (status : Status) (text : List ℕ)
-    → IfSome left (λ told. told ≡ bytes) → IfSome stored (λ told. told ≡ image) → IsTold command bytes image status text → Says left stored command status text
-says left stored command bytes image status text h k tells = record {
+says : (streams : Streams) (command : Option Command) (bytes image : List ℕ) (status : Status) (text : List ℕ)
+    → IfSome streams.left (λ told. told ≡ bytes) → IfSome streams.stored (λ told. told ≡ image) → IsTold command bytes image status text
+    → Stores (entries_left command bytes image) streams.stored streams.after → Says streams command status text
+says streams command bytes image status text h k tells stores = record {
   bytes = bytes;
   held = h;
   image = image;
   kept = k;
   tells = tells;
+  stores = stores;
   only = only command bytes image status text tells;
   safe = safe bytes (flat_scenario_of bytes) refl;
   checked_known = known_of bytes;
   replayed_known = flat_known bytes (flat_scenario_of bytes) refl;
 }
 
-pub bytes_say : (left stored : Option (List ℕ)) (command : Command) (bytes : List ℕ) (status : Status) (text : List ℕ)
-    → IfSome left (λ told. told ≡ bytes) → ((image : List ℕ) → IsTold (Some command) bytes image status text) → Says left stored (Some command) status text
-bytes_say left stored command bytes status text h tells =
-    says left stored (Some command) bytes (unwrap_or stored []) status text h (held stored []) (tells (unwrap_or stored []))
+-- an answer to the bytes of the input, over a journal
+pub bytes_say : (streams : Streams) (command : Command) (bytes : List ℕ) (status : Status) (text : List ℕ)
+    → IfSome streams.left (λ told. told ≡ bytes) → TellsOver (Some command) bytes streams.stored streams.after status text → Says streams (Some command) status text
+bytes_say streams command bytes status text h over = says streams (Some command) bytes over.image status text h over.kept over.tells over.stores
 
-pub usage_says : (left stored : Option (List ℕ)) (status : Status) (text : List ℕ) → Tells usage_told status text → Says left stored None status text
-usage_says left stored status text tells = says left stored None (unwrap_or left []) (unwrap_or stored []) status text (held left []) (held stored []) tells
+pub usage_says : (left stored : Option (List ℕ)) (status : Status) (text : List ℕ) → Tells usage_told status text → Says (record { left = left; stored = stored; after = stored }) None status text
+usage_says left stored status text tells =
+    says (record { left = left; stored = stored; after = stored }) None (unwrap_or left []) (unwrap_or stored []) status text (held left []) (held stored []) tells refl
 
 -- what a journal tells is said whatever the input is
-pub journal_says : (left stored : Option (List ℕ)) (status : Status) (text : List ℕ) → OfImage stored (λ image. TellsJournal image status text) → Says left stored (Some Journal) status text
-journal_says left stored status text of = says left stored (Some Journal) (unwrap_or left []) of.image status text (held left []) of.stored of.holds
+pub journal_says : (left stored after : Option (List ℕ)) (status : Status) (text : List ℕ) → after ≡ stored → OfImage stored (λ image. TellsJournal image status text)
+    → Says (record { left = left; stored = stored; after = after }) (Some Journal) status text
+journal_says left stored after status text same of =
+    says (record { left = left; stored = stored; after = after }) (Some Journal) (unwrap_or left []) of.image status text (held left []) of.stored of.holds same
 
 whole_of-too_long : (bytes : List ℕ) → byte_limit < length bytes → whole_of bytes ≡ here TooLong
 unfolding whole_of
@@ -104,8 +109,14 @@ long_told Check bytes image status text reads long tells = record {
   reads = subst (λ whole. ReadsWhole whole (here TooLong)) (sym (whole_of-too_long bytes long)) refl;
   tells = tells;
 }
-long_told Replay bytes image status text reads long tells = subst (λ read. Tells (replayed read) status text) (sym (scenario_of-too_long bytes long)) tells
+long_told Replay bytes image status text reads long tells = subst (λ read. Tells (replayed image read) status text) (sym (scenario_of-too_long bytes long)) tells
 long_told Journal bytes image status text reads long tells = absurd cc
+
+-- and the journal stays
+long_stores : (command : Command) (bytes image : List ℕ) (stored : Option (List ℕ)) → reads_input (Some command) ≡ true → byte_limit < length bytes → Stores (entries_left (Some command) bytes image) stored stored
+long_stores Check bytes image stored reads long = refl
+long_stores Replay bytes image stored reads long = subst (λ read. Stores (replay_entries image read) stored stored) (sym (scenario_of-too_long bytes long)) refl
+long_stores Journal bytes image stored reads long = refl
 
 -- so many bytes
 many : ℕ → List ℕ
@@ -127,9 +138,12 @@ too_long None h = length-more
 too_long (Some told) h = h
 
 pub too_long_says : (left stored : Option (List ℕ)) (command : Command) (status : Status) (text : List ℕ) → reads_input (Some command) ≡ true
-    → IfSome left (λ told. byte_limit < length told) → Tells (faulted (of_whole TooLong)) status text → Says left stored (Some command) status text
+    → IfSome left (λ told. byte_limit < length told) → Tells (faulted (of_whole TooLong)) status text → Says (record { left = left; stored = stored; after = stored }) (Some command) status text
 too_long_says left stored command status text reads h tells =
-    says left stored (Some command) (unwrap_or left more) (unwrap_or stored []) status text (held left more) (held stored [])
-    (long_told command (unwrap_or left more) (unwrap_or stored []) status text reads (too_long left h) tells)
+    let bytes = unwrap_or left more in
+    let image = unwrap_or stored [] in
+    let long = too_long left h in
+    says (record { left = left; stored = stored; after = stored }) (Some command) bytes image status text (held left more) (held stored [])
+    (long_told command bytes image status text reads long tells) (long_stores command bytes image stored reads long)
 
 pub ruleset saying = (usage_says, too_long_says, journal_says)

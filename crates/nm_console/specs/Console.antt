@@ -30,12 +30,15 @@ use Rattle.nm_report.specs.Text.{devices_text, world_text}
 use Rattle.nm_report.specs.Check.{check_text}
 use Rattle.nm_report.specs.Journal.{journal_text}
 use Rattle.nm_journal.specs.Entries.{entries_of}
+use Rattle.nm_journal.specs.Fits.{ReadsAs}
+use Rattle.nm_journal.specs.declared.fault.JournalFault.{JournalFault}
+use Rattle.nm_journal.specs.declared.fault.JournalFault.TheVariants.{NotEmpty}
 use Rattle.nm_proto.specs.declared.journal.Entry.{Entry}
 use Rattle.nm_console.specs.declared.status.Status.{Status}
 use Rattle.nm_console.specs.declared.status.Status.TheVariants as status
 use Rattle.nm_console.specs.declared.command.Command.{Command}
 use Rattle.nm_console.specs.declared.command.Command.TheVariants.{Check, Replay, Journal}
-use Rattle.nm_console.specs.Refusal.{damaged_text, usage_text, fault_text}
+use Rattle.nm_console.specs.Refusal.{damaged_text, not_empty_text, usage_text, fault_text}
 use Rattle.nm_console.specs.Rows.{cells_told, rows_told}
 use Rattle.nm_console.specs.Status.{is_whole, world_status}
 
@@ -85,19 +88,46 @@ told_with devices tables (plan ∷ plans) operators events trace = world_told tr
 abbrev pub not_replayed : Fault
 not_replayed = record { cause = plain NotBuilt; place = Name (codes "contents") ∷ [] }
 
--- what is told of a scenario with these contents
-abbrev pub told_by : Body → Scenario → Answer
-told_by (Flat devices edits) s = told_with devices (tables_of edits s.selects) s.changes (length s.operators) s.events s.trace
-told_by (Yang modules schema devices) s = faulted not_replayed
+-- nothing is run over a journal that holds so many bytes
+abbrev pub not_empty : ℕ → Answer
+not_empty size = record { status = status.Journal; text = not_empty_text size }
+
+-- what is told where a journal holds these bytes when the run begins
+abbrev pub opened : List ℕ → Answer → Answer
+opened [] answer = answer
+opened (byte ∷ bytes) answer = not_empty (length (byte ∷ bytes))
+
+-- what is told of a scenario with these contents, over a journal
+abbrev pub told_by : List ℕ → Body → Scenario → Answer
+told_by image (Flat devices edits) s = opened image (told_with devices (tables_of edits s.selects) s.changes (length s.operators) s.events s.trace)
+told_by image (Yang modules schema devices) s = faulted not_replayed
 
 -- what is told of a scenario that was read
-abbrev pub told : Scenario → Answer
-told s = told_by s.body s
+abbrev pub told : List ℕ → Scenario → Answer
+told image s = told_by image s.body s
 
--- replay: the text of the scenario, or its first fault
-abbrev pub replayed : Result Scenario Fault → Answer
-replayed (Err fault) = faulted fault
-replayed (Ok s) = told s
+-- replay: the text of the scenario, or its first fault, or that the journal isn't empty
+abbrev pub replayed : List ℕ → Result Scenario Fault → Answer
+replayed image (Err fault) = faulted fault
+replayed image (Ok s) = told image s
+
+-- the entries that are left in a journal that held these bytes, where a run began over it
+abbrev pub left_in : List ℕ → List Entry → Option (List Entry)
+left_in [] entries = Some entries
+left_in (byte ∷ bytes) entries = None
+
+-- the entries that a world leaves
+abbrev pub entries_of_world : List FlatState → TablesState FlatEdit → List ChangePlan → ℕ → List Event → List Entry
+entries_of_world devices tables changes operators events = (world_from devices tables (plan_of changes) operators events).entries
+
+-- the same of a scenario with these contents, of which flat ones alone are run
+abbrev pub entries_by : List ℕ → Body → Scenario → Option (List Entry)
+entries_by image (Flat devices edits) s = left_in image (entries_of_world devices (tables_of edits s.selects) s.changes (length s.operators) s.events)
+entries_by image (Yang modules schema devices) s = None
+
+abbrev pub replay_entries : List ℕ → Result Scenario Fault → Option (List Entry)
+replay_entries image (Err fault) = None
+replay_entries image (Ok s) = entries_by image s.body s
 
 -- journal: the text of its entries, or where it is damaged
 abbrev pub listed : List Entry → Answer
@@ -153,13 +183,51 @@ TellsJournal image status text = Tells (journalled (entries_of image)) status te
 abbrev pub IsTold : Option Command → List ℕ → List ℕ → Status → List ℕ → Type 0
 IsTold None bytes image status text = Tells usage_told status text
 IsTold (Some Check) bytes image status text = IsToldOfCheck bytes status text
-IsTold (Some Replay) bytes image status text = Tells (replayed (flat_scenario_of bytes)) status text
+IsTold (Some Replay) bytes image status text = Tells (replayed image (flat_scenario_of bytes)) status text
 IsTold (Some Journal) bytes image status text = TellsJournal image status text
+
+-- the entries that a command leaves in the journal, where it runs a world over it
+abbrev pub entries_left : Option Command → List ℕ → List ℕ → Option (List Entry)
+entries_left (Some Replay) bytes image = replay_entries image (flat_scenario_of bytes)
+entries_left (Some Check) bytes image = None
+entries_left (Some Journal) bytes image = None
+entries_left None bytes image = None
+
+-- what the journal's disk tells after: these entries, or what it told before
+abbrev pub Stores : Option (List Entry) → Option (List ℕ) → Option (List ℕ) → Type 0
+Stores None stored after = after ≡ stored
+Stores (Some entries) stored after = IfSome after (ReadsAs entries)
 
 -- devices of flat contents begin with valid configurations
 abbrev pub AreFirst : Body → Type 0
 AreFirst (Flat devices edits) = All (IsFirst flat_meaning) devices
 AreFirst (Yang modules schema devices) = Unit {0}
+
+-- a status and a text that answer the bytes of an input over a journal's disk, and what that tells after
+pub record TellsOver (command : Option Command) (bytes : List ℕ) (stored after : Option (List ℕ)) (status : Status) (text : List ℕ) : Type 0 where
+  pub image : List ℕ
+  pub kept : IfSome stored (λ told. told ≡ image)
+  pub tells : IsTold command bytes image status text
+  pub stores : Stores (entries_left command bytes image) stored after
+
+-- the same of replay, by the scenario that was read
+pub record TellsReplay (read : Result Scenario Fault) (stored after : Option (List ℕ)) (status : Status) (text : List ℕ) : Type 0 where
+  pub image : List ℕ
+  pub kept : IfSome stored (λ told. told ≡ image)
+  pub tells : Tells (replayed image read) status text
+  pub stores : Stores (replay_entries image read) stored after
+
+-- what is told where the journal couldn't be opened: it isn't empty
+abbrev pub TellsUnopened : JournalFault → Status → List ℕ → Type 0
+TellsUnopened (NotEmpty size) status text = Tells (not_empty size) status text
+TellsUnopened _ status text = ⊥
+
+-- the same of a run that is told so and leaves these entries
+pub record TellsRun (answer : Answer) (entries : List Entry) (stored after : Option (List ℕ)) (status : Status) (text : List ℕ) : Type 0 where
+  pub image : List ℕ
+  pub kept : IfSome stored (λ told. told ≡ image)
+  pub tells : Tells (opened image answer) status text
+  pub stores : Stores (left_in image entries) stored after
 
 -- the world that a scenario of these devices and edits leads to is safe, and its devices begin with valid configurations
 pub record IsSafeRun (devices : List FlatState) (edits : List FlatEdit) (s : Scenario) : Type 0 where
@@ -186,27 +254,35 @@ IsKnown built bytes (Ok s) = ScenarioKeeps s
 abbrev pub IsOnly : Option Command → List ℕ → List ℕ → Status → List ℕ → Type 0
 IsOnly command bytes image status text = (other : Status) (words : List ℕ) → IsTold command bytes image other words → (other ≡ status) × (words ≡ text)
 
--- a status and a text that answer some bytes of an input and of a disk, those that each told where it tells them, and no others do
-pub record Says (left stored : Option (List ℕ)) (command : Option Command) (status : Status) (text : List ℕ) : Type 0 where
+-- what the input held, and what the journal's disk told before the program and tells after it
+pub record Streams : Type 0 where
+  pub left : Option (List ℕ)
+  pub stored : Option (List ℕ)
+  pub after : Option (List ℕ)
+
+-- a status and a text that answer some bytes of an input and of a disk, those that each told where it tells them, and no
+-- others do; and what the disk tells after
+pub record Says (streams : Streams) (command : Option Command) (status : Status) (text : List ℕ) : Type 0 where
   pub bytes : List ℕ
-  pub held : IfSome left (λ told. told ≡ bytes)
+  pub held : IfSome streams.left (λ told. told ≡ bytes)
   pub image : List ℕ
-  pub kept : IfSome stored (λ told. told ≡ image)
+  pub kept : IfSome streams.stored (λ told. told ≡ image)
   pub tells : IsTold command bytes image status text
+  pub stores : Stores (entries_left command bytes image) streams.stored streams.after
   pub only : IsOnly command bytes image status text
   pub safe : RunsSafely (flat_scenario_of bytes)
   pub checked_known : (outcome : Result Scenario Fault) → ReadsBytes bytes outcome → IsKnown true bytes outcome
   pub replayed_known : IsKnown false bytes (flat_scenario_of bytes)
 
 -- the whole answer to some bytes was written, and nothing else
-pub record Answers (left stored : Option (List ℕ)) (command : Option Command) (before after : Option (List ℕ)) (status : Status) : Type 0 where
+pub record Answers (streams : Streams) (command : Option Command) (before after : Option (List ℕ)) (status : Status) : Type 0 where
   pub text : List ℕ
-  pub says : Says left stored command status text
+  pub says : Says streams command status text
   pub written : after ≡ append_known before text
 
 -- a front of the answer to some bytes was written, and not all of it
-pub record CutOff (left stored : Option (List ℕ)) (command : Option Command) (before after : Option (List ℕ)) : Type 0 where
+pub record CutOff (streams : Streams) (command : Option Command) (before after : Option (List ℕ)) : Type 0 where
   pub status : Status
   pub text : List ℕ
-  pub says : Says left stored command status text
+  pub says : Says streams command status text
   pub begun : Begins before text after

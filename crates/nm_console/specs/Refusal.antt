@@ -18,10 +18,14 @@ of_whole kind = record { cause = plain kind; place = [] }
 abbrev pub fault_text : Fault → List ℕ
 fault_text fault = codes "scenario " ++ kind_word fault.cause.kind ++ codes " " ++ pointer_of fault.place ++ codes "\n"
 
--- a place in a journal, at the end of a line
+-- a place in a journal, or how many bytes it has, at the end of a line
 abbrev pub offset_text : ℕ → List ℕ
 offset_text offset = decimal offset ++ codes "\n"
 
 -- the line of a damaged journal, with the place of the first byte of the record that can't be read
 abbrev pub damaged_text : ℕ → List ℕ
 damaged_text offset = codes "journal damaged " ++ offset_text offset
+
+-- the line of a journal that holds so many bytes, where an empty one is wanted
+abbrev pub not_empty_text : ℕ → List ℕ
+not_empty_text size = codes "journal not empty " ++ offset_text size

@@ -52,12 +52,12 @@ file_in (option ∷ name ∷ other ∷ words) = None
 
 -- ---- commands
 
--- a command without options, and one with a file
+-- a command without a file, and one with a file
 abbrev pub alone : List ℕ → Option Command
 alone word = if bytes_eq word (codes "check") then Some Check else (if bytes_eq word (codes "replay") then Some Replay else None)
 
 abbrev pub with_file : List ℕ → Bool → Option Command
-with_file word named = if named && bytes_eq word (codes "journal") then Some Journal else None
+with_file word named = if named && bytes_eq word (codes "journal") then Some Journal else (if named && bytes_eq word (codes "replay") then Some Replay else None)
 
 -- the command of the words after the program's name; any list that isn't named here is refused
 abbrev pub command_of : List (List ℕ) → Option Command
@@ -79,3 +79,17 @@ reads_input None = false
 reads_input (Some Check) = true
 reads_input (Some Replay) = true
 reads_input (Some Journal) = false
+
+-- the command runs a world
+abbrev pub is_replay : Option Command → Bool
+is_replay None = false
+is_replay (Some Check) = false
+is_replay (Some Replay) = true
+is_replay (Some Journal) = false
+
+-- the command uses its journal
+abbrev pub uses_journal : Option Command → Bool
+uses_journal None = false
+uses_journal (Some Check) = false
+uses_journal (Some Replay) = true
+uses_journal (Some Journal) = true

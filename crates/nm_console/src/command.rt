@@ -48,7 +48,7 @@ fn file_of(words: &[String]) -> Option<&str>
     }
 }
 
-// A command without options.
+// A command without a file.
 fn alone(word: &str) -> Option<Command>
     ensures { result ≡ alone word.now }
 {
@@ -61,12 +61,14 @@ fn alone(word: &str) -> Option<Command>
     }
 }
 
-// A command whose options name a file.
+// A command whose options name a file of a journal.
 fn with_file(word: &str, named: bool) -> Option<Command>
     ensures { result ≡ with_file word.now named }
 {
     if named && word == "journal" {
         Some(Command::Journal)
+    } else if named && word == "replay" {
+        Some(Command::Replay)
     } else {
         None
     }

@@ -1,8 +1,9 @@
 ghost use Rattle.std.specs.Prelude.{◌≡◌, List, ℕ, Option, IfOk, IsErrOf, Some, IsTrue, true, false};
 ghost use Rattle.nm_base.specs.Count.{Rose};
-ghost use Rattle.nm_console.specs.Words.{command_of, reads_input, texts_of};
+ghost use Rattle.nm_disk.specs.Keeps.{KeepsDisk};
+ghost use Rattle.nm_console.specs.Words.{command_of, is_replay, reads_input, uses_journal, texts_of};
 ghost use Rattle.nm_console.specs.Status.{is_whole};
-ghost use Rattle.nm_console.specs.Console.{Answers, CutOff, IsTold, Says, Tells, usage_told};
+ghost use Rattle.nm_console.specs.Console.{Answers, CutOff, Says, Tells, TellsOver, usage_told};
 
 use crate::check::check_bytes;
 use crate::command::{Command, command_of};
@@ -29,7 +30,8 @@ enum Stop {
 /// The program: reads its input or its journal where its words ask for it, and writes the answer at once.
 ///
 /// The words are those after the program's name, and `journal` is the disk at the path that they name, if they do.
-/// Nothing is written before the answer is whole in memory, so that only a failed write leaves a part of it.
+/// A run appends each entry to its journal before anything rests on it. Nothing is written to the output before the answer is
+/// whole in memory, so that only a failed write leaves a part of it.
 pub fn console<S: Source, K: Sink, D: Disk>(
     alloc: Global,
     words: &[String],
@@ -39,7 +41,7 @@ pub fn console<S: Source, K: Sink, D: Disk>(
 ) -> Status
     // The answer to the words, the input and the journal was written, and nothing else.
     ensures answered { IsTrue (is_whole result)
-        → Answers (S.left input.old) (D.told journal.old) (command_of (texts_of words.now)) (K.taken output.old) (K.taken output.new) result }
+        → Answers (record { left = S.left input.old; stored = D.told journal.old; after = D.told journal.new }) (command_of (texts_of words.now)) (K.taken output.old) (K.taken output.new) result }
 
     // The input failed: nothing was written.
     ensures read_fault { result ≡ Status.ReadFault
@@ -48,18 +50,19 @@ pub fn console<S: Source, K: Sink, D: Disk>(
     // The output failed: a front of the answer was written.
     ensures write_fault { result ≡ Status.WriteFault
         → Rose (K.faults output.old) (K.faults output.new)
-        × CutOff (S.left input.old) (D.told journal.old) (command_of (texts_of words.now)) (K.taken output.old) (K.taken output.new) }
+        × CutOff (record { left = S.left input.old; stored = D.told journal.old; after = D.told journal.new }) (command_of (texts_of words.now)) (K.taken output.old) (K.taken output.new) }
 
     // The journal's disk failed: nothing was written.
     ensures disk_fault { result ≡ Status.DiskFault
-        → (command_of (texts_of words.now) ≡ Some Command.Journal) × Rose (D.faults journal.old) (D.faults journal.new) × (K.taken output.new ≡ K.taken output.old) }
+        → IsTrue (uses_journal (command_of (texts_of words.now))) × Rose (D.faults journal.old) (D.faults journal.new) × (K.taken output.new ≡ K.taken output.old) }
 
     // Memory ran out: nothing was written.
     ensures no_memory { result ≡ Status.NoMemory → K.taken output.new ≡ K.taken output.old }
 
-    // The input stays where the command doesn't read it, and the journal always.
+    // The input stays where the command doesn't read it, and the journal where nothing is run.
     ensures unread { reads_input (command_of (texts_of words.now)) ≡ false → input.new ≡ input.old }
-    ensures journal_stays { D.told journal.new ≡ D.told journal.old }
+    ensures journal_stays { is_replay (command_of (texts_of words.now)) ≡ false → D.told journal.new ≡ D.told journal.old }
+    ensures journal_kept { KeepsDisk D.told D.faults journal.old journal.new }
 {
     let said = match say(alloc, command_of(words), input, journal) {
         Ok(said) => said,
@@ -81,22 +84,23 @@ fn say<S: Source, D: Disk>(
     input: &mut S,
     journal: &mut D,
 ) -> Result<Said, Stop>
-    ensures says { IfOk result (λ said. Says (S.left input.old) (D.told journal.old) command said.status said.text.items) }
+    ensures says { IfOk result (λ said. Says (record { left = S.left input.old; stored = D.told journal.old; after = D.told journal.new }) command said.status said.text.items) }
     ensures whole { IfOk result (λ said. IsTrue (is_whole said.status)) }
     ensures read_fault { IsErrOf result Stop.ReadFault
         → IsTrue (reads_input command) × Rose (S.faults input.old) (S.faults input.new) }
     ensures disk_fault { IsErrOf result Stop.DiskFault
-        → (command ≡ Some Command.Journal) × Rose (D.faults journal.old) (D.faults journal.new) }
+        → IsTrue (uses_journal command) × Rose (D.faults journal.old) (D.faults journal.new) }
     ensures unread { reads_input command ≡ false → input.new ≡ input.old }
-    ensures journal_stays { D.told journal.new ≡ D.told journal.old }
+    ensures journal_stays { is_replay command ≡ false → D.told journal.new ≡ D.told journal.old }
+    ensures journal_kept { KeepsDisk D.told D.faults journal.old journal.new }
 {
     match command {
         None => match say_usage(alloc) {
             Ok(said) => Ok(said),
             Err(_) => Err(Stop::NoMemory),
         },
-        Some(Command::Check) => say_input(alloc, Command::Check, input),
-        Some(Command::Replay) => say_input(alloc, Command::Replay, input),
+        Some(Command::Check) => say_input(alloc, Command::Check, input, journal),
+        Some(Command::Replay) => say_input(alloc, Command::Replay, input, journal),
         Some(Command::Journal) => match journal_answer(alloc, journal) {
             Ok(said) => Ok(said),
             Err(JournalStop::DiskFault) => Err(Stop::DiskFault),
@@ -116,19 +120,27 @@ fn say_usage(alloc: Global) -> Result<Said, NoMemory>
     })
 }
 
-// Reads the scenario to its end, and answers it. It doesn't look at a journal.
+// Reads the scenario to its end, and answers it.
 #[tactic(auto, using(crate::proofs::Saying::saying))]
-fn say_input<S: Source>(alloc: Global, command: Command, input: &mut S) -> Result<Said, Stop>
+fn say_input<S: Source, D: Disk>(
+    alloc: Global,
+    command: Command,
+    input: &mut S,
+    journal: &mut D,
+) -> Result<Said, Stop>
     requires reads { reads_input (Some command) ≡ true }
-    ensures says { IfOk result (λ said. (stored : Option (List ℕ)) → Says (S.left input.old) stored (Some command) said.status said.text.items) }
+    ensures says { IfOk result (λ said. Says (record { left = S.left input.old; stored = D.told journal.old; after = D.told journal.new }) (Some command) said.status said.text.items) }
     ensures whole { IfOk result (λ said. IsTrue (is_whole said.status)) }
     ensures read_fault { IsErrOf result Stop.ReadFault → Rose (S.faults input.old) (S.faults input.new) }
-    ensures no_disk_fault { IsErrOf result Stop.DiskFault → ⊥ }
+    ensures disk_fault { IsErrOf result Stop.DiskFault → IsTrue (uses_journal (Some command)) × Rose (D.faults journal.old) (D.faults journal.new) }
+    ensures journal_stays { is_replay (Some command) ≡ false → D.told journal.new ≡ D.told journal.old }
+    ensures journal_kept { KeepsDisk D.told D.faults journal.old journal.new }
 {
     match read_all(alloc, input, BYTE_LIMIT) {
-        Ok(bytes) => match say_bytes(alloc, command, bytes.as_slice()) {
+        Ok(bytes) => match say_bytes(alloc, command, bytes.as_slice(), journal) {
             Ok(said) => Ok(said),
-            Err(_) => Err(Stop::NoMemory),
+            Err(JournalStop::DiskFault) => Err(Stop::DiskFault),
+            Err(JournalStop::NoMemory) => Err(Stop::NoMemory),
         },
         Err(ReadAllFault::TooLong) => match say_whole_fault(alloc, ScenarioKind::TooLong) {
             Ok(said) => Ok(said),
@@ -140,14 +152,25 @@ fn say_input<S: Source>(alloc: Global, command: Command, input: &mut S) -> Resul
 }
 
 // The answer of a command to the bytes of a scenario.
-fn say_bytes(alloc: Global, command: Command, bytes: &[u8]) -> Result<Said, NoMemory>
+fn say_bytes<D: Disk>(
+    alloc: Global,
+    command: Command,
+    bytes: &[u8],
+    journal: &mut D,
+) -> Result<Said, JournalStop>
     requires reads { reads_input (Some command) ≡ true }
-    ensures told { IfOk result (λ said. (image : List ℕ) → IsTold (Some command) bytes.now image said.status said.text.items) }
+    ensures told { IfOk result (λ said. TellsOver (Some command) bytes.now (D.told journal.old) (D.told journal.new) said.status said.text.items) }
     ensures whole { IfOk result (λ said. IsTrue (is_whole said.status)) }
+    ensures disk_fault { IsErrOf result JournalStop.DiskFault → IsTrue (uses_journal (Some command)) × Rose (D.faults journal.old) (D.faults journal.new) }
+    ensures journal_stays { is_replay (Some command) ≡ false → D.told journal.new ≡ D.told journal.old }
+    ensures journal_kept { KeepsDisk D.told D.faults journal.old journal.new }
 {
     match command {
-        Command::Check => check_bytes(alloc, bytes),
-        Command::Replay => replay_bytes(alloc, bytes),
+        Command::Check => match check_bytes(alloc, bytes) {
+            Ok(said) => Ok(said),
+            Err(_) => Err(JournalStop::NoMemory),
+        },
+        Command::Replay => replay_bytes(alloc, bytes, journal),
         Command::Journal => unreachable!(),
     }
 }

@@ -5,6 +5,7 @@ ghost use Rattle.nm_base.specs.Count.{Rose};
 ghost use Rattle.nm_journal.specs.Fits.{OfImage};
 ghost use Rattle.nm_console.specs.Status.{is_whole};
 ghost use Rattle.nm_console.specs.Console.{Tells, TellsJournal, damaged, listed};
+ghost use Rattle.nm_console.specs.declared.journal.JournalStop.TheVariants as stop;
 
 use crate::refusal::write_damaged;
 use crate::said::Said;
@@ -16,11 +17,19 @@ use nm_proto::Entry;
 use nm_report::write_journal;
 use std::alloc::Global;
 
-/// Why nothing is said of a journal.
+/// Why a command that uses a journal says nothing.
 #[derive(Clone, Copy, Debug, PartialEq, Eq)]
 pub enum JournalStop {
     DiskFault,
     NoMemory,
+}
+
+impl From<NoMemory> for JournalStop {
+    ghost from_gives = { λ _ why. why ≡ stop.NoMemory };
+
+    fn from(_error: NoMemory) -> JournalStop {
+        JournalStop::NoMemory
+    }
 }
 
 /// The answer to the journal on a disk, which stays as it is.

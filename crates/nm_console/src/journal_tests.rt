@@ -8,14 +8,14 @@ use std::alloc::Global;
 use std::test::Fail;
 
 // A change set over devices 1 and 2 that was started in version 1 of the records.
-const STARTED: [u8; 16] = [1, 1, 0, 0, 0, 1, 0, 0, 0, 3, 0, 0, 0, 0, 0, 0];
+pub const STARTED: [u8; 16] = [1, 1, 0, 0, 0, 1, 0, 0, 0, 3, 0, 0, 0, 0, 0, 0];
 
 // The same in version 2, with a timeout of 600 seconds, and its commit and end.
-const TIMED: [u8; 16] = [1, 1, 0, 0, 0, 1, 0, 0, 0, 3, 2, 0, 0, 2, 88, 0];
+pub const TIMED: [u8; 16] = [1, 1, 0, 0, 0, 1, 0, 0, 0, 3, 2, 0, 0, 2, 88, 0];
 
-const COMMITTED: [u8; 16] = [1, 2, 0, 0, 0, 1, 1, 0, 0, 0, 2, 0, 0, 0, 0, 0];
+pub const COMMITTED: [u8; 16] = [1, 2, 0, 0, 0, 1, 1, 0, 0, 0, 2, 0, 0, 0, 0, 0];
 
-const ENDED: [u8; 16] = [1, 3, 0, 0, 0, 1, 0, 0, 0, 3, 2, 0, 0, 0, 0, 0];
+pub const ENDED: [u8; 16] = [1, 3, 0, 0, 0, 1, 0, 0, 0, 3, 2, 0, 0, 0, 0, 0];
 
 // A record whose gate is closed, and one of no kind.
 const CLOSED: [u8; 16] = [0, 2, 0, 0, 0, 1, 1, 0, 0, 0, 0, 0, 0, 0, 0, 0];
@@ -23,7 +23,7 @@ const CLOSED: [u8; 16] = [0, 2, 0, 0, 0, 1, 1, 0, 0, 0, 0, 0, 0, 0, 0, 0];
 const NO_KIND: [u8; 16] = [1, 9, 0, 0, 0, 1, 1, 0, 0, 0, 0, 0, 0, 0, 0, 0];
 
 // A disk with these records and a closed gate behind them.
-fn disk_of(alloc: Global, records: &[[u8; 16]]) -> Result<MemoryDisk, Fail> {
+pub fn disk_of(alloc: Global, records: &[[u8; 16]]) -> Result<MemoryDisk, Fail> {
     let mut disk = MemoryDisk::with_limit(alloc, 8192, 100)?;
     for record in records {
         let end = disk.bytes().len() as u64;
@@ -37,7 +37,7 @@ fn disk_of(alloc: Global, records: &[[u8; 16]]) -> Result<MemoryDisk, Fail> {
 }
 
 // Prints the journal on a disk.
-fn print(alloc: Global, disk: &mut MemoryDisk) -> Result<(Status, Vec<u8>), Fail> {
+pub fn print(alloc: Global, disk: &mut MemoryDisk) -> Result<(Status, Vec<u8>), Fail> {
     let words = listed(alloc, &["journal", "--journal", "file"])?;
     let mut input = MemorySource::new(Vec::new(alloc), Vec::new(alloc));
     let mut output = MemorySink::new(alloc, 4096, Vec::new(alloc))?;
@@ -87,7 +87,11 @@ fn a_failing_disk_is_told(rt: HostRuntime) -> Result<(), Fail> {
 // Words, and the path that they name.
 #[test]
 fn paths_are_named(rt: HostRuntime) -> Result<(), Fail> {
-    let cases: [(&[&str], Option<&str>); 12] = [
+    let cases: [(&[&str], Option<&str>); 16] = [
+        (&["replay", "--journal", "f"], Some("f")),
+        (&["replay", "--journal=f"], Some("f")),
+        (&["replay", "--journal", "-f"], None),
+        (&["replay"], None),
         (&["journal", "--journal", "f"], Some("f")),
         (&["journal", "--journal=f"], Some("f")),
         (&["journal", "--journal=-x"], Some("-x")),

@@ -19,6 +19,8 @@ pub mod replay;
 #[cfg(test)]
 mod replay_tests;
 mod rows;
+#[cfg(test)]
+mod run_tests;
 pub mod said;
 pub mod status;
 #[cfg(test)]

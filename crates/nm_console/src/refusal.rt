@@ -1,5 +1,5 @@
 ghost use Rattle.std.specs.Prelude.{◌≡◌, ◌++◌, OnOk};
-ghost use Rattle.nm_console.specs.Refusal.{damaged_text, fault_text, offset_text};
+ghost use Rattle.nm_console.specs.Refusal.{damaged_text, fault_text, not_empty_text, offset_text};
 
 use nm_base::{NoMemory, write_decimal};
 use nm_reading::{Fault, write_place};
@@ -26,6 +26,14 @@ pub fn write_damaged(out: &mut Vec<u8>, offset: u64) -> Result<(), NoMemory>
 {
     put(out, "journal damaged ")?;
     write_offset(out, offset)
+}
+
+/// The line of a journal that holds so many bytes, where an empty one is wanted.
+pub fn write_not_empty(out: &mut Vec<u8>, size: u64) -> Result<(), NoMemory>
+    ensures { OnOk result (out.new.items ≡ out.old.items ++ not_empty_text size) }
+{
+    put(out, "journal not empty ")?;
+    write_offset(out, size)
 }
 
 fn write_offset(out: &mut Vec<u8>, offset: u64) -> Result<(), NoMemory>

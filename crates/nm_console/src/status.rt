@@ -20,7 +20,7 @@ pub enum Status {
     WriteFault,
     /// The journal's disk failed. Nothing was written.
     DiskFault,
-    /// The journal is damaged.
+    /// The journal is damaged, or it holds something where an empty one is wanted.
     Journal,
     /// Memory ran out. Nothing was written.
     NoMemory,

@@ -28,7 +28,7 @@ pub fn run(
     let bytes = Vec::from_slice(alloc, text.as_bytes())?;
     let mut input = MemorySource::new(bytes, Vec::from_slice(alloc, reads)?);
     let mut output = MemorySink::new(alloc, 4096, Vec::from_slice(alloc, writes)?)?;
-    let mut journal = MemoryDisk::with_limit(alloc, 16, 1)?;
+    let mut journal = MemoryDisk::with_limit(alloc, 64, 32)?;
     let status = console(
         alloc,
         words.as_slice(),
@@ -105,7 +105,7 @@ fn failing_streams(rt: HostRuntime) -> Result<(), Fail> {
 fn sure_streams(rt: HostRuntime) -> Result<(), Fail> {
     let words = listed(rt.alloc(), &["replay"])?;
     let bytes = Vec::from_slice(rt.alloc(), EMPTY.as_bytes())?;
-    let mut journal = MemoryDisk::with_limit(rt.alloc(), 16, 1)?;
+    let mut journal = MemoryDisk::with_limit(rt.alloc(), 64, 32)?;
     let status = console(
         rt.alloc(),
         words.as_slice(),

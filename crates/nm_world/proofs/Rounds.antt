@@ -9,10 +9,12 @@ use Rattle.nm_proto.specs.declared.plan.Event.{Event}
 use Rattle.nm_world.specs.declared.course.Course.{Course}
 use Rattle.nm_device.specs.Device.{IsInTime}
 use Rattle.nm_history.specs.History.{RecordedState, recorded}
+use Rattle.nm_proto.specs.declared.journal.Entry.{Entry}
+use Rattle.nm_world.specs.Link.{LinkState}
 use Rattle.nm_world.specs.Course.{unused}
 use Rattle.nm_world.specs.declared.happened.Happened.{Happened}
 use Rattle.nm_world.specs.declared.happened.Passed.{Passed}
-use Rattle.nm_world.specs.World.{WorldState, Whole, Staged, Askings, Came, passed, with_state, world_step, run, IsSoundDevice, IsFirst, round, rounds, links_from, planned_for}
+use Rattle.nm_world.specs.World.{WorldState, Whole, Staged, Askings, Came, passed, with_state, world_step, run, IsSoundDevice, IsFirst, round, rounds, links_from, planned_for, begin}
 
 module _ {Config TheEdit Node : Type 0} (m : Meaning Config TheEdit Node) (tables : TablesState TheEdit) where
   -- one of the rounds that are left
@@ -36,6 +38,23 @@ fresh-sound m running h = All-map (IsSoundDevice m) recorded running
       in_time = begins_in_time;
     })
 
+abbrev staged_of : {TheContent Config TheEdit Node : Type 0} → TheContent → TablesState TheEdit → Course → List (RecordedState Config Node) → List LinkState → List Entry → List (List (Option ℕ)) → Option Entry
+    → Staged TheContent Config TheEdit Node
+staged_of content tables course devices links entries operators failed = record {
+  content = content;
+  tables = tables;
+  course = course;
+  state = record { devices = devices; links = links; entries = entries; operators = operators };
+  failed = failed;
+}
+
+-- what stands before anything happened, by its parts
+pub begun : {TheContent Config TheEdit Node : Type 0} (content : TheContent) (tables : TablesState TheEdit) (course : Course) (running : List Config) (planned : List PlannedEdit) (count : ℕ)
+    (devices : List (RecordedState Config Node)) (links : List LinkState) (entries : List Entry) (operators : List (List (Option ℕ))) (failed : Option Entry)
+    → devices ≡ map recorded running → links ≡ links_from 1 (length running) planned → entries ≡ [] → operators ≡ replicate count (replicate (length running) None) → failed ≡ None
+    → staged_of content tables course devices links entries operators failed ≡ record { content = content; tables = tables; course = course; state = begin running planned count; failed = None }
+begun content tables course running planned count devices links entries operators failed d l e o f = rw (d, l, e, o, f) refl
+
 -- one of the links that are left
 pub links_from-left : (device n k : ℕ) (edits : List PlannedEdit) → k < n
     → links_from device (n - k) edits ≡ unused (planned_for device edits) ∷ links_from (device + 1) (n - (k + 1)) edits
@@ -50,6 +69,24 @@ pub ruleset repeating = (replicate-left)
 pub ruleset rounding = (rounds-left)
 
 pub ruleset linking = (links_from-left)
+
+-- one more round has happened
+module _ {TheContent Config TheEdit Node : Type 0} (meaning : TheContent → Meaning Config TheEdit Node) (first : Whole TheContent Config TheEdit Node) where
+  abbrev Rounds : ℕ → WorldState Config Node → ℕ → WorldState Config Node
+  Rounds n w change = rounds (meaning first.content) first.tables n first.course w change
+
+  pub rounds_begin : (n change : ℕ) → Rounds (n - 0) first.state change ≡ Rounds n first.state change
+  rounds_begin n change = let all : n - 0 ≡ n = omega arith in ap (λ left. Rounds left first.state change) all
+
+  pub round_leads : (world next : Whole TheContent Config TheEdit Node) (n k change : ℕ) → k < n → world ≡ with_state first world.state → Rounds (n - k) world.state change ≡ Rounds n first.state change
+      → next ≡ with_state world (round (meaning world.content) world.tables world.course world.state change)
+      → (next ≡ with_state first next.state) × (Rounds (n - (k + 1)) next.state change ≡ Rounds n first.state change)
+  round_leads world next n k change less is leads e =
+      let after = round (meaning first.content) first.tables first.course world.state change in
+      let there : next ≡ with_state first after =
+      subst (λ (w : Whole TheContent Config TheEdit Node). next ≡ with_state w (round (meaning w.content) w.tables w.course world.state change)) is e in
+      let now : next.state ≡ after = ap (λ (w : Whole TheContent Config TheEdit Node). w.state) there in
+      (there ∙ ap (with_state first) (sym now), ap (λ state. Rounds (n - (k + 1)) state change) now ∙ sym (rounds-left (meaning first.content) first.tables first.course world.state change n k less) ∙ leads)
 
 -- ---- events, one after another
 
@@ -83,19 +120,20 @@ asked_so old a devices operators d o =
     ap (λ ds. record old { state = record old.state { devices = ds; operators = operators } }) d ∙ ap (λ os. record old { state = record old.state { devices = a.devices; operators = os } }) o
 
 -- what stands at a moment with a trail
-abbrev whole_of : {TheContent Config TheEdit Node : Type 0} → Staged TheContent Config TheEdit Node → List Passed → Whole TheContent Config TheEdit Node
+abbrev pub whole_of : {TheContent Config TheEdit Node : Type 0} → Staged TheContent Config TheEdit Node → List Passed → Whole TheContent Config TheEdit Node
 whole_of scene trail = record {
   content = scene.content;
   tables = scene.tables;
   course = scene.course;
   state = record { devices = scene.state.devices; links = scene.state.links; entries = scene.state.entries; operators = scene.state.operators; trail = trail };
+  failed = scene.failed;
 }
 
 -- what came of an elementary event, and what the trail tells of it
 pub applied_so : {TheContent Config TheEdit Node : Type 0} (old : Whole TheContent Config TheEdit Node) (scene : Staged TheContent Config TheEdit Node) (trail : List Passed) (event noted : Event) (what : Happened) (c : Came Config Node)
-    → scene ≡ record { content = old.content; tables = old.tables; course = old.course; state = c.after } → what ≡ c.happened → noted ≡ event
+    → scene ≡ record { content = old.content; tables = old.tables; course = old.course; state = c.after; failed = old.failed } → what ≡ c.happened → noted ≡ event
     → trail ≡ old.state.trail ++ record { event = noted; happened = what } ∷ [] → whole_of scene trail ≡ with_state old (passed old.state event c)
 applied_so old scene trail event noted what c is happened told trails =
     let passed_is = trails ∙ ap (λ (w : Happened). old.state.trail ++ record { event = noted; happened = w } ∷ []) happened
     ∙ ap (λ (e : Event). old.state.trail ++ record { event = e; happened = c.happened } ∷ []) told in
-    ap (λ s. whole_of s trail) is ∙ ap (λ t. whole_of (record { content = old.content; tables = old.tables; course = old.course; state = c.after }) t) passed_is
+    ap (λ s. whole_of s trail) is ∙ ap (λ t. whole_of (record { content = old.content; tables = old.tables; course = old.course; state = c.after; failed = old.failed }) t) passed_is

@@ -27,7 +27,7 @@ use Rattle.nm_world.specs.declared.happened.Happened.{Happened}
 use Rattle.nm_world.specs.declared.happened.Sending.{Sending}
 use Rattle.nm_world.specs.declared.happened.Happened.TheVariants as happened
 use Rattle.nm_world.specs.Course.{unused, outstanding, is_member, requests_of, next_action, start_of, is_decision, is_submitted, is_decided, session_of}
-use Rattle.nm_world.specs.World.{WorldState, LinkMoved, sent_if, sent_for, sent_on, handled_on, with_reply, replies_on, operator_at, session_at, Delivery, Asking, replied_on, not_asked, replied_to, left_if, left_on, left_from, delivered_if, delivered_to, asked_in, asked_of, idle, LinksMoved, with_links, with_deliveries, none_delivered, one_delivered, with_askings, none_asked, submitted, sent_at, acted, turned, handled_at, answered, left_at, left, delivered_at, delivered, asked_at, asked, followed, round, rounds, world_step, run, planned_for, links_from, start, Came, came, passed, with_entry, elementary, one_step, sending_of, SceneState, scene_of, begin, DeviceMoved, latest, later_by, advanced_by, restarted_device, advanced_at, restarted_at}
+use Rattle.nm_world.specs.World.{WorldState, LinkMoved, sent_if, sent_for, sent_on, handled_on, with_reply, replies_on, operator_at, session_at, Delivery, Asking, replied_on, not_asked, replied_to, left_if, left_on, left_from, delivered_if, delivered_to, asked_in, asked_of, idle, LinksMoved, with_links, with_deliveries, none_delivered, one_delivered, with_askings, none_asked, submitted, sent_at, acted, turned, handled_at, answered, left_at, left, delivered_at, delivered, asked_at, asked, followed, round, rounds, world_step, run, planned_for, links_from, start, Came, came, passed, with_entry, may_enter, entered as entered_as, enters, elementary, one_step, sending_of, SceneState, scene_of, begin, DeviceMoved, latest, later_by, advanced_by, restarted_device, advanced_at, restarted_at}
 use Rattle.nm_world.specs.Safe.{IsSafe, KeepsDecision, KeepsDecisions, disturbs}
 use Rattle.nm_world.specs.Support.{Exchange, AreNoted, IsFollowed, IsTraced, IsSupported, is_verdict}
 use Rattle.nm_world.proofs.Safe.Lists.{same_some, set_same, set_other, or_false, or_true}
@@ -150,9 +150,11 @@ module _ {Config Node : Type 0} (course : Course) where
 
   -- ---- events of the manager
 
+  enters_supported : (w : SceneState Config Node) (entry : Entry) → IsSupported course w → IsSupported course (with_entry w entry) → LeavesSupported (enters w entry)
+  enters_supported w entry s with_it = cond_both (may_enter w.entries entry) (came (with_entry w entry) (entered_as entry)) (idle w) LeavesSupported (λ _. with_it) (λ _. s)
+
   submitted_supported : (w : SceneState Config Node) → IsSupported course w → LeavesSupported (submitted course w)
-  submitted_supported w s = cond_both (is_submitted w.entries) (idle w) (came (with_entry w (start_of course)) happened.Started) LeavesSupported (λ _. s)
-      (λ _. entered w (w.entries ++ start_of course ∷ []) (undecided_entry w.entries (start_of course) refl) s)
+  submitted_supported w s = enters_supported w (start_of course) s (entered w (w.entries ++ start_of course ∷ []) (undecided_entry w.entries (start_of course) refl) s)
 
   sent_supported : (w : SceneState Config Node) (place : ℕ) (link : Option LinkState) → slice_get w.links place ≡ link → ((sent : LinkState) → slice_get w.links place ≡ Some sent → MaySend (is_decided w.entries) sent)
       → IsSupported course w → LeavesSupported (sent_at course w place link)
@@ -172,8 +174,9 @@ module _ {Config Node : Type 0} (course : Course) where
   acted_supported : (w : SceneState Config Node) (action : Action) → IsAllowed (is_decided w.entries) w.links action → IsSupported course w → LeavesSupported (acted course w action)
   acted_supported w Wait allowed s = s
   acted_supported w (Send place) allowed s = sent_supported w place (slice_get w.links place) refl allowed s
-  acted_supported w Decide allowed s = decided_supported w allowed s
-  acted_supported w Finish allowed s = entered w (w.entries ++ Ended course.change course.devices ∷ []) (undecided_entry w.entries (Ended course.change course.devices) refl) s
+  acted_supported w Decide allowed s = enters_supported w (Decided course.change verdict.Commit) s (decided_supported w allowed s)
+  acted_supported w Finish allowed s = enters_supported w (Ended course.change course.devices) s
+      (entered w (w.entries ++ Ended course.change course.devices ∷ []) (undecided_entry w.entries (Ended course.change course.devices) refl) s)
 
   turned_supported : (w : SceneState Config Node) → IsSupported course w → LeavesSupported (turned course w)
   turned_supported w s = acted_supported w (next_action w.entries w.links) (action_is_allowed w.entries w.links) s
@@ -356,14 +359,17 @@ module _ {Config TheEdit Node : Type 0} (m : Meaning Config TheEdit Node) (laws 
   sent_sound course w place None s = s
   sent_sound course w place (Some link) s = s
 
+  enters_sound : (w : SceneState Config Node) (entry : Entry) → IsSoundScene w → LeavesSound (enters w entry)
+  enters_sound w entry s = cond_both (may_enter w.entries entry) (came (with_entry w entry) (entered_as entry)) (idle w) LeavesSound (λ _. s) (λ _. s)
+
   acted_sound : (course : Course) (w : SceneState Config Node) (action : Action) → IsSoundScene w → LeavesSound (acted course w action)
   acted_sound course w Wait s = s
   acted_sound course w (Send place) s = sent_sound course w place (slice_get w.links place) s
-  acted_sound course w Decide s = s
-  acted_sound course w Finish s = s
+  acted_sound course w Decide s = enters_sound w (Decided course.change verdict.Commit) s
+  acted_sound course w Finish s = enters_sound w (Ended course.change course.devices) s
 
   submitted_sound : (course : Course) (w : SceneState Config Node) → IsSoundScene w → LeavesSound (submitted course w)
-  submitted_sound course w s = cond_both (is_submitted w.entries) (idle w) (came (with_entry w (start_of course)) happened.Started) LeavesSound (λ _. s) (λ _. s)
+  submitted_sound course w s = enters_sound w (start_of course) s
 
   handled_sound : (w : SceneState Config Node) (place number : ℕ) (link : Option LinkState) → IsSoundScene w → LeavesSound (handled_at w place number link)
   handled_sound w place number None s = s

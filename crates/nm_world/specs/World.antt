@@ -1,7 +1,7 @@
 -- The world: devices with their histories, the manager's links and journal, operators, and what each event does to it.
 -- An event that doesn't apply changes nothing but the trail (this project's own). The code changes its parts in place;
 -- these are functions of the whole.
-use Rattle.std.specs.Prelude.{◌≡◌, ℕ, zero, suc, ◌+◌, ◌-◌, ◌^◌, ◌==◌, List, [], ◌∷◌, ◌++◌, Bool, false, ◌&&◌, nat_le, length, map, find, replicate, Option, Some, None, is_some, option_and_then, slice_get, slice_set, Result, Ok, Err, if◌then◌else◌}
+use Rattle.std.specs.Prelude.{◌≡◌, ℕ, zero, suc, ◌+◌, ◌-◌, ◌^◌, ◌==◌, List, [], ◌∷◌, ◌++◌, Bool, true, false, ◌&&◌, nat_le, length, map, find, replicate, Option, Some, None, is_some, option_and_then, slice_get, slice_set, Result, Ok, Err, if◌then◌else◌}
 use Rattle.nm_base.specs.declared.fault.NoMemory.{NoMemory}
 use Rattle.nm_proto.specs.declared.message.Request.{Request}
 use Rattle.nm_proto.specs.declared.message.Reply.{Reply}
@@ -21,11 +21,15 @@ use Rattle.nm_world.specs.declared.course.Action.{Action}
 use Rattle.nm_world.specs.declared.course.Action.TheVariants.{Wait, Send, Decide, Finish}
 use Rattle.nm_proto.specs.declared.journal.Entry.{Entry}
 use Rattle.nm_proto.specs.declared.journal.Entry.TheVariants.{Started, Decided, Ended}
+use Rattle.nm_journal.specs.Entries.{is_timed, may_follow}
+use Rattle.nm_journal.specs.Fits.{JournalState}
 use Rattle.nm_world.specs.declared.happened.Happened.{Happened}
 use Rattle.nm_world.specs.declared.happened.Passed.{Passed}
 use Rattle.nm_world.specs.declared.happened.Sending.{Sending}
 use Rattle.nm_world.specs.declared.happened.Happened.TheVariants as happened
-use Rattle.nm_world.specs.Course.{unused, outstanding, requests_of, next_action, is_submitted, start_of, session_in, session_of}
+use Rattle.nm_world.specs.declared.fault.RunFault.{RunFault}
+use Rattle.nm_world.specs.declared.fault.RunFault.TheVariants as run_fault
+use Rattle.nm_world.specs.Course.{unused, outstanding, requests_of, next_action, start_of, session_in, session_of}
 
 -- what stands at a moment. Device d and its link stand at place d - 1, and so does the session that an operator was last
 -- given on it
@@ -328,6 +332,22 @@ pub record AreAsked {Config Node : Type 0} (what : Happened) (devices : List (Re
 
 -- ---- the whole
 
+-- an entry may come next in the journal, which it does as a record of version 2
+abbrev pub may_enter : List Entry → Entry → Bool
+may_enter entries entry = is_timed entry && may_follow entries entry
+
+-- what comes of an event by which an entry comes into the journal
+abbrev pub entered : Entry → Happened
+entered (Started change devices timeout) = happened.Started
+entered (Decided change verdict) = happened.Decided verdict
+entered (Ended change kept) = happened.Ended
+
+-- a call that appends an entry where it may come next, or whose disk failed at it
+abbrev pub Enters : Result Bool RunFault → JournalState → JournalState → Entry → Type 0
+Enters (Ok true) old new entry = (may_enter old.entries entry ≡ true) × (new ≡ record old { entries = old.entries ++ entry ∷ [] })
+Enters (Ok false) old new entry = (may_enter old.entries entry ≡ false) × (new ≡ old)
+Enters (Err why) old new entry = (why ≡ run_fault.DiskFault) × (may_enter old.entries entry ≡ true) × (new ≡ record old { failed = Some entry })
+
 -- what stands after an elementary event, and what came of it
 pub record Came (Config Node : Type 0) : Type 0 where
   pub after : SceneState Config Node
@@ -356,9 +376,13 @@ module _ {Config Node : Type 0} where
   abbrev pub with_entry : SceneState Config Node → Entry → SceneState Config Node
   with_entry w entry = record w { entries = w.entries ++ entry ∷ [] }
 
+  -- an entry comes into the journal where it may come next there
+  abbrev pub enters : SceneState Config Node → Entry → Came Config Node
+  enters w entry = if may_enter w.entries entry then came (with_entry w entry) (entered entry) else idle w
+
   -- the change set is submitted, once
   abbrev pub submitted : Course → SceneState Config Node → Came Config Node
-  submitted course w = if is_submitted w.entries then idle w else came (with_entry w (start_of course)) happened.Started
+  submitted course w = enters w (start_of course)
 
   abbrev pub sent_at : Course → SceneState Config Node → ℕ → Option LinkState → Came Config Node
   sent_at course w place link = with_links w (links_sent course w.links place link)
@@ -366,8 +390,8 @@ module _ {Config Node : Type 0} where
   abbrev pub acted : Course → SceneState Config Node → Action → Came Config Node
   acted course w Wait = idle w
   acted course w (Send place) = sent_at course w place (slice_get w.links place)
-  acted course w Decide = came (with_entry w (Decided course.change verdict.Commit)) (happened.Decided verdict.Commit)
-  acted course w Finish = came (with_entry w (Ended course.change course.devices)) happened.Ended
+  acted course w Decide = enters w (Decided course.change verdict.Commit)
+  acted course w Finish = enters w (Ended course.change course.devices)
 
   -- one action of the manager
   abbrev pub turned : Course → SceneState Config Node → Came Config Node
@@ -415,6 +439,12 @@ module _ {Config Node : Type 0} where
     operators = c.after.operators;
     trail = w.trail ++ record { event = event; happened = c.happened } ∷ [];
   }
+
+-- the event may write the journal
+abbrev pub writes : Event → Bool
+writes (Submit change) = true
+writes (Turn change) = true
+writes _ = false
 
 -- where a request was sent, if one was
 abbrev pub sending_of : Happened → Option Sending
@@ -503,12 +533,14 @@ abbrev pub start : {Config Node : Type 0} → List Config → List PlannedEdit �
 start running edits operators = let scene = begin running edits operators in
     record { devices = scene.devices; links = scene.links; entries = scene.entries; operators = scene.operators; trail = [] }
 
--- a world as the code holds it: its content, its tables, the course of its change set, and its state
+-- a world as the code holds it: its content, its tables, the course of its change set, and its state, with the entry at
+-- which its journal stopped, where the disk failed
 pub record Whole (TheContent Config TheEdit Node : Type 0) : Type 0 where
   pub content : TheContent
   pub tables : TablesState TheEdit
   pub course : Course
   pub state : WorldState Config Node
+  pub failed : Option Entry
 
 -- the same of what stands at a moment
 pub record Staged (TheContent Config TheEdit Node : Type 0) : Type 0 where
@@ -516,13 +548,43 @@ pub record Staged (TheContent Config TheEdit Node : Type 0) : Type 0 where
   pub tables : TablesState TheEdit
   pub course : Course
   pub state : SceneState Config Node
+  pub failed : Option Entry
 
 module _ {TheContent Config TheEdit Node : Type 0} where
   -- the same world in another state
   abbrev pub with_state : Whole TheContent Config TheEdit Node → WorldState Config Node → Whole TheContent Config TheEdit Node
   with_state w state = record w { state = state }
 
+  -- the journal of a world, and of what stands at a moment
+  abbrev pub journal_of : Whole TheContent Config TheEdit Node → JournalState
+  journal_of w = record { entries = w.state.entries; failed = w.failed }
+
+  abbrev pub journal_in : Staged TheContent Config TheEdit Node → JournalState
+  journal_in w = record { entries = w.state.entries; failed = w.failed }
+
+  -- the same with another journal
+  abbrev pub with_journal : Staged TheContent Config TheEdit Node → JournalState → Staged TheContent Config TheEdit Node
+  with_journal w journal = record w { state = record w.state { entries = journal.entries }; failed = journal.failed }
+
   -- a call that does an elementary event. Where there is no memory, nothing changes
   abbrev pub Comes : Result Happened NoMemory → Staged TheContent Config TheEdit Node → Staged TheContent Config TheEdit Node → Came Config Node → Type 0
   Comes (Ok what) old new c = (what ≡ c.happened) × (new ≡ record old { state = c.after })
   Comes (Err fault) old new c = new ≡ old
+
+  -- the disk failed at the entry with which this event goes on: nothing has changed but that the journal is stopped
+  pub record StopsAt (old new : Staged TheContent Config TheEdit Node) (c : Came Config Node) : Type 0 where
+    pub entry : Entry
+    pub stopped : new ≡ record old { failed = Some entry }
+    pub goes_on : c.after ≡ with_entry old.state entry
+
+  -- the same of a call that may write the journal
+  abbrev pub ComesOrStops : Result Happened RunFault → Staged TheContent Config TheEdit Node → Staged TheContent Config TheEdit Node → Came Config Node → Type 0
+  ComesOrStops (Ok what) old new c = (what ≡ c.happened) × (new ≡ record old { state = c.after })
+  ComesOrStops (Err run_fault.NoMemory) old new c = new ≡ old
+  ComesOrStops (Err run_fault.DiskFault) old new c = StopsAt old new c
+
+  -- the same of the world
+  pub record StopsAtEvent (old new : Whole TheContent Config TheEdit Node) (c : Came Config Node) : Type 0 where
+    pub entry : Entry
+    pub stopped : new ≡ record old { failed = Some entry }
+    pub goes_on : c.after ≡ with_entry (scene_of old.state) entry

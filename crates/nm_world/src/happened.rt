@@ -1,10 +1,10 @@
 //! What comes of events.
 
 ghost use Rattle.std.specs.Prelude.{◌≡◌};
-ghost use Rattle.nm_world.specs.World.{sending_of};
+ghost use Rattle.nm_world.specs.World.{entered, sending_of};
 
 use nm_base::DeviceNo;
-use nm_proto::{Event, Reply, Request, Verdict};
+use nm_proto::{Entry, Event, Reply, Request, Verdict};
 
 /// What came of an event.
 #[derive(Drop)]
@@ -53,6 +53,17 @@ pub struct Sending {
 }
 
 impl Happened {
+    /// What comes of an event by which an entry comes into the journal.
+    pub fn entered(entry: &Entry) -> Happened
+        ensures { result ≡ entered entry.now }
+    {
+        match entry {
+            Entry::Started { .. } => Happened::Started,
+            Entry::Decided { verdict, .. } => Happened::Decided(*verdict),
+            Entry::Ended { .. } => Happened::Ended,
+        }
+    }
+
     /// Where a request was sent, if one was.
     pub fn sending(&self) -> Option<Sending>
         ensures { result ≡ sending_of self.now }

@@ -1,18 +1,26 @@
 //! What stands at a moment, and what each elementary event does to it. It is apart from the trail, so that the trail's room
 //! outlasts an event.
 
-ghost use Rattle.std.specs.Prelude.{◌≡◌, ◌≤◌, ◌-◌, IfOk, None, map, replicate, slice_get};
+ghost use Rattle.std.specs.Prelude.{◌≡◌, ◌≤◌, ◌-◌, [], false, Err, IfOk, None, map, replicate, slice_get};
 ghost use Rattle.std.specs.List.{All};
 ghost use Rattle.nm_history.specs.History.{recorded};
+ghost use Rattle.nm_base.specs.Count.{Rose};
+ghost use Rattle.nm_journal.specs.Fits.{Fits};
 ghost use Rattle.nm_world.specs.World.{planned_for, links_from};
+ghost use Rattle.nm_world.specs.Journalled.{Journals};
+ghost use Rattle.nm_world.specs.declared.fault.RunFault.TheVariants as run_fault;
 
-use crate::course::{Action, Course, is_submitted, next_action};
+use crate::course::{Action, Course, next_action};
+use crate::entering::enter;
+use crate::fault::RunFault;
 use crate::happened::Happened;
 use crate::link::Link;
 use crate::operator::Operator;
 use crate::steps::{advance_at, ask_at, deliver_at, handle_at, leave_at, restart_at, send_at};
 use nm_base::NoMemory;
+use nm_disk::Disk;
 use nm_history::Recorded;
+use nm_journal::Journal;
 use nm_proto::{Content, Entry, Event, Listed, PlannedEdit, Request, Tables, Verdict};
 use std::alloc::Global;
 use std::marker::Model;
@@ -25,7 +33,7 @@ pub(crate) struct Scene<C: Content + Drop> {
     // Device d and its link stand at place d - 1.
     devices: Vec<Recorded<C>>,
     links: Vec<Link>,
-    entries: Vec<Entry>,
+    journal: Journal,
     operators: Vec<Operator>,
 }
 
@@ -37,7 +45,7 @@ impl<C: Content + Drop> Drop for Scene<C> {
             course,
             devices,
             links,
-            entries,
+            journal,
             operators,
         } = self;
         drop(content);
@@ -45,7 +53,7 @@ impl<C: Content + Drop> Drop for Scene<C> {
         drop(course);
         drop(devices);
         drop(links);
-        drop(entries);
+        drop(journal);
         drop(operators);
     }
 }
@@ -60,7 +68,8 @@ impl<C: Content + Drop> Model for Scene<C> {
       content = w.content;
       tables = w.tables;
       course = w.course;
-      state = record { devices = w.devices.items; links = w.links.items; entries = w.entries.items; operators = w.operators.items };
+      state = record { devices = w.devices.items; links = w.links.items; entries = w.journal.entries; operators = w.operators.items };
+      failed = w.journal.failed;
     } };
 
     ghost invariant = { λ w. All (IsSoundDevice (C.meaning w.content)) w.devices.items × All (C.meaning w.content).edit_belongs w.tables.edits };
@@ -69,7 +78,7 @@ impl<C: Content + Drop> Model for Scene<C> {
 impl<C: Content + Drop> Scene<C> {
     ghost use Rattle.nm_world.specs.World.{begin, IsSoundDevice, IsFirst};
 
-    // Before anything happened, with so many operators.
+    // Before anything happened, with so many operators, and a journal of no entries.
     pub(crate) fn new(
         alloc: Global,
         content: C,
@@ -78,10 +87,13 @@ impl<C: Content + Drop> Scene<C> {
         course: Course,
         planned: &[PlannedEdit],
         operators: usize,
+        journal: Journal,
     ) -> Result<Scene<C>, NoMemory>
+        requires empty { journal.entries ≡ [] }
+        requires going { journal.failed ≡ None }
         requires running { All (IsFirst (C.meaning content)) running }
         requires edits { All (C.meaning content).edit_belongs tables.edits }
-        ensures { IfOk result (λ w. w ≡ record { content = content; tables = tables; course = course; state = begin running planned.now operators }) }
+        ensures { IfOk result (λ w. w ≡ record { content = content; tables = tables; course = course; state = begin running planned.now operators; failed = None }) }
     {
         let links = fresh_links(alloc, running.len(), planned)?;
         let operators = fresh_operators(alloc, operators, running.len())?;
@@ -92,7 +104,7 @@ impl<C: Content + Drop> Scene<C> {
             course,
             devices,
             links,
-            entries: Vec::new(alloc),
+            journal,
             operators,
         })
     }
@@ -125,57 +137,80 @@ impl<C: Content + Drop> Scene<C> {
     pub(crate) fn entries(&self) -> &[Entry]
         ensures { result.now ≡ self.now.state.entries }
     {
-        self.entries.as_slice()
+        self.journal.entries()
     }
 }
 
 // The elementary events. Where there is no memory, nothing changes.
 impl<C: Content + Drop> Scene<C> {
     ghost use Rattle.std.specs.Prelude.{slice_get};
-    ghost use Rattle.nm_world.specs.World.{Comes, submitted, turned, acted, sent_at, answered, delivered, asked, left, advanced, restarted, elementary};
+    ghost use Rattle.nm_world.specs.World.{Comes, ComesOrStops, enters, journal_in, submitted, turned, acted, sent_at, answered, delivered, asked, left, advanced, restarted, elementary, writes};
 
-    // Submits the change set, once.
-    fn submit(&mut self) -> Result<Happened, NoMemory>
-        ensures { Comes result self.old self.new (submitted self.old.course self.old.state) }
+    // An entry comes into the journal where it may come next there, before anything rests on it. It takes no memory.
+    fn enter<D: Disk>(&mut self, disk: &mut D, entry: Entry) -> Result<Happened, RunFault>
+        requires going { self.old.failed ≡ None }
+        requires fits { Fits D.told D.may_leave (journal_in self.old) disk.old }
+        ensures comes { ComesOrStops result self.old self.new (enters self.old.state entry) }
+        ensures disk_fault { result ≡ Err run_fault.DiskFault → Rose (D.faults disk.old) (D.faults disk.new) }
+        ensures journals { Journals D.told D.faults D.may_leave D.moment D.might_have_left self.old.state.entries (enters self.old.state entry).after.entries (journal_in self.new) disk.old disk.new }
     {
-        if is_submitted(&self.entries) {
+        if !enter(&mut self.journal, disk, entry)? {
             return Ok(Happened::Idle);
         }
-        self.entries.push(Entry::Started {
+        Ok(Happened::entered(&entry))
+    }
+
+    // Submits the change set, once.
+    fn submit<D: Disk>(&mut self, disk: &mut D) -> Result<Happened, RunFault>
+        requires going { self.old.failed ≡ None }
+        requires fits { Fits D.told D.may_leave (journal_in self.old) disk.old }
+        ensures comes { ComesOrStops result self.old self.new (submitted self.old.course self.old.state) }
+        ensures disk_fault { result ≡ Err run_fault.DiskFault → Rose (D.faults disk.old) (D.faults disk.new) }
+        ensures journals { Journals D.told D.faults D.may_leave D.moment D.might_have_left self.old.state.entries (submitted self.old.course self.old.state).after.entries (journal_in self.new) disk.old disk.new }
+    {
+        let entry = Entry::Started {
             change: self.course.change,
             devices: self.course.devices,
             timeout: Some(self.course.timeout),
-        })?;
-        Ok(Happened::Started)
+        };
+        self.enter(disk, entry)
     }
 
     // Does one action of the manager.
-    fn turn(&mut self) -> Result<Happened, NoMemory>
-        ensures { Comes result self.old self.new (turned self.old.course self.old.state) }
+    fn turn<D: Disk>(&mut self, disk: &mut D) -> Result<Happened, RunFault>
+        requires going { self.old.failed ≡ None }
+        requires fits { Fits D.told D.may_leave (journal_in self.old) disk.old }
+        ensures comes { ComesOrStops result self.old self.new (turned self.old.course self.old.state) }
+        ensures disk_fault { result ≡ Err run_fault.DiskFault → Rose (D.faults disk.old) (D.faults disk.new) }
+        ensures journals { Journals D.told D.faults D.may_leave D.moment D.might_have_left self.old.state.entries (turned self.old.course self.old.state).after.entries (journal_in self.new) disk.old disk.new }
     {
-        let action = next_action(&self.entries, &self.links);
-        self.act(action)
+        let action = next_action(self.journal.entries(), &self.links);
+        self.act(disk, action)
     }
 
-    fn act(&mut self, action: Action) -> Result<Happened, NoMemory>
-        ensures { Comes result self.old self.new (acted self.old.course self.old.state action) }
+    fn act<D: Disk>(&mut self, disk: &mut D, action: Action) -> Result<Happened, RunFault>
+        requires going { self.old.failed ≡ None }
+        requires fits { Fits D.told D.may_leave (journal_in self.old) disk.old }
+        ensures comes { ComesOrStops result self.old self.new (acted self.old.course self.old.state action) }
+        ensures disk_fault { result ≡ Err run_fault.DiskFault → Rose (D.faults disk.old) (D.faults disk.new) }
+        ensures journals { Journals D.told D.faults D.may_leave D.moment D.might_have_left self.old.state.entries (acted self.old.course self.old.state action).after.entries (journal_in self.new) disk.old disk.new }
     {
         match action {
             Action::Wait => Ok(Happened::Idle),
-            Action::Send { place } => self.send(place),
+            Action::Send { place } => Ok(self.send(place)?),
             Action::Decide => {
-                self.entries.push(Entry::Decided {
+                let entry = Entry::Decided {
                     change: self.course.change,
                     verdict: Verdict::Commit,
-                })?;
-                Ok(Happened::Decided(Verdict::Commit))
+                };
+                self.enter(disk, entry)
             }
             Action::Finish => {
-                self.entries.push(Entry::Ended {
+                let entry = Entry::Ended {
                     change: self.course.change,
                     kept: self.course.devices,
-                })?;
-                Ok(Happened::Ended)
+                };
+                self.enter(disk, entry)
             }
         }
     }
@@ -261,13 +296,31 @@ impl<C: Content + Drop> Scene<C> {
         Ok(happened)
     }
 
-    // Does an elementary event.
-    pub(crate) fn come(&mut self, event: &Event) -> Result<Happened, NoMemory>
+    // Does an elementary event. One that doesn't write the journal takes no disk.
+    pub(crate) fn come<D: Disk>(
+        &mut self,
+        disk: &mut D,
+        event: &Event,
+    ) -> Result<Happened, RunFault>
+        requires going { self.old.failed ≡ None }
+        requires fits { Fits D.told D.may_leave (journal_in self.old) disk.old }
+        ensures comes { ComesOrStops result self.old self.new (elementary (C.meaning self.old.content) self.old.tables self.old.course self.old.state event.now) }
+        ensures disk_fault { result ≡ Err run_fault.DiskFault → Rose (D.faults disk.old) (D.faults disk.new) }
+        ensures journals { Journals D.told D.faults D.may_leave D.moment D.might_have_left self.old.state.entries (elementary (C.meaning self.old.content) self.old.tables self.old.course self.old.state event.now).after.entries (journal_in self.new) disk.old disk.new }
+    {
+        match event {
+            Event::Submit { .. } => self.submit(disk),
+            Event::Turn { .. } => self.turn(disk),
+            _ => Ok(self.pass(event)?),
+        }
+    }
+
+    // Does an elementary event that doesn't write the journal.
+    fn pass(&mut self, event: &Event) -> Result<Happened, NoMemory>
+        requires silent { writes event.now ≡ false }
         ensures { Comes result self.old self.new (elementary (C.meaning self.old.content) self.old.tables self.old.course self.old.state event.now) }
     {
         match event {
-            Event::Submit { .. } => self.submit(),
-            Event::Turn { .. } => self.turn(),
             Event::Deliver {
                 device,
                 link: 1,
@@ -291,6 +344,7 @@ impl<C: Content + Drop> Scene<C> {
                 self.advance(usize::from(device.get()) - 1, *seconds)
             }
             Event::Restart { device } => self.restart(usize::from(device.get()) - 1),
+            Event::Submit { .. } | Event::Turn { .. } => unreachable!(),
             Event::Deliver { .. }
             | Event::Answer { .. }
             | Event::Break { .. }

@@ -1,14 +1,23 @@
 //! The world: what stands at a moment, and the trail of what has happened.
 
-ghost use Rattle.std.specs.Prelude.{◌≡◌, IfOk, OnOk, OnErr};
+ghost use Rattle.std.specs.Prelude.{◌≡◌, [], Err, None, IfOk, OnOk, IfSome, IsSome};
 ghost use Rattle.std.specs.List.{All};
+ghost use Rattle.nm_base.specs.Count.{Rose};
+ghost use Rattle.nm_journal.specs.Fits.{Fits, ReadsAs};
+ghost use Rattle.nm_disk.specs.Image.{AnyMoment};
+ghost use Rattle.nm_disk.specs.Keeps.{KeepsDisk};
+ghost use Rattle.nm_world.specs.Journalled.{IsBetween, Journals};
+ghost use Rattle.nm_world.specs.declared.fault.RunFault.TheVariants as run_fault;
 
 use crate::course::Course;
+use crate::fault::RunFault;
 use crate::happened::{Passed, Sending};
 use crate::link::Link;
 use crate::scene::Scene;
 use nm_base::{ChangeNo, NoMemory};
+use nm_disk::Disk;
 use nm_history::Recorded;
+use nm_journal::Journal;
 use nm_proto::{Content, Entry, Event, Listed, PlannedEdit, Tables};
 use std::alloc::Global;
 use std::marker::Model;
@@ -43,14 +52,15 @@ impl<C: Content + Drop> Model for World<C> {
         operators = w.scene.state.operators;
         trail = w.trail.items;
       };
+      failed = w.scene.failed;
     } };
 }
 
 impl<C: Content + Drop> World<C> {
     ghost use Rattle.nm_world.specs.World.{start, IsSoundDevice, IsFirst};
 
-    /// The world before anything happened, with so many operators. The running configurations stand in the order of the
-    /// devices, and a device without a planned edit isn't one of the change set.
+    /// The world before anything happened, with so many operators and a journal of no entries. The running configurations
+    /// stand in the order of the devices, and a device without a planned edit isn't one of the change set.
     pub fn new(
         alloc: Global,
         content: C,
@@ -59,15 +69,20 @@ impl<C: Content + Drop> World<C> {
         course: Course,
         planned: &[PlannedEdit],
         operators: usize,
+        journal: Journal,
     ) -> Result<World<C>, NoMemory>
+        requires empty { journal ≡ record { entries = []; failed = None } }
         requires running { All (IsFirst (C.meaning content)) running }
         requires edits { All (C.meaning content).edit_belongs tables.edits }
         ensures state { IfOk result (λ w. w.state ≡ start running planned.now operators) }
         ensures content { IfOk result (λ w. w.content ≡ content) }
         ensures tables { IfOk result (λ w. w.tables ≡ tables) }
         ensures course { IfOk result (λ w. w.course ≡ course) }
+        ensures going { IfOk result (λ w. w.failed ≡ None) }
     {
-        let scene = Scene::new(alloc, content, tables, running, course, planned, operators)?;
+        let scene = Scene::new(
+            alloc, content, tables, running, course, planned, operators, journal,
+        )?;
         Ok(World {
             scene,
             trail: Vec::new(alloc),
@@ -118,21 +133,33 @@ impl<C: Content + Drop> World<C> {
     }
 }
 
+// What happens. Where the journal's disk fails, or there is no memory, the run is over.
 impl<C: Content + Drop> World<C> {
     ghost use Rattle.std.specs.Prelude.{slice_get};
-    ghost use Rattle.nm_world.specs.World.{elementary, one_step, scene_of, sending_of, replies_on, last_answered, followed, round, rounds, world_step, run, with_state};
+    ghost use Rattle.nm_world.specs.World.{elementary, one_step, scene_of, sending_of, replies_on, last_answered, followed, round, rounds, world_step, run, with_state, journal_of, StopsAtEvent};
 
     /// Does an elementary event, notes in the trail what came of it, and answers where it sent a request, if it did. One that
     /// doesn't apply, or isn't elementary, changes nothing else.
-    pub fn apply(&mut self, event: &Event) -> Result<Option<Sending>, NoMemory>
+    ///
+    /// An entry that the event makes is in the journal before anything rests on it.
+    pub fn apply<D: Disk>(
+        &mut self,
+        disk: &mut D,
+        event: &Event,
+    ) -> Result<Option<Sending>, RunFault>
+        requires going { self.old.failed ≡ None }
+        requires fits { Fits D.told D.may_leave (journal_of self.old) disk.old }
         ensures applied { OnOk result (self.new ≡ with_state self.old (one_step (C.meaning self.old.content) self.old.tables self.old.course self.old.state event.now)) }
         ensures sent { IfOk result (λ sending. sending ≡ sending_of (elementary (C.meaning self.old.content) self.old.tables self.old.course (scene_of self.old.state) event.now).happened) }
-        ensures unchanged { OnErr result (self.new ≡ self.old) }
+        ensures no_memory { result ≡ Err run_fault.NoMemory → self.new ≡ self.old }
+        ensures stopped { result ≡ Err run_fault.DiskFault → StopsAtEvent self.old self.new (elementary (C.meaning self.old.content) self.old.tables self.old.course (scene_of self.old.state) event.now) }
+        ensures disk_fault { result ≡ Err run_fault.DiskFault → Rose (D.faults disk.old) (D.faults disk.new) }
+        ensures journals { Journals D.told D.faults D.may_leave D.moment D.might_have_left self.old.state.entries (one_step (C.meaning self.old.content) self.old.tables self.old.course self.old.state event.now).entries (journal_of self.new) disk.old disk.new }
     {
         // Once the world has changed, the trail must find room.
         self.trail.reserve(1)?;
         let noted = event.copy()?;
-        let happened = self.scene.come(event)?;
+        let happened = self.scene.come(disk, event)?;
         let sending = happened.sending();
         self.trail.push_reserved(Passed {
             event: noted,
@@ -152,68 +179,108 @@ impl<C: Content + Drop> World<C> {
     }
 
     // The answer of the last reply on a link.
-    fn answer_last(&mut self, change: ChangeNo, sending: Sending) -> Result<(), NoMemory>
-        ensures { OnOk result (self.new ≡ with_state self.old (last_answered (C.meaning self.old.content) self.old.tables self.old.course self.old.state change sending)) }
+    fn answer_last<D: Disk>(
+        &mut self,
+        disk: &mut D,
+        change: ChangeNo,
+        sending: Sending,
+    ) -> Result<(), RunFault>
+        requires going { self.old.failed ≡ None }
+        requires fits { Fits D.told D.may_leave (journal_of self.old) disk.old }
+        ensures answered { OnOk result (self.new ≡ with_state self.old (last_answered (C.meaning self.old.content) self.old.tables self.old.course self.old.state change sending)) }
+        ensures disk_fault { result ≡ Err run_fault.DiskFault → Rose (D.faults disk.old) (D.faults disk.new) }
+        ensures journals { Journals D.told D.faults D.may_leave D.moment D.might_have_left self.old.state.entries (last_answered (C.meaning self.old.content) self.old.tables self.old.course self.old.state change sending).entries (journal_of self.new) disk.old disk.new }
     {
         let count = self.replies_at(usize::from(sending.device.get()) - 1);
         let Ok(number) = u32::try_from(count) else {
-            return Err(NoMemory);
+            return Err(RunFault::NoMemory);
         };
-        self.apply(&Event::Answer {
-            change,
-            device: sending.device,
-            link: sending.link,
-            number,
-        })?;
+        self.apply(
+            disk,
+            &Event::Answer {
+                change,
+                device: sending.device,
+                link: sending.link,
+                number,
+            },
+        )?;
         Ok(())
     }
 
     // A turn, and where it sent, the delivery and the answer of the last reply.
-    fn round(&mut self, change: ChangeNo) -> Result<(), NoMemory>
-        ensures { OnOk result (self.new ≡ with_state self.old (round (C.meaning self.old.content) self.old.tables self.old.course self.old.state change)) }
+    fn round<D: Disk>(&mut self, disk: &mut D, change: ChangeNo) -> Result<(), RunFault>
+        requires going { self.old.failed ≡ None }
+        requires fits { Fits D.told D.may_leave (journal_of self.old) disk.old }
+        ensures went { OnOk result (self.new ≡ with_state self.old (round (C.meaning self.old.content) self.old.tables self.old.course self.old.state change)) }
+        ensures disk_fault { result ≡ Err run_fault.DiskFault → Rose (D.faults disk.old) (D.faults disk.new) }
+        ensures journals { Journals D.told D.faults D.may_leave D.moment D.might_have_left self.old.state.entries (round (C.meaning self.old.content) self.old.tables self.old.course self.old.state change).entries (journal_of self.new) disk.old disk.new }
     {
-        let Some(sending) = self.apply(&Event::Turn { change })? else {
+        let Some(sending) = self.apply(disk, &Event::Turn { change })? else {
             return Ok(());
         };
-        self.apply(&Event::Deliver {
-            change,
-            device: sending.device,
-            link: sending.link,
-        })?;
-        self.answer_last(change, sending)
+        self.apply(
+            disk,
+            &Event::Deliver {
+                change,
+                device: sending.device,
+                link: sending.link,
+            },
+        )?;
+        self.answer_last(disk, change, sending)
     }
 
     // So many rounds.
     #[tactic(auto, using(crate::proofs::Rounds::rounding))]
-    fn rounds(&mut self, change: ChangeNo, turns: u32) -> Result<(), NoMemory>
-        ensures { OnOk result (self.new ≡ with_state self.old (rounds (C.meaning self.old.content) self.old.tables turns self.old.course self.old.state change)) }
+    fn rounds<D: Disk>(
+        &mut self,
+        disk: &mut D,
+        change: ChangeNo,
+        turns: u32,
+    ) -> Result<(), RunFault>
+        requires going { self.old.failed ≡ None }
+        requires fits { Fits D.told D.may_leave (journal_of self.old) disk.old }
+        ensures went { OnOk result (self.new ≡ with_state self.old (rounds (C.meaning self.old.content) self.old.tables turns self.old.course self.old.state change)) }
+        ensures disk_fault { result ≡ Err run_fault.DiskFault → Rose (D.faults disk.old) (D.faults disk.new) }
+        ensures journals { Journals D.told D.faults D.may_leave D.moment D.might_have_left self.old.state.entries (rounds (C.meaning self.old.content) self.old.tables turns self.old.course self.old.state change).entries (journal_of self.new) disk.old disk.new }
     {
         for _ in 0..turns {
-            self.round(change)?;
+            self.round(disk, change)?;
         }
         Ok(())
     }
 
     // Does what an event says, a round by its elementary events.
-    fn step(&mut self, event: &Event) -> Result<(), NoMemory>
-        ensures { OnOk result (self.new ≡ with_state self.old (world_step (C.meaning self.old.content) self.old.tables self.old.course self.old.state event.now)) }
+    fn step<D: Disk>(&mut self, disk: &mut D, event: &Event) -> Result<(), RunFault>
+        requires going { self.old.failed ≡ None }
+        requires fits { Fits D.told D.may_leave (journal_of self.old) disk.old }
+        ensures stepped { OnOk result (self.new ≡ with_state self.old (world_step (C.meaning self.old.content) self.old.tables self.old.course self.old.state event.now)) }
+        ensures disk_fault { result ≡ Err run_fault.DiskFault → Rose (D.faults disk.old) (D.faults disk.new) }
+        ensures journals { Journals D.told D.faults D.may_leave D.moment D.might_have_left self.old.state.entries (world_step (C.meaning self.old.content) self.old.tables self.old.course self.old.state event.now).entries (journal_of self.new) disk.old disk.new }
     {
         match event {
-            Event::Round { change, turns } => self.rounds(*change, *turns),
+            Event::Round { change, turns } => self.rounds(disk, *change, *turns),
             _ => {
-                self.apply(event)?;
+                self.apply(disk, event)?;
                 Ok(())
             }
         }
     }
 
-    /// Does what the events say, in order, and gives the world back; where there is no memory it is gone.
-    pub fn run(self, events: &[Event]) -> Result<World<C>, NoMemory>
-        ensures { IfOk result (λ world. world ≡ with_state self (run (C.meaning self.content) self.tables self.course self.state events.now)) }
+    /// Does what the events say, in order, and gives the world back; where the disk fails or there is no memory it is gone.
+    pub fn run<D: Disk>(self, disk: &mut D, events: &[Event]) -> Result<World<C>, RunFault>
+        requires going { self.failed ≡ None }
+        requires fits { Fits D.told D.may_leave (journal_of self) disk.old }
+        ensures done { IfOk result (λ world. world ≡ with_state self (run (C.meaning self.content) self.tables self.course self.state events.now)) }
+        ensures fits { IfOk result (λ world. Fits D.told D.may_leave (journal_of world) disk.new) }
+        ensures stored { IfOk result (λ world. IfSome (D.told disk.new) (ReadsAs world.state.entries)) }
+        ensures disk_fault { result ≡ Err run_fault.DiskFault → Rose (D.faults disk.old) (D.faults disk.new) }
+        ensures keeps { KeepsDisk D.told D.faults disk.old disk.new }
+        // A crash at any moment of the run leaves the entries so far, the one being written with them or not.
+        ensures any_moment { IsSome (D.told disk.old) → AnyMoment D.moment D.might_have_left disk.old disk.new (IsBetween self.state.entries (run (C.meaning self.content) self.tables self.course self.state events.now).entries) }
     {
         let mut world = self;
         for event in events {
-            world.step(event)?;
+            world.step(disk, event)?;
         }
         Ok(world)
     }

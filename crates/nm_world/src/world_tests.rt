@@ -1,4 +1,4 @@
-ghost use Rattle.std.specs.Prelude.{IfOk};
+ghost use Rattle.std.specs.Prelude.{◌≡◌, [], None, IfOk};
 ghost use Rattle.nm_proto.specs.FlatContent.{flat_meaning};
 ghost use Rattle.nm_world.specs.World.{IsFirst};
 ghost use Rattle.std.specs.List.{All};
@@ -9,7 +9,9 @@ use crate::world::World;
 use nm_base::{
     ChangeNo, DEFAULT_TIMEOUT, DeviceMask, DeviceNo, EditNo, Label, MANAGER, NoMemory, SessionId,
 };
+use nm_disk::MemoryDisk;
 use nm_history::{Outcome, Recorded, outcome_of};
+use nm_journal::{Journal, read_entries};
 use nm_proto::{
     Content, DefaultOperation, Event, FlatConfig, FlatContent, FlatEdit, Listed, NumberMap,
     PlannedEdit, Reply, Request, Show, Tables,
@@ -74,7 +76,15 @@ fn planned(number: u8) -> Result<PlannedEdit, Fail> {
 }
 
 // Two devices, and a change set that sets cell 7 to 2 on both.
-fn two_devices(alloc: Global, change: ChangeNo) -> Result<World<FlatContent>, Fail> {
+fn two_devices(
+    alloc: Global,
+    change: ChangeNo,
+    journal: Journal,
+) -> Result<World<FlatContent>, Fail>
+    requires empty { journal ≡ record { entries = []; failed = None } }
+    ensures going { IfOk result (λ w. w.failed ≡ None) }
+    ensures entries { IfOk result (λ w. w.state.entries ≡ []) }
+{
     let running = two_configs(alloc)?;
     let mut edits = Listed::new(alloc);
     edits.push(edit_of(alloc)?)?;
@@ -82,7 +92,8 @@ fn two_devices(alloc: Global, change: ChangeNo) -> Result<World<FlatContent>, Fa
     let plan = [planned(1)?, planned(2)?];
     let content = FlatContent::new(alloc);
     let tables = Tables::new(edits, Listed::new(alloc));
-    Ok(World::new(alloc, content, tables, running, course, &plan, 0)?)
+    let world = World::new(alloc, content, tables, running, course, &plan, 0, journal)?;
+    Ok(world)
 }
 
 // Whether a device runs the edited configuration.
@@ -117,22 +128,31 @@ fn eighteen_rounds_confirm(rt: HostRuntime) -> Result<(), Fail> {
         (17, 2, Outcome::Confirmed),
         (18, 3, Outcome::Confirmed),
     ] {
-        let world = two_devices(rt.alloc(), change)?;
-        let world = world.run(&[Event::Submit { change }, Event::Round { change, turns }])?;
+        let mut disk = MemoryDisk::with_limit(rt.alloc(), 64, 32)?;
+        let journal = Journal::fresh(rt.alloc(), &mut disk)?;
+        let world = two_devices(rt.alloc(), change, journal)?;
+        let events = [Event::Submit { change }, Event::Round { change, turns }];
+        let world = world.run(&mut disk, &events)?;
         assert_eq!(rt; world.entries().len(), entries);
+        assert_eq!(rt; read_entries(rt.alloc(), disk.bytes())?.len(), entries);
         assert!(rt; all_run_edited(rt.alloc(), &world, outcome)?);
     }
     Ok(())
 }
 
 // One device beside which one operator works, and no change set.
-fn one_operator(alloc: Global) -> Result<World<FlatContent>, Fail> {
+fn one_operator(alloc: Global, journal: Journal) -> Result<World<FlatContent>, Fail>
+    requires empty { journal ≡ record { entries = []; failed = None } }
+    ensures going { IfOk result (λ w. w.failed ≡ None) }
+    ensures entries { IfOk result (λ w. w.state.entries ≡ []) }
+{
     let running = one_config(alloc)?;
     let change = ChangeNo::new(1).ok_or("range")?;
     let course = course_of(alloc, change)?;
     let content = FlatContent::new(alloc);
     let tables = Tables::new(Listed::new(alloc), Listed::new(alloc));
-    Ok(World::new(alloc, content, tables, running, course, &[], 1)?)
+    let world = World::new(alloc, content, tables, running, course, &[], 1, journal)?;
+    Ok(world)
 }
 
 // Operator 1 asks device 1.
@@ -158,8 +178,10 @@ fn operators_come_and_go(rt: HostRuntime) -> Result<(), Fail> {
     let user = Label::new(rt.alloc(), "alice")?;
     let again = user.copy()?;
     let first = SessionId::new(1).ok_or("range")?;
-    let world = one_operator(rt.alloc())?;
-    let world = world.run(&[
+    let mut disk = MemoryDisk::with_limit(rt.alloc(), 1, 3)?;
+    let journal = Journal::fresh(rt.alloc(), &mut disk)?;
+    let world = one_operator(rt.alloc(), journal)?;
+    let events = [
         asking(device, Request::OpenSession { user }),
         asking(device, Request::GetConfig),
         Event::Leave {
@@ -170,7 +192,8 @@ fn operators_come_and_go(rt: HostRuntime) -> Result<(), Fail> {
             operator: 1,
             device,
         },
-    ])?;
+    ];
+    let world = world.run(&mut disk, &events)?;
     let [opened, rows, left, idle] = world.trail() else {
         return Err("not 4 entries")?;
     };

@@ -15,6 +15,7 @@ returns g c =
       content = c.self.inside.content;
       tables = c.self.inside.tables;
       course = c.self.inside.course;
-      state = record { devices = devices; links = c.self.inside.links.items; entries = c.self.inside.entries.items; operators = operators };
+      state = record { devices = devices; links = c.self.inside.links.items; entries = c.self.inside.journal.entries; operators = operators };
+      failed = c.self.inside.journal.failed;
     } in
     rw (← c.self.view_is) (e.happened_is, asked_so old a c.leave_at.new.devices.items operators e.devices_are e.operators_are)

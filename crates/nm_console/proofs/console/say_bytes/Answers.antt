@@ -1,0 +1,11 @@
+use Rattle.std.proofs.Common.{Some, sym, subst}
+use Rattle.nm_console.specs.Console.{TellsOver}
+use Rattle.nm_console.proofs.Replays.{check_over}
+use Rattle.nm_console.proofs.console.say_bytes.Goals as goal
+
+pub returns-in-Ok-clause-told : goal.returns-in-Ok-clause-told
+returns-in-Ok-clause-told g c =
+    let said = c.in-Ok.said in
+    let stored = g.D.Disk.told c.args.journal.now in
+    subst (λ command. TellsOver (Some command) c.args.bytes.now stored stored said.status said.text.items) (sym c.in-Check.is)
+    (check_over c.args.bytes.now stored said.status said.text.items c.in-Ok.ensures.told)
