@@ -84,7 +84,7 @@ fn fronts_are_read(rt: HostRuntime) -> Result<(), Fail> {
     ] {
         for size in first..=last {
             let mut disk = MemoryDisk::with_limit(rt.alloc(), 64, 64)?;
-            for byte in &bytes[..size] {
+            for byte in &bytes[..size.min(bytes.len())] {
                 let end = disk.bytes().len() as u64;
                 let _ = disk.write_at(end, &[*byte]);
             }
