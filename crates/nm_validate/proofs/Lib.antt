@@ -1,0 +1,9 @@
+pub mod Firsts
+pub mod Rows
+pub mod Lasts
+pub mod Leasts
+pub mod Grouped
+pub mod Outwards
+pub mod Below
+pub mod Missing
+pub mod Loops

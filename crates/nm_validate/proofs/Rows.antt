@@ -1,0 +1,83 @@
+-- The first row that a test refuses, as rows are listed.
+use Rattle.std.proofs.Common.{◌≡◌, List, [], ◌∷◌, map, Bool, true, false, cond, not, ◌&&◌, Option, Some, is_some, refl, sym, ap, ◌∙◌}
+use Rattle.std.specs.List.{find, AllByRecursion}
+use lib.Dec.{T}
+use Rattle.std.specs.FinMap.{get, get-entries, entries, entries_sorted}
+use Rattle.std.specs.FinMap.Entries.{find as found, is_sorted, below_all}
+use Rattle.std.specs.Ordering.{is_lt, is_eq, ordering_reverse}
+use Rattle.std.specs.declared.cmp.Ordering.{Ordering}
+use Rattle.std.specs.declared.cmp.Ordering.TheVariants.{Less, Equal, Greater}
+use Rattle.std.proofs.lemmas.Cmp.{tied_itself}
+use Rattle.nm_types.specs.PathLaws.{paths_total}
+use Rattle.nm_types.specs.declared.value.Value.{Value}
+use Rattle.nm_types.specs.Path.{PathStep, path_cmp}
+use Rattle.nm_tree.specs.Nodes.{SchemaTree}
+use Rattle.nm_path.specs.Spelling.{node_of}
+use Rattle.nm_config.specs.Rows.{Rows}
+use Rattle.nm_rules.specs.declared.rule.Rule.TheVariants.{ValueType, Key}
+use Rattle.nm_rules.specs.Violated.{fits_row, has_keys, violated}
+use Rattle.nm_rules.specs.Violation.{least_at}
+use Rattle.nm_validate.specs.Listed.{Row, path_in, first_bad_value, first_bad_key}
+use Rattle.nm_validate.proofs.Firsts.{first_of, second_of, least_key}
+
+-- ---- a map has its entries
+
+apart : (r : Ordering) → T (is_lt r) → is_eq (ordering_reverse r) ≡ false
+apart Less h = refl
+apart Equal h = absurd h
+apart Greater h = absurd h
+
+later : (e : Row) (es fs : List Row) → T (below_all path_cmp e.0 fs) → AllByRecursion (λ f. found path_cmp f.0 es ≡ Some f.1) fs → AllByRecursion (λ f. found path_cmp f.0 (e ∷ es) ≡ Some f.1) fs
+later e es [] b h = tt
+later e es (f ∷ fs) b h = (
+    ap (λ x. cond x (Some e.1) (found path_cmp f.0 es)) (ap is_eq (paths_total.antisymm f.0 e.0) ∙ apart (path_cmp e.0 f.0) (first_of _ _ b)) ∙ h.0,
+    later e es fs (second_of _ _ b) h.1,
+)
+
+all_found : (es : List Row) → T (is_sorted path_cmp es) → AllByRecursion (λ f. found path_cmp f.0 es ≡ Some f.1) es
+all_found [] h = tt
+all_found (e ∷ es) h = (ap (λ x. cond x (Some e.1) (found path_cmp e.0 es)) (ap is_eq (tied_itself paths_total e.0)), later e es es (first_of _ _ h) (all_found es (second_of _ _ h)))
+
+-- a map has these rows
+abbrev pub Have : Rows → List Row → Type 0
+Have rows es = AllByRecursion (λ e. get rows e.0 ≡ Some e.1) es
+
+have_all : (rows : Rows) (es : List Row) → AllByRecursion (λ f. found path_cmp f.0 (entries rows) ≡ Some f.1) es → Have rows es
+have_all rows [] h = tt
+have_all rows (e ∷ es) h = (get-entries rows e.0 ∙ h.0, have_all rows es h.1)
+
+pub all_there : (rows : Rows) → Have rows (entries rows)
+all_there rows = have_all rows (entries rows) (all_found (entries rows) (entries_sorted rows))
+
+-- ---- the first row that a test refuses
+
+-- a test of paths that answers at each row as a test of rows does finds the same
+pub same_first : (test : List PathStep → Bool) (row_test : Row → Bool) (es : List Row) → AllByRecursion (λ e. test e.0 ≡ row_test e) es → find test (map (λ e. e.0) es) ≡ path_in (find row_test es)
+same_first test row_test [] h = refl
+same_first test row_test (e ∷ es) h =
+    let rest = same_first test row_test es h.1 in
+    ap (λ b. cond b (Some e.0) (find test (map (λ (r : Row). r.0) es))) h.0
+    ∙ elim (row_test e) as (λ b. cond b (Some e.0) (find test (map (λ (r : Row). r.0) es)) ≡ path_in (cond b (Some e) (find row_test es))) [
+      | true ↦ refl
+      | false ↦ rest
+    ]
+
+module _ (t : SchemaTree) (rows : Rows) where
+  there : (o : Option Value) (v : Value) (b : Bool) → o ≡ Some v → (is_some o && b) ≡ b
+  there o v b e = ap (λ x. is_some x && b) e
+
+  values_by : (es : List Row) → Have rows es → AllByRecursion (λ e. violated t rows ValueType e.0 ≡ not (fits_row t e.0 (Some e.1))) es
+  values_by [] h = tt
+  values_by (e ∷ es) h = (there (get rows e.0) e.1 (not (fits_row t e.0 (get rows e.0))) h.0 ∙ ap (λ o. not (fits_row t e.0 o)) h.0, values_by es h.1)
+
+  keys_by : (es : List Row) → Have rows es → AllByRecursion (λ e. violated t rows Key e.0 ≡ not (has_keys t.nodes (node_of t e.0) e.0)) es
+  keys_by [] h = tt
+  keys_by (e ∷ es) h = (there (get rows e.0) e.1 (not (has_keys t.nodes (node_of t e.0) e.0)) h.0, keys_by es h.1)
+
+  pub bad_values : first_bad_value t (entries rows) ≡ least_at t rows ValueType
+  unfolding least_at
+  bad_values = sym (least_key (violated t rows ValueType) rows ∙ same_first (violated t rows ValueType) (λ e. not (fits_row t e.0 (Some e.1))) (entries rows) (values_by (entries rows) (all_there rows)))
+
+  pub bad_keys : first_bad_key t (entries rows) ≡ least_at t rows Key
+  unfolding least_at
+  bad_keys = sym (least_key (violated t rows Key) rows ∙ same_first (violated t rows Key) (λ e. not (has_keys t.nodes (node_of t e.0) e.0)) (entries rows) (keys_by (entries rows) (all_there rows)))

@@ -1,0 +1,37 @@
+-- The paths of rows, in groups by the nodes that they lead to.
+use Rattle.std.specs.Prelude.{◌≡◌, ◌<◌, ◌++◌, ℕ, List, [], ◌∷◌, length, map, filter, Bool, Option, Some, None, slice_get, if◌then◌else◌, ◌==◌, Vec}
+use Rattle.std.specs.Borrow.{Bor}
+use Rattle.std.specs.declared.alloc.Global.{Global}
+use Rattle.nm_types.specs.Path.{PathStep}
+use Rattle.nm_tree.specs.Nodes.{SchemaTree}
+use Rattle.nm_rules.specs.Guards.{leads_to}
+
+-- paths that are lent
+abbrev pub Group : Type 0
+Group = Vec (Bor (List PathStep)) Global
+
+abbrev pub paths_in : Option Group → List (List PathStep)
+paths_in None = []
+paths_in (Some group) = map (λ path. path.now) group.items
+
+-- the paths of a group, and none where there is no group of this number
+abbrev pub in_group : List Group → ℕ → List (List PathStep)
+in_group groups x = paths_in (slice_get groups x)
+
+-- so many groups without paths
+pub record AreEmpty (count : ℕ) (groups : List Group) : Type 0 where
+  pub count_is : length groups ≡ count
+  pub none : (x : ℕ) → in_group groups x ≡ []
+
+abbrev pub one_if : Bool → List PathStep → List (List PathStep)
+one_if here path = if here then path ∷ [] else []
+
+-- a path is put behind the others of its group, and the other groups stay
+pub record Puts (path : List PathStep) (at : ℕ) (before after : List Group) : Type 0 where
+  pub same_count : length after ≡ length before
+  pub put : (x : ℕ) → x < length before → in_group after x ≡ in_group before x ++ one_if (at == x) path
+
+-- each node of a tree has the group of those of these paths that lead to it, in their order
+pub record AreOf (t : SchemaTree) (paths : List (List PathStep)) (groups : List Group) : Type 0 where
+  pub count : length groups ≡ length t.nodes
+  pub each : (x : ℕ) → x < length t.nodes → in_group groups x ≡ filter (leads_to t x) paths

@@ -1,0 +1,5 @@
+pub mod Listed
+pub mod Members
+pub mod Placing
+pub mod Least
+pub mod Groups

@@ -1,0 +1,174 @@
+//! The places at which nodes may stand, in the configuration at hand.
+
+ghost use Rattle.std.specs.Prelude.{◌≡◌, ◌∷◌, ◌++◌, [], IfOk, OnOk, map};
+ghost use Rattle.std.specs.FinMap.{keys};
+ghost use Rattle.nm_rules.specs.Places as spec;
+ghost use Rattle.std.specs.List.{flat_map};
+ghost use Rattle.nm_validate.specs.Groups as group;
+ghost use Rattle.nm_validate.specs.Placing.{place_by};
+
+use crate::cases::{bare, is_allowed, members_of};
+use nm_base::NoMemory;
+use nm_config::RowMap;
+use nm_path::node_of;
+use nm_tree::Schema;
+use nm_types::{Path, Value};
+use std::alloc::Global;
+
+// So many groups without paths.
+fn no_groups<'r>(alloc: Global, count: usize) -> Result<Vec<Vec<&'r Path>>, NoMemory>
+    ensures { IfOk result (λ groups. group.AreEmpty count groups.items) }
+{
+    let mut groups = Vec::with_capacity(alloc, count)?;
+    for _at in 0..count {
+        groups.push(Vec::new(alloc))?;
+    }
+    Ok(groups)
+}
+
+// Puts a path into a group, where there is one of this number.
+fn put_into<'r>(groups: &mut Vec<Vec<&'r Path>>, at: usize, path: &'r Path) -> Result<(), NoMemory>
+    ensures { OnOk result (group.Puts path.now at groups.old.items groups.new.items) }
+{
+    if let Some(paths) = groups.get_mut(at) {
+        paths.push(path)?;
+    }
+    Ok(())
+}
+
+/// The paths of the rows of each node, in path order.
+pub fn by_node<'r>(
+    alloc: Global,
+    schema: &Schema,
+    all: &[(&'r Path, &'r Value)],
+) -> Result<Vec<Vec<&'r Path>>, NoMemory>
+    ensures { IfOk result (λ groups. group.AreOf schema.now (map (λ row. row.0.now) all.now) groups.items) }
+{
+    let mut groups = no_groups(alloc, schema.len())?;
+    for (path, _value) in all {
+        if let Some(at) = node_of(schema, path) {
+            put_into(&mut groups, at, path)?;
+        }
+    }
+    Ok(groups)
+}
+
+// Copies of the paths of a group, and none where there is no group of this number.
+fn copies(alloc: Global, groups: &[Vec<&Path>], at: usize) -> Result<Vec<Path>, NoMemory>
+    ensures { IfOk result (λ paths. paths.items ≡ group.in_group groups.now at) }
+{
+    let mut paths = Vec::new(alloc);
+    let Some(group) = groups.get(at) else {
+        return Ok(paths);
+    };
+    for path in group {
+        paths.push(path.copy(alloc)?)?;
+    }
+    Ok(paths)
+}
+
+// Puts the path of a node at a place behind others, where its case holds.
+fn put_place<M: RowMap>(
+    alloc: Global,
+    schema: &Schema,
+    config: &M,
+    above: &Path,
+    at: usize,
+    members: &Option<Vec<usize>>,
+    paths: &mut Vec<Path>,
+) -> Result<(), NoMemory>
+    ensures { OnOk result (paths.new.items ≡ paths.old.items ++ place_by schema.now (M.rows config.now) above.now at members.now) }
+{
+    if !is_allowed(alloc, schema, config, above, members)? {
+        return Ok(());
+    }
+    let step = bare(alloc, schema, at)?;
+    let path = above.with_step(alloc, step)?;
+    paths.push(path)?;
+    Ok(())
+}
+
+// The paths of a node whose case has these nodes, at these places.
+fn placed_by<M: RowMap>(
+    alloc: Global,
+    schema: &Schema,
+    config: &M,
+    areas: &[Path],
+    at: usize,
+    members: &Option<Vec<usize>>,
+) -> Result<Vec<Path>, NoMemory>
+    ensures { IfOk result (λ paths. paths.items ≡ flat_map (λ above. place_by schema.now (M.rows config.now) above at members.now) areas.now) }
+{
+    let mut paths = Vec::new(alloc);
+    for above in areas {
+        put_place(alloc, schema, config, above, at, members, &mut paths)?;
+    }
+    Ok(paths)
+}
+
+/// The paths of a node at these places: those where its case holds.
+pub fn placed<M: RowMap>(
+    alloc: Global,
+    schema: &Schema,
+    config: &M,
+    areas: &[Path],
+    at: usize,
+) -> Result<Vec<Path>, NoMemory>
+    ensures { IfOk result (λ paths. paths.items ≡ spec.placed schema.now (M.rows config.now) areas.now at) }
+{
+    let members = members_of(alloc, schema, schema.case_in(at))?;
+    let paths = placed_by(alloc, schema, config, areas, at, &members)?;
+    Ok(paths)
+}
+
+// The top alone.
+fn top(alloc: Global) -> Result<Vec<Path>, NoMemory>
+    ensures { IfOk result (λ paths. paths.items ≡ [] ∷ []) }
+{
+    let mut paths = Vec::new(alloc);
+    paths.push(Path {
+        steps: Vec::new(alloc),
+    })?;
+    Ok(paths)
+}
+
+/// The places directly below a node, and the top for none.
+#[tactic(auto, using(crate::proofs::Below::other_areas))]
+pub fn areas<M: RowMap>(
+    alloc: Global,
+    schema: &Schema,
+    config: &M,
+    groups: &[Vec<&Path>],
+    parent: Option<usize>,
+) -> Result<Vec<Path>, NoMemory>
+    requires { group.AreOf schema.now (keys (M.rows config.now)) groups.now }
+    ensures { IfOk result (λ paths. paths.items ≡ spec.areas schema.now (M.rows config.now) parent) }
+{
+    let Some(at) = parent else {
+        return top(alloc);
+    };
+    schema.laws();
+    if schema.is_guard(at) {
+        let paths = copies(alloc, groups, at)?;
+        return Ok(paths);
+    }
+    let above = areas(alloc, schema, config, groups, schema.parent(at))?;
+    let paths = placed(alloc, schema, config, &above, at)?;
+    Ok(paths)
+}
+
+/// The places of a node: where it may stand.
+#[tactic(auto, unfolding(nm_rules::specs::Places::places))]
+pub fn places<M: RowMap>(
+    alloc: Global,
+    schema: &Schema,
+    config: &M,
+    groups: &[Vec<&Path>],
+    at: usize,
+) -> Result<Vec<Path>, NoMemory>
+    requires { group.AreOf schema.now (keys (M.rows config.now)) groups.now }
+    ensures { IfOk result (λ paths. paths.items ≡ spec.places schema.now (M.rows config.now) at) }
+{
+    let above = areas(alloc, schema, config, groups, schema.parent(at))?;
+    placed(alloc, schema, config, &above, at)
+}

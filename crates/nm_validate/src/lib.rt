@@ -1,0 +1,17 @@
+//! Whether a configuration is valid: the first rule that is violated, and the least path at which it is.
+//!
+//! Stands on `nm_rules`, whose definitions say when a rule is violated. The layers above rely on what is answered being
+//! exactly the violation that is told, whatever the rows lie over.
+#![tactic(auto)]
+
+mod keys;
+mod leafs;
+mod least;
+mod areas;
+mod cases;
+mod fits;
+mod value_types;
+
+pub use keys::least_bad_key;
+pub use leafs::least_missing_leaf;
+pub use value_types::least_bad_value;
