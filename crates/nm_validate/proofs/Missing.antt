@@ -16,7 +16,6 @@ use Rattle.nm_rules.proofs.Placed.{placed_law}
 use Rattle.nm_validate.proofs.Leasts.{filter_same, filter_none}
 
 module _ (t : SchemaTree) (rows : Rows) (sound : IsSound t.nodes) (x : ℕ) (lt : x < length t.nodes) where
-
   all_of : (a s c : Bool) (m : Bool) → m ≡ a → s ≡ true → (m && s && c) ≡ (a && c)
   all_of true s c m e f = ap (λ b. b && s && c) e ∙ ap (λ b. b && c) f
   all_of false s c m e f = ap (λ b. b && s && c) e

@@ -30,8 +30,8 @@ apart Greater h = absurd h
 later : (e : Row) (es fs : List Row) → T (below_all path_cmp e.0 fs) → AllByRecursion (λ f. found path_cmp f.0 es ≡ Some f.1) fs → AllByRecursion (λ f. found path_cmp f.0 (e ∷ es) ≡ Some f.1) fs
 later e es [] b h = tt
 later e es (f ∷ fs) b h = (
-    ap (λ x. cond x (Some e.1) (found path_cmp f.0 es)) (ap is_eq (paths_total.antisymm f.0 e.0) ∙ apart (path_cmp e.0 f.0) (first_of _ _ b)) ∙ h.0,
-    later e es fs (second_of _ _ b) h.1,
+  ap (λ x. cond x (Some e.1) (found path_cmp f.0 es)) (ap is_eq (paths_total.antisymm f.0 e.0) ∙ apart (path_cmp e.0 f.0) (first_of _ _ b)) ∙ h.0,
+  later e es fs (second_of _ _ b) h.1,
 )
 
 all_found : (es : List Row) → T (is_sorted path_cmp es) → AllByRecursion (λ f. found path_cmp f.0 es ≡ Some f.1) es

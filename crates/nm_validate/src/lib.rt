@@ -4,14 +4,17 @@
 //! exactly the violation that is told, whatever the rows lie over.
 #![tactic(auto)]
 
-mod keys;
-mod leafs;
-mod least;
 mod areas;
 mod cases;
 mod fits;
+mod keys;
+mod leafs;
+mod least;
 mod value_types;
 
 pub use keys::least_bad_key;
 pub use leafs::least_missing_leaf;
 pub use value_types::least_bad_value;
+
+#[cfg(test)]
+mod tests;

@@ -1,0 +1,151 @@
+ghost use Rattle.std.specs.Prelude.{IfOk, IfSome};
+ghost use Rattle.nm_path.specs.Sound.{IsSound};
+
+use super::*;
+use nm_base::{Label, NoMemory};
+use nm_config::Config;
+use nm_json::read_config;
+use nm_path::{read_path, write_path};
+use nm_schema::build;
+use nm_tree::Schema;
+use nm_types::{Chosen, Path, Value};
+use nm_yang::read_module;
+use std::alloc::Global;
+use std::test::Fail;
+
+// What has to be there stands at the top, behind a container with presence, in entries, and in a container in these.
+const MODULE: &str =
+    "module ez { yang-version 1.1; namespace \"urn:ez\"; prefix ez; leaf top { type string; mandatory true; } container box { presence it; leaf must { type string; mandatory true; } list srv { key id; leaf id { type uint8; } leaf port { type uint16; } container tls { leaf cert { type string; mandatory true; } } } } }";
+
+fn sample(alloc: Global) -> Result<Option<Schema>, NoMemory>
+    ensures { IfOk result (λ found. IfSome found (λ schema. IsSound schema.nodes)) }
+{
+    let mut modules = Vec::new(alloc);
+    match read_module(alloc, MODULE.as_bytes()) {
+        Ok(module) => modules.push(module)?,
+        Err(_) => return Ok(None),
+    }
+    match build(alloc, &modules) {
+        Ok(schema) => Ok(Some(schema)),
+        Err(_) => Ok(None),
+    }
+}
+
+// A path as it is printed, and nothing for none.
+fn path_text(alloc: Global, schema: &Schema, found: &Option<Path>) -> Result<Label, NoMemory> {
+    match found {
+        None => Label::new(alloc, ""),
+        Some(path) => write_path(alloc, schema, path),
+    }
+}
+
+// Where a mandatory leaf isn't there in the configuration of a JSON text.
+fn missing_in(alloc: Global, schema: &Schema, text: &str) -> Result<Label, NoMemory>
+    requires { IsSound schema.now.nodes }
+{
+    match read_config(alloc, schema, text.as_bytes()) {
+        Err(_) => Label::new(alloc, "not read"),
+        Ok(config) => {
+            let found = least_missing_leaf(alloc, schema, &config)?;
+            path_text(alloc, schema, &found)
+        }
+    }
+}
+
+// A configuration, and the path that RFC 7950 section 7.6.5 says is wanted.
+const MISSING: &[(&str, &str)] = &[
+    ("{}", "/ez:top"),
+    ("{\"ez:top\":\"a\"}", ""),
+    ("{\"ez:top\":\"a\",\"ez:box\":{}}", "/ez:box/must"),
+    ("{\"ez:top\":\"a\",\"ez:box\":{\"must\":\"b\"}}", ""),
+    (
+        "{\"ez:top\":\"a\",\"ez:box\":{\"must\":\"b\",\"srv\":[{\"id\":2},{\"id\":1}]}}",
+        "/ez:box/srv[id='1']/tls/cert",
+    ),
+];
+
+#[test]
+fn missing_leafs_are_answered(rt: HostRuntime) -> Result<(), Fail> {
+    let alloc = rt.alloc();
+    let Some(schema) = sample(alloc)? else {
+        return Err(Fail::new("the module isn't read"));
+    };
+    for (text, expected) in MISSING {
+        assert_eq!(rt;
+            missing_in(alloc, &schema, text)?.as_str(),
+            *expected,
+            "{text}"
+        );
+    }
+    Ok(())
+}
+
+// Where a value isn't of its type in the configuration that has a number at a path.
+fn bad_in(alloc: Global, schema: &Schema, text: &str, number: i128) -> Result<Label, NoMemory> {
+    let Ok(path) = read_path(alloc, schema, text) else {
+        return Label::new(alloc, "not read");
+    };
+    let mut config = Config::new(alloc);
+    config.put(path, Value::Int(number))?;
+    let found = least_bad_value(alloc, schema, &config)?;
+    path_text(alloc, schema, &found)
+}
+
+// A path, a number as its value, and the path if that isn't of its type (RFC 7950 sections 7.5.1, 9.2 and 9.4).
+const BAD_VALUES: &[(&str, i128, &str)] = &[
+    ("/ez:box/srv[id='1']/port", 80, ""),
+    (
+        "/ez:box/srv[id='1']/port",
+        65536,
+        "/ez:box/srv[id='1']/port",
+    ),
+    ("/ez:top", 1, "/ez:top"),
+    ("/ez:box", 1, "/ez:box"),
+];
+
+#[test]
+fn bad_values_are_answered(rt: HostRuntime) -> Result<(), Fail> {
+    let alloc = rt.alloc();
+    let Some(schema) = sample(alloc)? else {
+        return Err(Fail::new("the module isn't read"));
+    };
+    for (text, number, expected) in BAD_VALUES {
+        assert_eq!(rt;
+            bad_in(alloc, &schema, text, *number)?.as_str(),
+            *expected,
+            "{text}"
+        );
+    }
+    Ok(())
+}
+
+// Whether an entry is bad that is chosen by these numbers.
+fn is_bad_entry(alloc: Global, schema: &Schema, numbers: &[i128]) -> Result<bool, NoMemory> {
+    let Ok(mut path) = read_path(alloc, schema, "/ez:box/srv[id='1']") else {
+        return Ok(false);
+    };
+    let mut keys = Vec::new(alloc);
+    for number in numbers {
+        keys.push(Value::Int(*number))?;
+    }
+    if let Some(step) = path.steps.last_mut() {
+        step.chosen = Chosen::Keys(keys);
+    }
+    let mut config = Config::new(alloc);
+    config.put(path, Value::Present)?;
+    Ok(least_bad_key(alloc, schema, &config)?.is_some())
+}
+
+// An entry has one key of each leaf that the key statement names, of its type (RFC 7950 section 7.8.2).
+#[test]
+fn bad_keys_are_answered(rt: HostRuntime) -> Result<(), Fail> {
+    let alloc = rt.alloc();
+    let Some(schema) = sample(alloc)? else {
+        return Err(Fail::new("the module isn't read"));
+    };
+    assert!(rt; !is_bad_entry(alloc, &schema, &[255])?);
+    assert!(rt; is_bad_entry(alloc, &schema, &[256])?);
+    assert!(rt; is_bad_entry(alloc, &schema, &[])?);
+    assert!(rt; is_bad_entry(alloc, &schema, &[1, 2])?);
+    Ok(())
+}
