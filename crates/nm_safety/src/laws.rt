@@ -1,0 +1,17 @@
+//! What every run of the world keeps.
+
+ghost use Rattle.std.specs.Prelude.{List};
+ghost use Rattle.nm_proto.specs.declared.plan.Event.{Event as AnEvent};
+ghost use Rattle.nm_network.specs.World.{Setting, run, start};
+ghost use Rattle.nm_safety.specs.Safe.{AreSoundFrom};
+
+use nm_proto::Content;
+
+/// After any events, in any order, whatever the devices' configurations and the change sets, with any operators beside them: the
+/// history of each device that began valid leads to it. So it answers as one thread, its running configuration is valid and
+/// changes only by one commit whole or its exact undoing, and never under another session's lock (RFC 6241 sections 7.5 and 8.4,
+/// RFC 5717).
+pub fn every_device_is_sound<C: Content>(content: &C)
+    ensures { (setting : Setting C.Edit) (running : List C.Config) (events : List AnEvent)
+        → AreSoundFrom (C.meaning content.now) setting running (run (C.meaning content.now) setting (start setting running) events) }
+{}

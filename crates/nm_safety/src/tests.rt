@@ -1,0 +1,9 @@
+use super::*;
+use nm_proto::FlatContent;
+
+// The laws are functions that do nothing.
+#[test]
+fn laws_do_nothing(rt: HostRuntime) {
+    let content = FlatContent::new(rt.alloc());
+    laws::every_device_is_sound(&content);
+}
