@@ -18,3 +18,15 @@ module _ {A : Type 0} where
   at_set P (x ∷ xs) zero old new h now all (suc j) = all (suc j)
   at_set P (x ∷ xs) (suc i) old new h now all zero = all zero
   at_set P (x ∷ xs) (suc i) old new h now all (suc j) = at_set (λ k. P (suc k)) xs i old new h now (λ k. all (suc k)) j
+
+  pub set_other : (xs : List A) (k j : ℕ) (x : A) → (j ≡ k → ⊥) → slice_get (slice_set xs k x) j ≡ slice_get xs j
+  set_other [] k j x ne = refl
+  set_other (z ∷ xs) zero zero x ne = absurd (ne refl)
+  set_other (z ∷ xs) zero (suc j) x ne = refl
+  set_other (z ∷ xs) (suc k) zero x ne = refl
+  set_other (z ∷ xs) (suc k) (suc j) x ne = set_other xs k j x (λ e. ne (ap suc e))
+
+  pub set_none : (xs : List A) (k : ℕ) (x : A) → slice_get xs k ≡ None → slice_set xs k x ≡ xs
+  set_none [] k x e = refl
+  set_none (z ∷ xs) zero x e = absurd (let g : Some z ≡ None = e in cc)
+  set_none (z ∷ xs) (suc k) x e = ap (λ rest. z ∷ rest) (set_none xs k x e)

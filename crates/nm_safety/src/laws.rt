@@ -3,7 +3,7 @@
 ghost use Rattle.std.specs.Prelude.{List};
 ghost use Rattle.nm_proto.specs.declared.plan.Event.{Event as AnEvent};
 ghost use Rattle.nm_network.specs.World.{Setting, run, start};
-ghost use Rattle.nm_safety.specs.Safe.{AreSoundFrom};
+ghost use Rattle.nm_safety.specs.Safe.{AreSoundFrom, IsProper, IsSafe};
 
 use nm_proto::Content;
 
@@ -14,4 +14,13 @@ use nm_proto::Content;
 pub fn every_device_is_sound<C: Content>(content: &C)
     ensures { (setting : Setting C.Edit) (running : List C.Config) (events : List AnEvent)
         → AreSoundFrom (C.meaning content.now) setting running (run (C.meaning content.now) setting (start setting running) events) }
+{}
+
+/// After any events that a scenario may have, in any order, with any number of change sets and operators: an outcome is Confirmed only
+/// where a commit is in the journal for the change set; where one is, no outcome of its devices is Never, and each undone one was
+/// undone by a timer or a restart; a cancel undid only under an abort; and to each device the confirmed commit was sent once at most
+/// (RFC 6241 section 8.4). The devices are as in `every_device_is_sound`.
+pub fn every_run_is_safe<C: Content>(content: &C)
+    ensures { (setting : Setting C.Edit) (running : List C.Config) (events : List AnEvent) → IsProper {Node = C.Node} (C.meaning content.now) setting running events
+        → IsSafe (C.meaning content.now) setting running events (run (C.meaning content.now) setting (start setting running) events) }
 {}

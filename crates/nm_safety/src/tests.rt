@@ -6,4 +6,5 @@ use nm_proto::FlatContent;
 fn laws_do_nothing(rt: HostRuntime) {
     let content = FlatContent::new(rt.alloc());
     laws::every_device_is_sound(&content);
+    laws::every_run_is_safe(&content);
 }
