@@ -114,7 +114,7 @@ module _ (k : ℕ) (entries : List Entry) (before : IsOrdered k entries) where
       let first : list_any (decides k) entries ≡ false = subst (λ n. list_any (decides n) entries ≡ false) (sym same) (decided_started change verdict entries may).1 in
       let started : is_started k entries ≡ true = subst (λ n. is_started n entries ≡ true) (sym same) (decided_started change verdict entries may).0 in
       let new : verdict_in k (entries ++ Decided change verdict ∷ []) ≡ Some verdict =
-          subst (λ n. verdict_in k (entries ++ Decided n verdict ∷ []) ≡ Some verdict) same (verdict_new k entries verdict first) in
+      subst (λ n. verdict_in k (entries ++ Decided n verdict ∷ []) ≡ Some verdict) same (verdict_new k entries verdict first) in
       record {
         begun = λ e. absurd (let g : true ≡ false = sym started ∙ any_before (starts k) entries (Decided change verdict) e in cc);
         ended = λ e. ap is_some new;

@@ -130,7 +130,6 @@ module _ {Config TheEdit Node : Type 0} (m : Meaning Config TheEdit Node) (setti
           (slice_get setting.plans j) (slice_get w.slots j) (s.slots j));
       operators = s.operators;
     }
-
       where
         before : (j : ℕ) → suc j ≡ change → j ≡ change - 1
         before j e = omega (arith, e)
