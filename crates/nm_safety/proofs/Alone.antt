@@ -4,9 +4,8 @@ use Rattle.std.specs.List.{All}
 use Rattle.std.proofs.lemmas.Bool.Decides.{nat_tests}
 use Rattle.std.proofs.lemmas.Option.{same_Some}
 use Rattle.nm_proto.specs.Content.{Meaning, Laws, TablesState}
-use Rattle.nm_proto.specs.declared.message.Request.{Request}
 use Rattle.nm_sessions.specs.Sessions.{user_of, is_open, next_id}
-use Rattle.nm_device.specs.Device.{DeviceState, AllBelong, is_manager}
+use Rattle.nm_device.specs.Device.{DeviceState, is_manager}
 use Rattle.nm_device.specs.Table.{open_with}
 use Rattle.nm_device.proofs.Belonging.{Belongs, ended_belongs, advanced_belongs, restarted_belongs, step_belongs}
 use Rattle.nm_history.specs.declared.event.DeviceEvent.{DeviceEvent}
@@ -15,7 +14,7 @@ use Rattle.nm_history.specs.History.{Happened, RecordedState, entering, advancin
 use Rattle.nm_standing.specs.Moment.{Happens}
 use Rattle.nm_standing.specs.Numbered.{IsNumbered}
 use Rattle.nm_standing.proofs.Events.{is_asked, lost_does}
-use Rattle.nm_standing.proofs.Numbers.{numbers_keep, numbers_rise}
+use Rattle.nm_standing.proofs.Numbers.{numbers_keep}
 use Rattle.nm_standing.proofs.Tells.{pending_told}
 use Rattle.nm_standing.proofs.Users.{users_kept}
 use Rattle.nm_safety.specs.Support.{Owners, IsDevice}

@@ -1,6 +1,6 @@
 -- Steps for one device leave the change set that a course is of, and its verdict; and those that go out leave it in step, also where
 -- a device has no edit.
-use Rattle.std.proofs.Common.{◌≡◌, ◌∙◌, ℕ, ◌-◌, ◌+◌, ◌≤◌, Bool, true, false, ◌&&◌, List, Option, Some, None, IfSome, is_none, slice_get, slice_set, refl, sym, ap, subst}
+use Rattle.std.proofs.Common.{◌≡◌, ◌∙◌, ℕ, ◌-◌, ◌+◌, ◌≤◌, Bool, true, false, ◌&&◌, List, Option, Some, None, IfSome, is_none, slice_get, refl, ap}
 use Rattle.nm_base.specs.Count.{raised}
 use Rattle.nm_proto.specs.declared.ask.Ask.{Ask}
 use Rattle.nm_proto.specs.declared.ask.Ask.TheVariants as ask
@@ -19,10 +19,10 @@ use Rattle.nm_decider.specs.Rightly.{IsAsked}
 use Rattle.nm_decider.proofs.Actions.{asked}
 use Rattle.nm_wire.specs.declared.link.Exchange.{Exchange}
 use Rattle.nm_wire.specs.Asks.{ask_of}
-use Rattle.nm_wire.specs.Wire.{WireState, due, handled, handled_at}
+use Rattle.nm_wire.specs.Wire.{WireState, due, handled}
 use Rattle.nm_resync.specs.Resync.{ResyncState, settled_in}
 use Rattle.nm_manager.specs.Requests.{request_for}
-use Rattle.nm_manager.specs.Slot.{SideState, SlotState, with_pair, asked_in_fact, opens, may_go, gone, sends_if, sends_request, sends_on, sends, renews_if, renews_on, renews, settled_by, learns, resync_goes_on, hears, receives_due, receives_on, receives, awaits_resync, breaks_current, breaks_on, breaks}
+use Rattle.nm_manager.specs.Slot.{SideState, SlotState, with_pair, asked_in_fact, opens, may_go, gone, sends_if, sends_request, sends_on, sends, renews_if, renews_on, renews, settled_by, learns, resync_goes_on, receives_due, receives_on, receives, awaits_resync, breaks_current, breaks_on, breaks}
 use Rattle.nm_manager.proofs.Kept.{asks_fit}
 use Rattle.nm_pair.specs.Step.{GoWith, GoesWith, IsSeated, IsInStep}
 use Rattle.nm_pair.proofs.Tables.{next_awaited, RenewsNow, renews_now}

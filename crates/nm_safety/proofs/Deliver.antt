@@ -1,5 +1,5 @@
 -- What every world keeps where a device does what a link has outstanding.
-use Rattle.std.proofs.Common.{◌≡◌, ◌∙◌, ◌⊎◌, inl, inr, ℕ, suc, ◌-◌, ◌+◌, ◌*◌, ◌≤◌, ◌<◌, ◌^◌, ◌==◌, nat_lt, Bool, true, false, not, cond, ◌&&◌, ◌||◌, if◌then◌else◌, List, [], ◌∷◌, ◌++◌, length, Option, Some, None, IfSome, is_some, slice_get, slice_set, option_and_then, unwrap_or, refl, sym, ap, subst, arith}
+use Rattle.std.proofs.Common.{◌≡◌, ◌∙◌, ◌⊎◌, inl, inr, ℕ, suc, ◌-◌, ◌+◌, ◌≤◌, ◌<◌, ◌^◌, ◌==◌, Bool, true, false, cond, ◌&&◌, List, [], length, Option, Some, None, IfSome, is_some, slice_get, slice_set, option_and_then, refl, sym, ap, subst, arith}
 use Rattle.std.specs.List.{All}
 use Rattle.std.proofs.lemmas.Bool.Decides.{nat_tests}
 use Rattle.std.proofs.lemmas.Option.{none-some, same_Some, slice_get_within}
@@ -25,28 +25,27 @@ use Rattle.nm_recovery.specs.Recovery.{verdict_in}
 use Rattle.nm_standing.specs.Moment.{Happens}
 use Rattle.nm_standing.specs.Keeps.{is_asker}
 use Rattle.nm_standing.specs.Own.{Opens}
-use Rattle.nm_standing.specs.Token.{leaves_token}
 use Rattle.nm_standing.specs.Telling.{TellsToken}
 use Rattle.nm_standing.proofs.Numbers.{numbers_rise}
 use Rattle.nm_standing.proofs.Owns.{opens}
 use Rattle.nm_standing.proofs.Tells.{token_told}
 use Rattle.nm_decider.specs.declared.seat.Seat.{Seat}
 use Rattle.nm_wire.specs.Asks.{ask_of}
-use Rattle.nm_wire.specs.Link.{LinkState, fresh_link, session_of, session_in, first_session, asked_on, told_on, outstanding}
-use Rattle.nm_wire.specs.Wire.{WireState, no_links, told, link_at, outstanding_at, session_at}
+use Rattle.nm_wire.specs.Link.{LinkState, session_of, session_in, first_session, asked_on, told_on, outstanding}
+use Rattle.nm_wire.specs.Wire.{no_links, told, link_at, outstanding_at, session_at}
 use Rattle.nm_wire.specs.declared.link.Way.TheVariants as way
 use Rattle.nm_manager.specs.Slot.{SideState, SlotState, with_wire, wires_on, told_wire, wire_of_side}
-use Rattle.nm_manager.specs.Manager.{ManagerState, with_slot, wire_of, wire_in, wires_in, told_on as told_in, slot_at}
+use Rattle.nm_manager.specs.Manager.{with_slot, wire_of, wire_in, wires_in}
 use Rattle.nm_pair.specs.Pair.{PairHolds, first_link}
 use Rattle.nm_pair.specs.Slots.{HoldsAt}
 use Rattle.nm_pair.specs.Delivered.{IsDelivered, is_answer}
 use Rattle.nm_pair.specs.Step.{is_fair}
-use Rattle.nm_pair.proofs.Answered.{ToldLink, told_link, out_way, there_out}
+use Rattle.nm_pair.proofs.Answered.{told_link, out_way, there_out}
 use Rattle.nm_pair.proofs.Delivered.{asked_pair, entered_pair}
 use Rattle.nm_pair.proofs.Fair.{asked_fair, entered_fair, fair_answers, fair_is}
 use Rattle.nm_pair.proofs.Gone.{not_zero}
 use Rattle.nm_pair.proofs.Steps.{pair_at}
-use Rattle.nm_network.specs.World.{Setting, SceneState, Meeting, device_at, manager_in, with_device, with_manager, met, told_by, does, delivered_to, delivering_at, delivering, undelivered, is_session_open}
+use Rattle.nm_network.specs.World.{Setting, SceneState, manager_in, with_device, with_manager, met, told_by, does, delivering_at, delivering, undelivered, is_session_open}
 use Rattle.nm_safety.specs.Support.{Owners, LinkName, IsOurs, IsOwned, IsLinked, IsKept, IsDevice, IsSupported}
 use Rattle.nm_safety.proofs.Lists.{some_is, to_some}
 use Rattle.nm_safety.proofs.SlotLinks.{links_at}

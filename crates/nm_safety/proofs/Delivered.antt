@@ -1,48 +1,40 @@
 -- What every world keeps where a request of a link comes to its device.
-use Rattle.std.proofs.Common.{◌≡◌, ◌∙◌, ◌⊎◌, inl, inr, ℕ, suc, ◌-◌, ◌+◌, ◌≤◌, ◌<◌, ◌^◌, ◌==◌, Bool, true, false, not, cond, ◌&&◌, ◌||◌, if◌then◌else◌, List, [], ◌∷◌, ◌++◌, length, Option, Some, None, IfSome, is_some, slice_get, slice_set, option_and_then, refl, sym, ap, subst, arith}
+use Rattle.std.proofs.Common.{◌≡◌, ◌∙◌, ◌⊎◌, inl, inr, ℕ, suc, ◌-◌, ◌≤◌, ◌<◌, ◌^◌, ◌==◌, Bool, true, false, not, ◌&&◌, ◌||◌, List, Option, Some, None, IfSome, slice_get, slice_set, refl, sym, ap, subst, arith}
 use Rattle.std.specs.List.{All}
 use Rattle.std.specs.Str.{bytes_eq}
-use Rattle.std.proofs.lemmas.Bool.Decides.{nat_tests}
-use Rattle.std.proofs.lemmas.Option.{none-some, slice_get_within}
 use Rattle.nm_base.specs.Token.{token_of}
-use Rattle.nm_base.specs.Words.{manager}
 use Rattle.nm_base.proofs.Tokens.{token_told}
-use Rattle.nm_proto.specs.declared.ask.Ask.TheVariants as ask
 use Rattle.nm_proto.specs.declared.message.Request.{Request}
 use Rattle.nm_proto.specs.declared.message.Request.TheVariants.{OpenSession, Lock, Unlock, PartialLock, PartialUnlock, Edit, Validate, Commit, CancelCommit, Discard, HasMark, GetConfig, Kill, CloseSession}
 use Rattle.nm_proto.specs.declared.message.Reply.{Reply}
-use Rattle.nm_proto.specs.declared.journal.Entry.{Entry}
 use Rattle.nm_proto.specs.declared.journal.Verdict.{Verdict}
 use Rattle.nm_proto.specs.declared.plan.ChangePlan.{ChangePlan}
 use Rattle.nm_proto.specs.Content.{Meaning, Laws}
 use Rattle.nm_proto.specs.Plan.{devices_in}
 use Rattle.nm_sessions.specs.Sessions.{user_of}
 use Rattle.nm_history.specs.declared.event.DeviceEvent.{DeviceEvent}
-use Rattle.nm_history.specs.declared.event.DeviceEvent.TheVariants.{Entered, Asked}
+use Rattle.nm_history.specs.declared.event.DeviceEvent.TheVariants.{Asked}
 use Rattle.nm_history.specs.History.{Happened, RecordedState, recorded_with}
 use Rattle.nm_history.specs.Outcome.{is_token}
 use Rattle.nm_recovery.specs.Recovery.{verdict_in}
 use Rattle.nm_standing.specs.Moment.{Happens}
-use Rattle.nm_standing.specs.Keeps.{is_asker}
 use Rattle.nm_standing.specs.Token.{names_token, leaves_token, may_name}
 use Rattle.nm_standing.specs.Telling.{TellsToken}
 use Rattle.nm_decider.specs.declared.seat.Seat.{Seat}
-use Rattle.nm_wire.specs.Asks.{ask_of, same_ask}
-use Rattle.nm_wire.specs.Link.{LinkState, session_of, session_in, told_on}
+use Rattle.nm_wire.specs.Link.{LinkState, told_on}
 use Rattle.nm_wire.specs.Wire as wire
 use Rattle.nm_wire.specs.Wire.{WireState, told, link_at, outstanding_at, session_at}
-use Rattle.nm_manager.specs.Slot.{SideState, SlotState, with_wire, wires_on, told_wire, side_at}
-use Rattle.nm_manager.specs.Manager.{ManagerState, with_slot}
+use Rattle.nm_manager.specs.Slot.{SideState, SlotState, with_wire, told_wire}
+use Rattle.nm_manager.specs.Manager.{with_slot}
 use Rattle.nm_pair.specs.Pair.{PairHolds}
 use Rattle.nm_pair.specs.Slots.{AllHold, HoldsAt}
 use Rattle.nm_pair.specs.Delivered.{NamesOurs}
-use Rattle.nm_pair.specs.Step.{IsInStep, is_fair}
+use Rattle.nm_pair.specs.Step.{is_fair}
 use Rattle.nm_pair.proofs.Gone.{not_zero}
-use Rattle.nm_pair.proofs.Places.{set_same}
 use Rattle.nm_pair.proofs.Steps.{wires_stay, told_as_before}
 use Rattle.nm_pair.proofs.Wires.{changed_current, set_there}
 use Rattle.nm_network.specs.World.{Setting, SceneState, manager_in, with_device, with_manager}
-use Rattle.nm_safety.specs.Support.{Owners, LinkName, IsOwned, IsLinked, AllLinks, IsAtRest, IsKept, KeptAt, IsDevice, IsOperator, IsSupported}
+use Rattle.nm_safety.specs.Support.{Owners, IsOwned, IsLinked, AllLinks, IsAtRest, IsKept, KeptAt, IsDevice, IsOperator, IsSupported}
 use Rattle.nm_safety.proofs.Lists.{some_is, to_some, at_set, set_other}
 use Rattle.nm_safety.proofs.Ours.{all_links_map}
 use Rattle.nm_safety.proofs.SlotLinks.{links_at}

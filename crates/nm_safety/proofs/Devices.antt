@@ -1,7 +1,7 @@
 -- What everything that happens at a device keeps, every event of the world keeps of all of them.
-use Rattle.std.proofs.Common.{◌≡◌, ℕ, zero, suc, ◌-◌, List, [], ◌∷◌, Bool, true, false, ◌&&◌, is_some, Option, Some, None, IfSome, slice_get, slice_set, if◌then◌else◌, refl, sym, ap, ◌∙◌, subst}
+use Rattle.std.proofs.Common.{◌≡◌, ℕ, zero, suc, ◌-◌, List, [], ◌∷◌, ◌&&◌, is_some, Option, Some, None, IfSome, slice_get, refl, sym, ap, ◌∙◌, subst}
 use Rattle.std.proofs.lemmas.Bool.{cond_both}
-use Rattle.std.proofs.lemmas.Option.{same_Some, none-some, cond_some}
+use Rattle.std.proofs.lemmas.Option.{same_Some, none-some}
 use Rattle.nm_proto.specs.Content.{Meaning, TablesState}
 use Rattle.nm_proto.specs.declared.message.Request.{Request}
 use Rattle.nm_proto.specs.declared.plan.Event.{Event}
@@ -9,14 +9,14 @@ use Rattle.nm_proto.specs.declared.plan.Event.TheVariants.{Submit, Turn, Deliver
 use Rattle.nm_history.specs.declared.event.DeviceEvent.{DeviceEvent}
 use Rattle.nm_history.specs.declared.event.DeviceEvent.TheVariants as device_event
 use Rattle.nm_history.specs.History.{Happened, RecordedState, Served, Parted, recorded_with, served, lost, loss_of, parted_as, restarting, advancing}
-use Rattle.nm_history.proofs.Histories.{IsServed, is_served}
+use Rattle.nm_history.proofs.Histories.{is_served}
 use Rattle.nm_device.specs.Table.{is_opening}
 use Rattle.nm_standing.specs.Moment.{Happens}
 use Rattle.nm_manager.specs.Manager.{ManagerState, wire_in}
-use Rattle.nm_wire.specs.Wire.{WireState, session_at}
+use Rattle.nm_wire.specs.Wire.{session_at}
 use Rattle.nm_network.specs.declared.happened.Sending.{Sending}
-use Rattle.nm_network.specs.World.{Setting, SceneState, WorldState, Came, Meeting, Moved, Asking, device_at, manager_in, met, moved, asked_by, told_by, lost_by, loses, lost_from, losing_at, is_side_open, undelivered, does, delivered_to, delivering_at, restarted_with, anew_at, later_by, later_at, answered_to, asks_with, asks, asking_at, operator_at, has_on, parted_by, left_with, leaving_at, elementary, world_step, scene_of, sending_of, replies_on, last_answered, followed, round, rounds, event_step, run}
-use Rattle.nm_safety.proofs.Lists.{at_set, some_is}
+use Rattle.nm_network.specs.World.{Setting, SceneState, WorldState, Came, Meeting, Moved, Asking, device_at, manager_in, met, moved, asked_by, told_by, lost_by, loses, losing_at, is_side_open, undelivered, does, delivering_at, anew_at, later_at, answered_to, asking_at, operator_at, has_on, parted_by, left_with, leaving_at, elementary, world_step, scene_of, sending_of, replies_on, followed, round, rounds, event_step, run}
+use Rattle.nm_safety.proofs.Lists.{at_set}
 
 -- ---- a session is lost
 

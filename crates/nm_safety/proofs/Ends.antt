@@ -1,9 +1,8 @@
 -- What every world keeps where time passes, a device restarts, or a session is lost.
-use Rattle.std.proofs.Common.{◌≡◌, ◌∙◌, ◌⊎◌, inl, inr, ℕ, suc, ◌-◌, ◌+◌, ◌≤◌, ◌<◌, Bool, true, false, List, Option, Some, None, IfSome, map, option_map, slice_get, slice_set, refl, sym, ap, subst, arith}
+use Rattle.std.proofs.Common.{◌≡◌, ◌∙◌, ◌⊎◌, inl, inr, ℕ, suc, ◌-◌, ◌≤◌, ◌<◌, Bool, true, false, List, Option, Some, None, IfSome, option_map, slice_get, slice_set, refl, sym, ap, subst, arith}
 use Rattle.std.specs.List.{All}
 use Rattle.std.proofs.lemmas.Bool.{cond_both}
-use Rattle.std.proofs.lemmas.Option.{none-some, slice_get-map}
-use Rattle.nm_base.specs.Token.{token_of}
+use Rattle.std.proofs.lemmas.Option.{slice_get-map}
 use Rattle.nm_proto.specs.declared.journal.Entry.{Entry}
 use Rattle.nm_proto.specs.declared.plan.ChangePlan.{ChangePlan}
 use Rattle.nm_proto.specs.Content.{Meaning, Laws}
@@ -16,26 +15,23 @@ use Rattle.nm_standing.specs.Moment.{Happens}
 use Rattle.nm_standing.proofs.Numbers.{numbers_rise}
 use Rattle.nm_decider.specs.declared.seat.Seat.{Seat}
 use Rattle.nm_wire.specs.Link.{LinkState, closed_link}
-use Rattle.nm_wire.specs.Wire as wire
 use Rattle.nm_wire.specs.Wire.{WireState, restarted, link_at, session_at}
 use Rattle.nm_manager.specs.Slot.{SideState, SlotState, with_wire, wires_on, lost_wire, restarted_slot}
-use Rattle.nm_manager.specs.Manager.{ManagerState, wires_in, lost_on, restarted_on, slot_at, with_slot, wire_in}
+use Rattle.nm_manager.specs.Manager.{wires_in, lost_on, restarted_on, wire_in}
 use Rattle.nm_pair.specs.Pair.{PairHolds}
-use Rattle.nm_pair.specs.Slots.{AllHold, HoldsAt}
-use Rattle.nm_pair.specs.Step.{IsInStep}
+use Rattle.nm_pair.specs.Slots.{HoldsAt}
 use Rattle.nm_pair.proofs.Pairs.{IsAsBefore}
 use Rattle.nm_pair.proofs.Steps.{wires_stay, lost_as_before, restarted_as_before}
 use Rattle.nm_pair.proofs.Wires.{changed_current}
 use Rattle.nm_pair.proofs.Places.{set_same}
 use Rattle.nm_pair.proofs.Cut.{closed_pair, restarted_pair}
-use Rattle.nm_network.specs.World.{Setting, SceneState, Meeting, Moved, device_at, manager_in, with_device, with_manager, met, moved, lost_by, loses, lost_from, losing_at, is_side_open, losing, restarted_with, anew_at, going_anew, later_by, later_at, passing, parted_by}
+use Rattle.nm_network.specs.World.{Setting, SceneState, Meeting, manager_in, with_device, with_manager, met, moved, lost_by, loses, losing_at, is_side_open, losing, anew_at, going_anew, later_at, passing}
 use Rattle.nm_safety.specs.Support.{Owners, IsLinked, AllLinks, IsAtRest, IsKept, KeptAt, IsDevice, IsSupported}
-use Rattle.nm_safety.proofs.Lists.{some_is, to_some}
+use Rattle.nm_safety.proofs.Lists.{some_is}
 use Rattle.nm_safety.proofs.Ours.{closed_linked}
 use Rattle.nm_safety.proofs.SlotLinks.{closed_links, restarted_links}
 use Rattle.nm_safety.proofs.Managed.{others_stay, slot_moves, kept_here, planned_by}
 use Rattle.nm_safety.proofs.Devices.{IsLost, is_lost}
-use Rattle.nm_safety.proofs.Alone.{OpensFor}
 use Rattle.nm_safety.proofs.Others.{IsOthers, others_supported}
 
 -- ---- the device's side of links ends

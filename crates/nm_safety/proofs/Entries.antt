@@ -1,6 +1,6 @@
 -- What the entries of a journal tell of a change set, as they come.
 use Rattle.std.proofs.Common.{◌≡◌, ◌∙◌, ℕ, Bool, true, false, not, cond, ◌&&◌, ◌||◌, nat_eq, List, [], ◌∷◌, ◌++◌, find, Option, Some, None, is_some, option_and_then, refl, sym, ap, subst, arith}
-use Rattle.std.specs.List.{list_any, flat_map}
+use Rattle.std.specs.List.{list_any}
 use Rattle.std.specs.Option.{option_or}
 use Rattle.std.proofs.lemmas.Bool.Decides.{nat_tests}
 use Rattle.std.proofs.lemmas.List.Folds.{find-append, list_any-append}
@@ -10,7 +10,7 @@ use Rattle.nm_proto.specs.declared.journal.Verdict.{Verdict}
 use Rattle.nm_journal.specs.Entries.{starts, decides, ends, starts_with, may_follow, has_record, comes_next}
 use Rattle.nm_recovery.specs.Recovery.{is_started, is_ended_in, verdict_in, verdict_of}
 use Rattle.nm_order.specs.declared.ticket.Ticket.{Ticket}
-use Rattle.nm_manager.specs.Queues.{tickets_by, tickets_in, goes_first, holds_up, ready_among, is_ready_in}
+use Rattle.nm_manager.specs.Queues.{tickets_in, goes_first, ready_among, is_ready_in}
 use Rattle.nm_pair.proofs.Basics.{never, either}
 use Rattle.nm_pair.proofs.Tables.{both}
 use Rattle.nm_pair.proofs.Places.{verdict_same, verdict_new}

@@ -1,43 +1,38 @@
 -- What is kept of one change set at each step of the manager for it, and as entries come.
-use Rattle.std.proofs.Common.{◌≡◌, ◌∙◌, ◌⊎◌, inl, inr, ℕ, suc, ◌-◌, ◌+◌, ◌≤◌, ◌<◌, Bool, true, false, not, ◌&&◌, List, [], ◌∷◌, ◌++◌, length, map, Option, Some, None, IfSome, is_some, option_map, slice_get, slice_set, refl, sym, ap, subst, if◌then◌else◌}
+use Rattle.std.proofs.Common.{◌≡◌, ◌∙◌, ◌⊎◌, inl, inr, ℕ, suc, ◌-◌, ◌+◌, ◌≤◌, true, false, List, [], ◌∷◌, ◌++◌, length, Option, Some, None, IfSome, is_some, slice_get, slice_set, refl, sym, ap, subst}
 use Rattle.std.specs.List.{list_any, All}
-use Rattle.std.proofs.lemmas.Option.{none-some, slice_get-map, slice_get_within, get_or_from_slice_get}
-use Rattle.nm_base.specs.Token.{token_of}
+use Rattle.std.proofs.lemmas.Option.{slice_get_within, get_or_from_slice_get}
 use Rattle.nm_proto.specs.declared.ask.Ask.{Ask}
 use Rattle.nm_proto.specs.declared.journal.Entry.{Entry}
 use Rattle.nm_proto.specs.declared.journal.Entry.TheVariants.{Decided}
 use Rattle.nm_proto.specs.declared.journal.Verdict.{Verdict}
 use Rattle.nm_proto.specs.declared.journal.Verdict.TheVariants as verdict
 use Rattle.nm_proto.specs.declared.plan.ChangePlan.{ChangePlan}
-use Rattle.nm_journal.specs.Entries.{starts, decides, ends, may_follow}
+use Rattle.nm_journal.specs.Entries.{decides, ends, may_follow}
 use Rattle.nm_history.specs.History.{RecordedState}
 use Rattle.nm_recovery.specs.Recovery.{is_started, is_ended_in, verdict_in}
 use Rattle.nm_decider.specs.declared.course.NextAction.TheVariants.{Send, Decide}
 use Rattle.nm_decider.specs.declared.seat.Seat.{Seat}
-use Rattle.nm_decider.specs.declared.stage.Stage.TheVariants.{Live}
 use Rattle.nm_decider.specs.Stages.{is_acknowledged}
-use Rattle.nm_decider.specs.Course as course
-use Rattle.nm_decider.specs.Course.{CourseState, next_action, seats_from, seat_count}
+use Rattle.nm_decider.specs.Course.{next_action, seat_count}
 use Rattle.nm_decider.specs.Rightly.{ActsRightly, IsReady}
 use Rattle.nm_decider.proofs.Actions.{rightly}
-use Rattle.nm_wire.specs.Link.{LinkState, fresh_link}
-use Rattle.nm_wire.specs.Wire.{WireState, broken, due, handled, handled_at, link_at, is_current}
+use Rattle.nm_wire.specs.Link.{LinkState}
+use Rattle.nm_wire.specs.Wire.{WireState, broken, due, handled}
 use Rattle.nm_manager.specs.Requests.{request_for}
-use Rattle.nm_manager.specs.Slot.{SideState, SlotState, with_pair, nothing, sends, renews, receives, receives_on, receives_due, awaits_resync, breaks, breaks_on, breaks_current, cut_off, to_commit, is_commit, decided, lost_memory}
-use Rattle.nm_manager.specs.Manager.{starts_anew, course_after}
-use Rattle.nm_pair.specs.Pair.{PairHolds}
-use Rattle.nm_pair.specs.Slots.{AllHold, HoldsAt}
-use Rattle.nm_pair.specs.Step.{IsInStep, GoWith}
+use Rattle.nm_manager.specs.Slot.{SideState, SlotState, with_pair, sends, renews, receives, receives_on, receives_due, awaits_resync, breaks, breaks_on, breaks_current, to_commit, decided, lost_memory}
+use Rattle.nm_pair.specs.Slots.{AllHold}
+use Rattle.nm_pair.specs.Step.{GoWith}
 use Rattle.nm_pair.proofs.Basics.{never}
 use Rattle.nm_pair.proofs.Places.{set_same, verdict_same, verdict_new}
-use Rattle.nm_pair.proofs.Slots.{sent_holds, renewed_holds, received_holds, broken_holds, forgotten_holds, anew_holds, decided_holds}
-use Rattle.nm_pair.proofs.Steps.{received_stays, broken_stays, decided_stays, entered_stays, lost_stays, anew_stays}
-use Rattle.nm_safety.specs.Support.{Owners, IsOurs, IsLinked, AllLinks, IsAtRest, IsKept, IsOrdered}
-use Rattle.nm_safety.proofs.Lists.{some_is, to_some}
+use Rattle.nm_pair.proofs.Slots.{sent_holds, renewed_holds, received_holds, broken_holds, forgotten_holds, decided_holds}
+use Rattle.nm_pair.proofs.Steps.{received_stays, broken_stays, decided_stays, entered_stays, lost_stays}
+use Rattle.nm_safety.specs.Support.{Owners, IsOurs, IsLinked, IsAtRest, IsKept}
+use Rattle.nm_safety.proofs.Lists.{some_is}
 use Rattle.nm_safety.proofs.Entries.{any_later, decided_started}
 use Rattle.nm_safety.proofs.Ours.{request_ours, fresh_linked, sent_linked, handled_linked, entered_linked, all_links_map}
 use Rattle.nm_safety.proofs.SlotLinks.{sent_links, renewed_links, received_links, broken_links, decided_links, cut_links}
-use Rattle.nm_safety.proofs.Courses.{IsSameSet, sent_same, renewed_same, received_same, broken_same, sent_in_step, renewed_in_step}
+use Rattle.nm_safety.proofs.Courses.{sent_same, renewed_same, received_same, broken_same, sent_in_step, renewed_in_step}
 
 -- as many seats as sides
 same_length : {A B : Type 0} (xs : List A) (ys : List B) → ((j : ℕ) → is_some (slice_get xs j) ≡ is_some (slice_get ys j)) → length xs ≡ length ys

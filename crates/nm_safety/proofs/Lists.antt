@@ -1,5 +1,5 @@
 -- What stands at the places of lists.
-use Rattle.std.proofs.Common.{◌≡◌, ℕ, zero, suc, List, [], ◌∷◌, map, Option, Some, None, IfSome, slice_get, slice_set, refl, sym, ap, subst}
+use Rattle.std.proofs.Common.{◌≡◌, ℕ, zero, suc, List, [], ◌∷◌, Option, Some, None, IfSome, slice_get, slice_set, refl, ap, subst}
 
 pub some_is : {A : Type 0} (x : A) (P : A → Type 0) (found : Option A) → found ≡ Some x → IfSome found P → P x
 some_is x P None e h = absurd (let g : None ≡ Some x = e in cc)

@@ -1,10 +1,9 @@
 -- What every world keeps, at each step of the manager.
-use Rattle.std.proofs.Common.{◌≡◌, ◌∙◌, ℕ, zero, suc, ◌-◌, ◌+◌, ◌≤◌, Bool, true, false, not, ◌&&◌, nat_eq, List, [], ◌∷◌, ◌++◌, Option, Some, None, IfSome, slice_get, slice_set, refl, sym, ap, subst, arith, if◌then◌else◌}
+use Rattle.std.proofs.Common.{◌≡◌, ℕ, zero, suc, ◌-◌, ◌+◌, ◌≤◌, Bool, true, false, not, ◌&&◌, nat_eq, List, [], ◌∷◌, ◌++◌, Option, Some, None, slice_get, slice_set, refl, sym, subst, arith, if◌then◌else◌}
 use Rattle.std.proofs.lemmas.Bool.{cond_both}
-use Rattle.std.proofs.lemmas.Bool.Decides.{nat_tests}
 use Rattle.nm_proto.specs.declared.ask.Ask.{Ask}
 use Rattle.nm_proto.specs.declared.journal.Entry.{Entry}
-use Rattle.nm_proto.specs.declared.journal.Entry.TheVariants.{Started, Decided, Ended}
+use Rattle.nm_proto.specs.declared.journal.Entry.TheVariants.{Decided, Ended}
 use Rattle.nm_proto.specs.declared.journal.Verdict.{Verdict}
 use Rattle.nm_proto.specs.declared.plan.ChangePlan.{ChangePlan}
 use Rattle.nm_proto.specs.Content.{Meaning}
@@ -18,9 +17,8 @@ use Rattle.nm_decider.specs.Course.{next_action}
 use Rattle.nm_manager.specs.declared.action.Action.TheVariants as action
 use Rattle.nm_manager.specs.Queues.{is_ready_in}
 use Rattle.nm_manager.specs.Slot.{SlotState, sends, renews, receives, breaks, decided, lost_memory}
-use Rattle.nm_manager.specs.Manager.{ManagerState, Step, idle, slot_at, with_slot, with_entry, with_step, start_of, submits, submitted_by, submitted, sent_by, decided_by, finishes, acts, turned_by, turned, received_by, received, broken_by, broken, forgotten_by, forgotten, renewed_by, renewed, start_anew, starts_anew}
+use Rattle.nm_manager.specs.Manager.{ManagerState, Step, idle, slot_at, with_slot, with_entry, start_of, submitted_by, submitted, sent_by, decided_by, acts, turned_by, turned, received_by, received, broken_by, broken, forgotten_by, forgotten, renewed_by, renewed, start_anew, starts_anew}
 use Rattle.nm_network.specs.World.{Setting, SceneState, manager_in, with_manager}
-use Rattle.nm_pair.proofs.Basics.{never}
 use Rattle.nm_pair.proofs.Tables.{both}
 use Rattle.nm_safety.specs.Support.{Owners, IsKept, KeptAt, IsOrdered, IsSupported}
 use Rattle.nm_safety.proofs.Entries.{ordered_next, ready_is_open, ready_is_started, not_true, nat_same}

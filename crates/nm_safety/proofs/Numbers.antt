@@ -1,5 +1,5 @@
 -- A session opens at a device only where one is asked for.
-use Rattle.std.proofs.Common.{◌≡◌, ◌∙◌, ℕ, ◌+◌, ◌≤◌, ◌<◌, ◌==◌, List, Bool, true, false, cond, Option, Some, None, is_some, refl, sym, ap, subst, arith, if◌then◌else◌}
+use Rattle.std.proofs.Common.{◌≡◌, ◌∙◌, ℕ, ◌+◌, ◌≤◌, ◌<◌, ◌==◌, List, Bool, true, false, cond, Option, Some, None, refl, sym, ap, subst, arith, if◌then◌else◌}
 use Rattle.std.proofs.lemmas.Bool.Decides.{nat_tests}
 use Rattle.std.proofs.lemmas.Option.{same_Some}
 use Rattle.nm_proto.specs.Content.{Meaning, TablesState}
@@ -7,7 +7,7 @@ use Rattle.nm_sessions.specs.Sessions.{user_of, is_open, next_id, entered}
 use Rattle.nm_sessions.proofs.SessionLemmas.{user_of-entered}
 use Rattle.nm_pending.specs.Pending.{ends_with, ends_at}
 use Rattle.nm_device.specs.Device.{DeviceState, Stepped}
-use Rattle.nm_device.specs.Undoing.{left_by, later, emptied, ended, advanced, restarted}
+use Rattle.nm_device.specs.Undoing.{left_by, later, emptied, ended}
 use Rattle.nm_device.specs.Table.{open_with}
 use Rattle.nm_history.specs.declared.event.DeviceEvent.{DeviceEvent}
 use Rattle.nm_history.specs.declared.event.DeviceEvent.TheVariants.{Entered, Asked, Lost, Advanced, Restarted}

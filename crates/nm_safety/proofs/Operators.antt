@@ -1,5 +1,5 @@
 -- What every world keeps where operators act.
-use Rattle.std.proofs.Common.{◌≡◌, ◌∙◌, ℕ, suc, ◌-◌, ◌+◌, ◌≤◌, ◌<◌, ◌==◌, Bool, true, false, not, cond, ◌&&◌, ◌||◌, if◌then◌else◌, List, [], ◌∷◌, Option, Some, None, IfSome, is_some, slice_get, slice_set, refl, sym, ap, subst, arith}
+use Rattle.std.proofs.Common.{◌≡◌, ◌∙◌, ℕ, ◌-◌, ◌+◌, ◌≤◌, ◌<◌, ◌==◌, Bool, true, false, not, cond, ◌&&◌, ◌||◌, List, Option, Some, None, IfSome, is_some, slice_get, slice_set, refl, sym, ap, subst, arith}
 use Rattle.std.specs.List.{All}
 use Rattle.std.proofs.lemmas.Bool.{cond_both}
 use Rattle.std.proofs.lemmas.Bool.Decides.{nat_tests}
@@ -17,16 +17,15 @@ use Rattle.nm_history.specs.declared.event.DeviceEvent.TheVariants.{Entered, Ask
 use Rattle.nm_history.specs.History.{Happened, RecordedState, Served, Parted, recorded_with, event_by, served, lost}
 use Rattle.nm_history.proofs.Histories.{IsServed, is_served}
 use Rattle.nm_standing.specs.Moment.{Happens}
-use Rattle.nm_standing.specs.Keeps.{is_asker}
 use Rattle.nm_standing.specs.Own.{Opens}
-use Rattle.nm_standing.specs.Token.{names_token, leaves_token, may_name}
+use Rattle.nm_standing.specs.Token.{names_token}
 use Rattle.nm_standing.proofs.Events.{is_asked}
 use Rattle.nm_standing.proofs.Numbers.{numbers_rise}
 use Rattle.nm_standing.proofs.Owns.{opens}
 use Rattle.nm_wire.specs.Link.{session_in}
 use Rattle.nm_pair.proofs.Wires.{set_there}
 use Rattle.nm_pair.proofs.Places.{set_same}
-use Rattle.nm_network.specs.World.{Setting, SceneState, Asking, Moved, device_at, with_device, moved, asked_by, answered_to, asks_with, asking_at, asking, given_in, given_on, open_on, has_on, with_session, with_opened, operator_at, parted_by, left_with, leaving_at, leaving}
+use Rattle.nm_network.specs.World.{Setting, SceneState, Asking, with_device, moved, asked_by, answered_to, asks_with, asking_at, asking, given_in, given_on, open_on, has_on, with_session, with_opened, operator_at, parted_by, left_with, leaving_at, leaving}
 use Rattle.nm_safety.specs.Support.{Owners, IsDevice, IsOperator, IsSupported}
 use Rattle.nm_safety.proofs.Lists.{some_is, to_some, at_set, set_none}
 use Rattle.nm_safety.proofs.Managed.{others_stay}

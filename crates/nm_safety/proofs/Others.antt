@@ -1,5 +1,5 @@
 -- What every world keeps where something happens at a device that no link of a change set asks for.
-use Rattle.std.proofs.Common.{◌≡◌, ◌∙◌, ℕ, zero, suc, ◌-◌, ◌+◌, ◌≤◌, ◌<◌, ◌==◌, Bool, true, false, not, ◌&&◌, ◌||◌, List, [], ◌∷◌, ◌++◌, Option, Some, None, IfSome, is_some, slice_get, slice_set, unwrap_or, refl, sym, ap, subst, arith}
+use Rattle.std.proofs.Common.{◌≡◌, ◌∙◌, ℕ, suc, ◌≤◌, true, false, List, [], ◌∷◌, Option, Some, None, IfSome, is_some, slice_get, slice_set, unwrap_or, refl, sym, ap, subst, arith}
 use Rattle.std.specs.List.{All}
 use Rattle.std.proofs.lemmas.Option.{none-some}
 use Rattle.nm_base.specs.Token.{token_of}
@@ -20,14 +20,13 @@ use Rattle.nm_standing.proofs.Numbers.{numbers_rise}
 use Rattle.nm_standing.proofs.Tokens.{token_kept}
 use Rattle.nm_standing.proofs.Tells.{token_told}
 use Rattle.nm_decider.specs.declared.seat.Seat.{Seat}
-use Rattle.nm_wire.specs.Link.{LinkState, fresh_link, session_of}
-use Rattle.nm_wire.specs.Wire.{WireState}
+use Rattle.nm_wire.specs.Link.{LinkState, fresh_link}
 use Rattle.nm_manager.specs.Slot.{SideState, SlotState}
 use Rattle.nm_pair.specs.Pair.{PairHolds, first_link}
 use Rattle.nm_pair.specs.Slots.{AllHold, HoldsAt}
 use Rattle.nm_pair.proofs.Moved.{moved_pair}
-use Rattle.nm_network.specs.World.{Setting, SceneState, with_device, given_on}
-use Rattle.nm_safety.specs.Support.{Owners, LinkName, IsOwned, IsLinked, AllLinks, IsKept, KeptAt, IsDevice, IsOperator, IsSupported}
+use Rattle.nm_network.specs.World.{Setting, SceneState, given_on}
+use Rattle.nm_safety.specs.Support.{Owners, IsOwned, IsLinked, IsKept, KeptAt, IsDevice, IsOperator, IsSupported}
 use Rattle.nm_safety.proofs.Lists.{some_is, to_some}
 use Rattle.nm_safety.proofs.Ours.{later_owned, all_links_map}
 use Rattle.nm_safety.proofs.SlotLinks.{links_at}

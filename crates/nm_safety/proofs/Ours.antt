@@ -1,11 +1,9 @@
 -- What is said of one link, and of the requests on it.
-use Rattle.std.proofs.Common.{◌≡◌, ◌∙◌, ℕ, ◌≤◌, Bool, true, false, List, [], ◌∷◌, ◌++◌, Option, Some, None, IfSome, option_map, slice_get, refl, sym, ap, subst, arith}
+use Rattle.std.proofs.Common.{◌≡◌, ◌∙◌, ℕ, ◌≤◌, Bool, true, List, [], ◌∷◌, ◌++◌, Option, Some, None, IfSome, option_map, slice_get, refl, sym, arith}
 use Rattle.std.proofs.lemmas.Option.{none-some}
-use Rattle.nm_base.specs.Token.{token_of}
 use Rattle.nm_proto.specs.declared.ask.Ask.{Ask}
 use Rattle.nm_proto.specs.declared.ask.Ask.TheVariants as ask
 use Rattle.nm_proto.specs.declared.message.Request.{Request}
-use Rattle.nm_proto.specs.declared.message.Reply.{Reply}
 use Rattle.nm_proto.specs.declared.journal.Entry.{Entry}
 use Rattle.nm_proto.specs.declared.plan.ChangePlan.{ChangePlan}
 use Rattle.nm_proto.specs.declared.plan.PlannedEdit.{PlannedEdit}
@@ -14,11 +12,11 @@ use Rattle.nm_recovery.specs.Recovery.{is_started}
 use Rattle.nm_wire.specs.declared.link.Exchange.{Exchange}
 use Rattle.nm_wire.specs.declared.link.Way.{Way}
 use Rattle.nm_wire.specs.declared.link.Way.TheVariants.{Quiet, Asked, Told}
-use Rattle.nm_wire.specs.Link.{LinkState, fresh_link, session_of, asked_on, is_quiet_way, sent_on, handled_on, handled_by, closed_link}
+use Rattle.nm_wire.specs.Link.{LinkState, fresh_link, asked_on, is_quiet_way, sent_on, handled_on, handled_by, closed_link}
 use Rattle.nm_manager.specs.Requests.{request_for, edit_request, edit_for}
 use Rattle.nm_manager.specs.Slot.{SideState}
 use Rattle.nm_pair.proofs.Links.{did_sent_on, did_handled}
-use Rattle.nm_safety.specs.Support.{Owners, LinkName, IsOurs, IsOwned, IsLinked, AllLinks}
+use Rattle.nm_safety.specs.Support.{Owners, IsOurs, IsOwned, IsLinked, AllLinks}
 use Rattle.nm_safety.proofs.Lists.{some_is, to_some}
 use Rattle.nm_safety.proofs.Entries.{any_later}
 

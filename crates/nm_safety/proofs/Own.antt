@@ -1,5 +1,5 @@
 -- What is told of the token of a change set, where one of its own requests comes to the device.
-use Rattle.std.proofs.Common.{◌≡◌, ◌∙◌, ℕ, ◌-◌, ◌+◌, ◌≤◌, ◌==◌, Bool, true, false, not, cond, ◌&&◌, ◌||◌, if◌then◌else◌, List, [], ◌∷◌, ◌++◌, Option, Some, None, IfSome, is_some, unwrap_or, slice_get, option_map, option_and_then, refl, sym, ap, subst, arith}
+use Rattle.std.proofs.Common.{◌≡◌, ◌∙◌, ℕ, ◌-◌, ◌+◌, ◌≤◌, ◌==◌, Bool, true, false, not, ◌&&◌, ◌||◌, if◌then◌else◌, List, Option, Some, None, is_some, unwrap_or, slice_get, option_map, option_and_then, refl, sym, ap, subst, arith}
 use Rattle.std.proofs.lemmas.Bool.Decides.{nat_tests}
 use Rattle.nm_base.specs.Token.{token_of}
 use Rattle.nm_proto.specs.declared.ask.Ask.{Ask}
@@ -10,8 +10,6 @@ use Rattle.nm_proto.specs.declared.message.Reply.{Reply}
 use Rattle.nm_proto.specs.declared.message.Reply.TheVariants.{Done, Opened, LockId, Mark, Rows, Error}
 use Rattle.nm_proto.specs.declared.journal.Verdict.{Verdict}
 use Rattle.nm_proto.specs.Content.{Meaning, Laws, TablesState}
-use Rattle.nm_sessions.specs.Sessions.{is_open}
-use Rattle.nm_pending.specs.Pending.{PendingState}
 use Rattle.nm_device.specs.Device.{is_dropped}
 use Rattle.nm_device.specs.Table.{is_error}
 use Rattle.nm_history.specs.declared.event.DeviceEvent.TheVariants.{Asked}
@@ -21,7 +19,7 @@ use Rattle.nm_history.specs.Outcome.{outcome_of, is_pending}
 use Rattle.nm_history.specs.History.{Happened, RecordedState, noted, recorded_with}
 use Rattle.nm_standing.specs.Moment.{is_refused}
 use Rattle.nm_standing.specs.Token.{KeepsToken, leaves_token, waits_under, undoing_by, commits_done}
-use Rattle.nm_standing.specs.Telling.{TellsPending, TellsToken}
+use Rattle.nm_standing.specs.Telling.{TellsToken}
 use Rattle.nm_standing.proofs.Events.{IsDone, is_asked}
 use Rattle.nm_standing.proofs.Outcomes.{never_without}
 use Rattle.nm_standing.proofs.Owns.{refused_same}
@@ -32,8 +30,8 @@ use Rattle.nm_wire.specs.declared.link.Way.TheVariants as way
 use Rattle.nm_wire.specs.Asks.{ask_of, same_ask}
 use Rattle.nm_wire.specs.Link.{LinkState, fresh_link, session_of, asked_on, outstanding}
 use Rattle.nm_wire.specs.Words.{commits_sent, commit_count, holds, is_done}
-use Rattle.nm_wire.specs.Wire.{WireState, link_at, outstanding_at}
-use Rattle.nm_pair.specs.Pair.{PairHolds, HoldsRunning, FirstLink, EachLink, first_link, undelivered, commits_in, asked_ask}
+use Rattle.nm_wire.specs.Wire.{WireState, link_at}
+use Rattle.nm_pair.specs.Pair.{PairHolds, HoldsRunning, FirstLink, first_link, undelivered, commits_in}
 use Rattle.nm_pair.specs.Delivered.{IsDelivered, is_answer}
 use Rattle.nm_pair.proofs.Basics.{never, is_one}
 use Rattle.nm_pair.proofs.Answered.{told_link, out_way, each_at}

@@ -1,5 +1,5 @@
 -- A device gives a session to nobody who has one.
-use Rattle.std.proofs.Common.{◌≡◌, ℕ, ◌==◌, List, filter, length, Option, Some, None, Result, Ok, Err, slice_get, refl, subst, if◌then◌else◌}
+use Rattle.std.proofs.Common.{◌≡◌, ℕ, ◌==◌, List, filter, length, Option, Some, None, Result, Ok, Err, slice_get, refl, if◌then◌else◌}
 use Rattle.std.proofs.lemmas.Bool.{cond_both}
 use Rattle.nm_base.specs.declared.tag.Tag.{Tag}
 use Rattle.nm_base.specs.declared.tag.Tag.TheVariants.{InUse, OperationFailed, InvalidValue}
@@ -13,12 +13,12 @@ use Rattle.nm_locks.specs.Locks.{owner_of, is_owner, with_owner}
 use Rattle.nm_stores.specs.Stores.{candidate_of, is_modified, discarded}
 use Rattle.nm_partial.specs.Partial.{next_id as next_lock_id, holds, released, overlap_with, least_owner}
 use Rattle.nm_pending.specs.Pending.{is_stranger, deadline_of}
-use Rattle.nm_device.specs.Device.{DeviceState, Stepped, answer, done, refuse, deny_lock, is_held_by_other, with_stores}
+use Rattle.nm_device.specs.Device.{DeviceState, Stepped, done, refuse, deny_lock, is_held_by_other, with_stores}
 use Rattle.nm_device.specs.Undoing.{ended}
 use Rattle.nm_device.specs.Cancel.{cancel_from, cancel_tag, kill_by}
 use Rattle.nm_device.specs.Commit.{commit_tag, violation_of, commit_unless, commit_from}
 use Rattle.nm_device.specs.Part.{part_granted, existing_locked, nodes_locked, named_locked, nodes_named, part_locked, part_unlocked}
-use Rattle.nm_device.specs.Table.{stores_unlocked, with_lock, lock_running, lock_candidate, locked, unlocked, edit_gives, edit_at, edit_by, validated, discard_by, device_step}
+use Rattle.nm_device.specs.Table.{stores_unlocked, with_lock, lock_running, lock_candidate, locked, unlocked, edit_gives, edit_at, edit_by, validated, device_step}
 use Rattle.nm_wire.specs.Link.{session_in}
 
 module _ {Config TheEdit Node : Type 0} (m : Meaning Config TheEdit Node) (tables : TablesState TheEdit) (s : DeviceState Config Node) (session : ℕ) where

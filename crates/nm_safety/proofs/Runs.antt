@@ -1,5 +1,5 @@
 -- Every event keeps what every world keeps, and so does every run.
-use Rattle.std.proofs.Common.{◌≡◌, ◌∙◌, ℕ, zero, suc, ◌-◌, ◌≤◌, Bool, false, List, [], ◌∷◌, length, Option, Some, None, IfSome, slice_get, refl, sym, ap, subst}
+use Rattle.std.proofs.Common.{◌≡◌, ℕ, zero, suc, ◌-◌, ◌≤◌, false, List, [], ◌∷◌, length, Option, Some, None, IfSome, slice_get}
 use Rattle.std.specs.List.{All}
 use Rattle.nm_proto.specs.declared.message.Request.{Request}
 use Rattle.nm_proto.specs.declared.plan.Event.{Event}
@@ -7,7 +7,6 @@ use Rattle.nm_proto.specs.declared.plan.Event.TheVariants.{Submit, Turn, Deliver
 use Rattle.nm_proto.specs.Content.{Meaning, Laws}
 use Rattle.nm_device.specs.Device.{is_manager}
 use Rattle.nm_device.specs.Table.{opening_user}
-use Rattle.nm_decider.specs.declared.course.NextAction.{NextAction}
 use Rattle.nm_manager.specs.Manager.{wire_in, request_next}
 use Rattle.nm_safety.proofs.Sendings.{turn_goes}
 use Rattle.nm_network.specs.declared.happened.Sending.{Sending}

@@ -1,30 +1,28 @@
 -- A world that is supported is safe.
-use Rattle.std.proofs.Common.{◌≡◌, ◌≢◌, ◌∙◌, ℕ, zero, suc, ◌+◌, ◌-◌, ◌≤◌, ◌<◌, Bool, true, false, List, [], ◌∷◌, length, map, Option, Some, None, IfSome, is_some, slice_get, unwrap_or, refl, sym, ap, subst, arith}
-use Rattle.std.proofs.lemmas.Option.{none-some, slice_get_within}
+use Rattle.std.proofs.Common.{◌≡◌, ◌∙◌, ℕ, zero, suc, ◌+◌, ◌-◌, ◌≤◌, ◌<◌, Bool, true, false, List, [], ◌∷◌, length, Option, Some, None, IfSome, is_some, slice_get, unwrap_or, refl, sym, ap, subst, arith}
+use Rattle.std.proofs.lemmas.Option.{slice_get_within}
 use Rattle.nm_base.specs.Mask.{mask_contains}
 use Rattle.nm_base.specs.Token.{token_of}
-use Rattle.nm_proto.specs.declared.journal.Entry.{Entry}
 use Rattle.nm_proto.specs.declared.journal.Verdict.{Verdict}
 use Rattle.nm_proto.specs.declared.journal.Verdict.TheVariants.{Commit, Abort}
 use Rattle.nm_proto.specs.declared.plan.ChangePlan.{ChangePlan}
 use Rattle.nm_proto.specs.declared.plan.Event.{Event}
 use Rattle.nm_proto.specs.Content.{Meaning, Laws}
 use Rattle.nm_proto.specs.Plan.{devices_in}
-use Rattle.nm_history.specs.declared.outcome.Outcome.TheVariants.{Never, Confirmed, Undone}
+use Rattle.nm_history.specs.declared.outcome.Outcome.TheVariants.{Undone}
 use Rattle.nm_history.specs.declared.outcome.Undoing.{Undoing}
 use Rattle.nm_history.specs.declared.outcome.Undoing.TheVariants.{Cancel, End, Timer, Restart}
 use Rattle.nm_history.specs.Outcome.{outcome_of}
-use Rattle.nm_history.specs.History.{RecordedState, recorded}
+use Rattle.nm_history.specs.History.{RecordedState}
 use Rattle.nm_recovery.specs.Recovery.{verdict_in}
 use Rattle.nm_decider.specs.declared.seat.Seat.{Seat}
 use Rattle.nm_wire.specs.Link.{LinkState, fresh_link}
 use Rattle.nm_wire.specs.Words.{commits_sent}
-use Rattle.nm_wire.specs.Wire.{WireState}
 use Rattle.nm_manager.specs.Slot.{SideState, SlotState, to_commit, wire_of_side}
 use Rattle.nm_manager.specs.Manager.{wire_of, wire_in}
 use Rattle.nm_pair.specs.Pair.{PairHolds, EachLink, OutcomeFits, is_never, is_confirmed, is_cancelled, is_ended, to_abort}
 use Rattle.nm_pair.specs.Slots.{HoldsAt}
-use Rattle.nm_pair.specs.Step.{GoWith, IsSeated, GoesWith}
+use Rattle.nm_pair.specs.Step.{IsSeated}
 use Rattle.nm_pair.proofs.Basics.{never}
 use Rattle.nm_pair.proofs.Steps.{pair_at}
 use Rattle.nm_network.specs.World.{Setting, SceneState, manager_in, scene_of, run, start}

@@ -18,9 +18,8 @@ use Rattle.nm_manager.specs.declared.action.Action.TheVariants as action
 use Rattle.nm_manager.specs.Queues.{is_ready_in}
 use Rattle.nm_manager.specs.Requests.{request_for}
 use Rattle.nm_manager.specs.Slot.{SideState, SlotState, asked_in_fact, opens, may_go, gone, sends_if, sends_request, sends_on}
-use Rattle.nm_manager.specs.Manager.{ManagerState, Step, idle, slot_at, with_entry, with_slot, sent_by, decided_by, finishes, acts, turned_by, turned}
+use Rattle.nm_manager.specs.Manager.{ManagerState, Step, idle, slot_at, with_entry, with_slot, sent_by, decided_by, acts, turned_by, turned}
 use Rattle.nm_manager.specs.Slot as slot_specs
-use Rattle.nm_network.specs.declared.happened.Happened.{Happened}
 use Rattle.nm_network.specs.declared.happened.Sending.{Sending}
 use Rattle.nm_network.specs.World.{happened_of, sending_of}
 

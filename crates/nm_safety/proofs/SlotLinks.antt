@@ -1,21 +1,19 @@
 -- What all links of a change set keep, at each step of the manager and at each device's side.
-use Rattle.std.proofs.Common.{◌≡◌, ℕ, ◌-◌, Bool, true, false, List, Option, Some, None, IfSome, map, option_map, slice_get, slice_set, refl, sym, ap, subst}
+use Rattle.std.proofs.Common.{◌≡◌, ℕ, ◌-◌, Bool, true, false, List, Option, Some, None, IfSome, map, option_map, slice_get, slice_set, refl, sym, subst}
 use Rattle.std.proofs.lemmas.Option.{slice_get-map}
 use Rattle.nm_proto.specs.declared.ask.Ask.{Ask}
 use Rattle.nm_proto.specs.declared.ask.Ask.TheVariants as ask
 use Rattle.nm_proto.specs.declared.message.Request.{Request}
-use Rattle.nm_proto.specs.declared.message.Reply.{Reply}
 use Rattle.nm_proto.specs.declared.journal.Entry.{Entry}
 use Rattle.nm_proto.specs.declared.journal.Verdict.{Verdict}
 use Rattle.nm_proto.specs.declared.plan.ChangePlan.{ChangePlan}
 use Rattle.nm_decider.specs.Course as course
 use Rattle.nm_decider.specs.Course.{CourseState}
 use Rattle.nm_wire.specs.declared.link.Exchange.{Exchange}
-use Rattle.nm_wire.specs.Link.{LinkState, fresh_link, sent_on, told_on, handled_on, closed_link, is_quiet_way}
-use Rattle.nm_wire.specs.Wire.{WireState, link_at, told, lost, restarted, broken, handled_at, due}
+use Rattle.nm_wire.specs.Link.{LinkState, fresh_link, sent_on, handled_on, closed_link, is_quiet_way}
+use Rattle.nm_wire.specs.Wire.{WireState, link_at, lost, restarted, handled_at, due}
 use Rattle.nm_manager.specs.Requests.{request_for}
-use Rattle.nm_manager.specs.Slot.{SideState, SlotState, with_wire, with_pair, gone, opens, may_go, asked_in_fact, sends_if, sends_request, sends_on, sends, renews_if, renews_on, renews, hears, receives_due, receives_on, receives, awaits_resync, breaks_current, breaks_on, breaks, cut_off, anew, is_commit, decided, lost_memory, wires_on}
-use Rattle.nm_manager.specs.Manager.{starts_anew}
+use Rattle.nm_manager.specs.Slot.{SideState, SlotState, with_wire, with_pair, gone, opens, may_go, asked_in_fact, sends_if, sends_request, sends_on, sends, renews_if, renews_on, renews, hears, receives_due, receives_on, receives, awaits_resync, breaks_current, breaks_on, breaks, cut_off, anew, is_commit, decided, wires_on}
 use Rattle.nm_pair.proofs.Gone.{each_gone, each_heard, each_changed, each_restarted}
 use Rattle.nm_pair.proofs.Wires.{IsDue, due_is}
 use Rattle.nm_pair.proofs.Places.{set_same}

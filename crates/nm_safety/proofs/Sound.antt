@@ -1,16 +1,16 @@
 -- Each device's history leads to it, whatever happens in the world.
-use Rattle.std.proofs.Common.{◌≡◌, ℕ, zero, suc, List, [], ◌∷◌, map, Option, Some, None, IfSome, slice_get, refl, sym, ap, ◌∙◌, subst}
+use Rattle.std.proofs.Common.{◌≡◌, ℕ, zero, suc, List, [], ◌∷◌, map, Some, None, IfSome, slice_get, refl, sym, ◌∙◌, subst}
 use Rattle.nm_proto.specs.Content.{Meaning, Laws}
 use Rattle.nm_proto.specs.declared.plan.Event.{Event}
 use Rattle.nm_device.specs.Device.{fresh_device}
 use Rattle.nm_history.specs.declared.event.DeviceEvent.{DeviceEvent}
-use Rattle.nm_history.specs.History.{Happened, RecordedState, recorded, recorded_with, recorded_if, device_event}
+use Rattle.nm_history.specs.History.{Happened, RecordedState, recorded, recorded_with, recorded_if}
 use Rattle.nm_history.specs.Leads.{Leads}
 use Rattle.nm_history.proofs.Histories.{leads_none, leads_push}
 use Rattle.nm_standing.specs.Moment.{Happens}
 use Rattle.nm_network.specs.World.{Setting, run, start}
 use Rattle.nm_safety.specs.Safe.{AreSoundFrom}
-use Rattle.nm_safety.proofs.Lists.{some_is, to_some}
+use Rattle.nm_safety.proofs.Lists.{some_is}
 use Rattle.nm_safety.proofs.Devices.{run_keeps}
 
 -- what stands at the places of the devices at the beginning

@@ -1,7 +1,6 @@
 -- What every world keeps at its beginning.
-use Rattle.std.proofs.Common.{◌≡◌, ◌∙◌, ◌⊎◌, inl, ℕ, zero, suc, ◌+◌, ◌≤◌, ◌<◌, nat_lt, Bool, true, false, List, [], ◌∷◌, length, map, replicate, Option, Some, None, IfSome, slice_get, refl, sym, ap, subst, arith}
-use Rattle.std.proofs.lemmas.Bool.Decides.{nat_tests}
-use Rattle.std.proofs.lemmas.Option.{none-some, slice_get-map, same_Some}
+use Rattle.std.proofs.Common.{◌≡◌, inl, ℕ, zero, suc, ◌+◌, ◌≤◌, true, false, List, [], ◌∷◌, length, map, replicate, Option, Some, None, IfSome, slice_get, refl, sym, ap, subst, arith}
+use Rattle.std.proofs.lemmas.Option.{none-some}
 use Rattle.nm_base.specs.Token.{token_of}
 use Rattle.nm_proto.specs.declared.plan.ChangePlan.{ChangePlan}
 use Rattle.nm_proto.specs.Content.{Meaning}
@@ -14,16 +13,13 @@ use Rattle.nm_standing.proofs.Tells.{pending_told_first, token_told_first}
 use Rattle.nm_decider.specs.declared.seat.Seat.{Seat}
 use Rattle.nm_decider.specs.declared.stage.Stage.TheVariants.{Live}
 use Rattle.nm_decider.specs.Course.{seat_of, seats_from, seat_count}
-use Rattle.nm_wire.specs.Link.{LinkState}
-use Rattle.nm_wire.specs.Wire.{no_links}
-use Rattle.nm_manager.specs.Slot.{SideState, SlotState, fresh_side, fresh_slot}
+use Rattle.nm_manager.specs.Slot.{SideState, fresh_side, fresh_slot}
 use Rattle.nm_manager.specs.Manager.{slots_from}
 use Rattle.nm_pair.specs.Slots.{AllHold, HoldsAt}
 use Rattle.nm_pair.proofs.Begun.{fresh_pair}
-use Rattle.nm_pair.proofs.Places.{seat_from}
 use Rattle.nm_pair.proofs.Steps.{fresh_stays}
-use Rattle.nm_network.specs.World.{Setting, IsFirst, begin, given_in, given_on}
-use Rattle.nm_safety.specs.Support.{Owners, LinkName, IsLinked, AllLinks, IsKept, KeptAt, IsDevice, IsOperator, IsSupported}
+use Rattle.nm_network.specs.World.{Setting, IsFirst, begin, given_on}
+use Rattle.nm_safety.specs.Support.{Owners, IsLinked, IsKept, KeptAt, IsDevice, IsOperator, IsSupported}
 use Rattle.nm_safety.proofs.Lists.{some_is, to_some}
 use Rattle.nm_safety.proofs.Sound.{first_at}
 

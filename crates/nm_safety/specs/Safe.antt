@@ -14,7 +14,7 @@ use Rattle.nm_proto.specs.Plan.{devices_in}
 use Rattle.nm_device.specs.Device.{fresh_device, is_manager}
 use Rattle.nm_device.specs.Table.{opening_user}
 use Rattle.nm_history.specs.declared.event.Noted.{Noted}
-use Rattle.nm_history.specs.declared.outcome.Outcome.TheVariants.{Never, Pending, Confirmed, Undone}
+use Rattle.nm_history.specs.declared.outcome.Outcome.TheVariants.{Never, Confirmed, Undone}
 use Rattle.nm_history.specs.declared.outcome.Undoing.{Undoing}
 use Rattle.nm_history.specs.declared.outcome.Undoing.TheVariants.{Cancel, End, Timer, Restart as AtRestart}
 use Rattle.nm_history.specs.Outcome.{outcome_of}
@@ -69,7 +69,7 @@ commits_over (link ∷ links) = commits_sent link + commits_over links
 abbrev pub IsOwnOpening : {TheEdit : Type 0} → Setting TheEdit → ℕ → Request → Type 0
 IsOwnOpening setting operator request = IfSome (opening_user request) (λ user. slice_get setting.users (operator - 1) ≡ Some user)
 
--- change sets and devices are counted from 1
+-- an event of an operator asks for a session so, and what comes to the manager names its change set and device by their numbers, from 1
 abbrev pub IsGiven : {TheEdit : Type 0} → Setting TheEdit → Event → Type 0
 IsGiven setting (Submit change) = 1 ≤ change
 IsGiven setting (Turn change) = 1 ≤ change

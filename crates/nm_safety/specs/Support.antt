@@ -1,5 +1,5 @@
 -- What every world keeps, whatever happens in it, and from which its safety follows (this project's own).
-use Rattle.std.specs.Prelude.{◌≡◌, ℕ, suc, ◌≤◌, ◌<◌, List, Bool, true, false, Option, Some, None, IfSome, is_some, slice_get}
+use Rattle.std.specs.Prelude.{◌≡◌, ℕ, suc, ◌≤◌, ◌<◌, List, true, false, Option, Some, None, IfSome, is_some, slice_get}
 use Rattle.std.proofs.Common.{◌⊎◌}
 use Rattle.nm_base.specs.Token.{token_of}
 use Rattle.nm_base.specs.Words.{manager}
@@ -20,7 +20,6 @@ use Rattle.nm_decider.specs.declared.stage.Stage.TheVariants.{Live}
 use Rattle.nm_decider.specs.Course.{seats_from, seat_count}
 use Rattle.nm_wire.specs.Asks.{ask_of, same_ask}
 use Rattle.nm_wire.specs.Link.{LinkState, session_of, asked_on}
-use Rattle.nm_wire.specs.Wire.{WireState}
 use Rattle.nm_manager.specs.Slot.{SideState, SlotState}
 use Rattle.nm_pair.specs.Delivered.{NamesOurs}
 use Rattle.nm_pair.specs.Slots.{AllHold}
