@@ -3,3 +3,4 @@ pub mod Staging
 pub mod Clocks
 pub mod Meetings
 pub mod Beginnings
+pub mod Failing

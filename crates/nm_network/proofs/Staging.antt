@@ -10,7 +10,7 @@ use Rattle.nm_proto.specs.declared.message.Request.{Request}
 use Rattle.nm_manager.specs.declared.action.Action.{Action}
 use Rattle.nm_manager.specs.Manager.{Managing, Step, with_state}
 use Rattle.nm_network.specs.declared.happened.Happened.{Happened}
-use Rattle.nm_network.specs.World.{Setting, SceneState, Staged, Came, Meeting, Asking, Moved, met, moved, asked_by, by_manager, happened_of, IsCome, left_with, leaving_at, has_on, operator_at, IsMet, AreMet, IsAsked, AreAsked, IsMoved, AreMoved}
+use Rattle.nm_network.specs.World.{Staged, Meeting, Asking, Moved, met, moved, asked_by, by_manager, happened_of, IsCome, left_with, leaving_at, has_on, operator_at, IsMet, AreMet, IsAsked, AreAsked, IsMoved, AreMoved}
 
 -- what stands at a place where nothing has changed
 pub unmoved : {A : Type 0} (xs : List A) (i : ℕ) (old new : A) → old ≡ get_or xs i old → new ≡ old → set xs i new ≡ xs

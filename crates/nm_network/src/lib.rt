@@ -1,8 +1,8 @@
 //! The world: devices with their histories, the manager of all change sets with its links, and operators beside it.
 //!
 //! Stands on `nm_history` and `nm_manager`. What every event does, how a world comes to rest and what is reported of it are
-//! defined here. The layers above rely on each event that leaves the journal alone, and on a submission, as an equation between
-//! what stands before and after it.
+//! defined here. The layers above rely on each event but a crash as an equation between what stands before
+//! and after it.
 #![tactic(auto)]
 
 pub mod drain;

@@ -1,4 +1,4 @@
-use Rattle.std.proofs.Common.{None, ◌∙◌, sym, subst}
+use Rattle.std.proofs.Common.{None, sym, subst}
 use Rattle.nm_journal.specs.Fits.{Fits}
 use Rattle.nm_manager.specs.Manager.{submitted}
 use Rattle.nm_network.specs.World.{Staged, scene_journal}
