@@ -4,3 +4,4 @@ pub mod Clocks
 pub mod Meetings
 pub mod Beginnings
 pub mod Failing
+pub mod Searches

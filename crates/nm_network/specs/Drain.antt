@@ -1,16 +1,17 @@
 -- How a world is brought to rest (this project's own): first each operator's session ends, then each link that isn't current,
 -- and then the change sets go on, one after another. Each step is an event of the world.
-use Rattle.std.specs.Prelude.{ℕ, zero, suc, ◌+◌, ◌-◌, Bool, true, false, ◌&&◌, not, nat_lt, List, length, Option, Some, None, is_some, if◌then◌else◌}
+use Rattle.std.specs.Prelude.{ℕ, zero, suc, ◌+◌, ◌-◌, Bool, true, false, ◌&&◌, not, nat_lt, List, length, Option, Some, None, is_some, slice_get, if◌then◌else◌}
 use Rattle.nm_proto.specs.declared.plan.Event.{Event}
 use Rattle.nm_proto.specs.declared.plan.Event.TheVariants.{Leave, Lose, Break, Deliver, Answer, Turn}
+use Rattle.nm_proto.specs.declared.journal.Entry.{Entry}
 use Rattle.nm_proto.specs.Content.{Meaning}
 use Rattle.nm_history.specs.History.{RecordedState}
 use Rattle.nm_wire.specs.Wire.{WireState, link_at, is_current, counts_of}
 use Rattle.nm_manager.specs.Queues.{is_ready_in}
-use Rattle.nm_manager.specs.Manager.{wire_in}
+use Rattle.nm_manager.specs.Manager.{ManagerState, wire_in}
 use Rattle.nm_network.specs.declared.drain.Rule.{Rule}
 use Rattle.nm_network.specs.declared.drain.Rule.TheVariants as rules
-use Rattle.nm_network.specs.World.{Setting, SceneState, WorldState, scene_of, manager_in, device_at, is_side_open, undelivered, has_on, operator_at, replies_on, world_step}
+use Rattle.nm_network.specs.World.{Setting, SceneState, WorldState, scene_of, manager_in, is_side_open, undelivered, has_on, operator_at, replies_on, world_step}
 
 -- ---- the first of many
 
@@ -87,59 +88,65 @@ found_by rules.Break r links change device = break_on r links change device
 found_by rules.Deliver r links change device = deliver_on r links change device
 found_by rules.Answer r links change device = answer_on links change device
 
-module _ {Config Node : Type 0} where
-  abbrev pub found_of : Rule → SceneState Config Node → ℕ → ℕ → Option (RecordedState Config Node) → Option Event
-  found_of rule w change device None = None
-  found_of rule w change device (Some r) = found_by rule r (wire_in (manager_in w) change device) change device
+module _ {Config Node : Type 0} (devices : List (RecordedState Config Node)) (state : ManagerState) where
+  abbrev pub found_of : Rule → ℕ → ℕ → Option (RecordedState Config Node) → Option Event
+  found_of rule change device None = None
+  found_of rule change device (Some r) = found_by rule r (wire_in state change device) change device
 
-  unfoldable pub at_pair : Rule → SceneState Config Node → ℕ → ℕ → Option Event
-  at_pair rule w change device = found_of rule w change device (device_at w device)
+  unfoldable pub at_pair : Rule → ℕ → ℕ → Option Event
+  at_pair rule change device = found_of rule change device (slice_get devices (device - 1))
 
   -- the least device at which a rule finds something
-  unfoldable pub at_devices : Rule → SceneState Config Node → ℕ → Option Event
-  at_devices rule w change = first_from (at_pair rule w change) 1 (length w.devices)
+  unfoldable pub at_devices : Rule → ℕ → Option Event
+  at_devices rule change = first_from (at_pair rule change) 1 (length devices)
 
+module _ {Config Node : Type 0} (devices : List (RecordedState Config Node)) (operators : List (List (Option ℕ))) where
   abbrev pub leave_by : ℕ → ℕ → Option (List (Option ℕ)) → Option (RecordedState Config Node) → Option Event
   leave_by number device None r = None
   leave_by number device (Some operator) None = None
   leave_by number device (Some operator) (Some r) = event_if (is_some (has_on operator r (device - 1))) (Leave number device)
 
-  unfoldable pub leave_on : SceneState Config Node → ℕ → ℕ → Option Event
-  leave_on w number device = leave_by number device (operator_at w.operators number) (device_at w device)
+  unfoldable pub leave_on : ℕ → ℕ → Option Event
+  leave_on number device = leave_by number device (operator_at operators number) (slice_get devices (device - 1))
 
-  unfoldable pub leave_of : SceneState Config Node → ℕ → Option Event
-  leave_of w number = first_from (leave_on w number) 1 (length w.devices)
+  unfoldable pub leave_of : ℕ → Option Event
+  leave_of number = first_from (leave_on number) 1 (length devices)
 
-  unfoldable pub ready_at : SceneState Config Node → ℕ → Option ℕ
-  ready_at w change = if is_ready_in w.entries change then Some change else None
+  -- an operator's session ends, the least operator and its least device first
+  abbrev pub leaves : Option Event
+  leaves = first_from leave_of 1 (length operators)
+
+-- a change set, where it is ready
+unfoldable pub ready_at : List Entry → ℕ → Option ℕ
+ready_at entries change = if is_ready_in entries change then Some change else None
+
+-- the least change set that is ready
+abbrev pub first_ready : ℕ → List Entry → Option ℕ
+first_ready changes entries = first_from (ready_at entries) 1 changes
 
 -- ---- the whole
 
-module _ {Config Node : Type 0} where
-  -- an operator's session ends, the least operator and its least device first
-  abbrev pub leaves : SceneState Config Node → Option Event
-  leaves w = first_from (leave_of w) 1 (length w.operators)
-
+module _ {Config Node : Type 0} (devices : List (RecordedState Config Node)) (state : ManagerState) where
   -- a link that isn't current ends at the device, that of the least of so many change sets, device and number first
-  abbrev pub loses_links : ℕ → SceneState Config Node → Option Event
-  loses_links changes w = first_from (at_devices rules.Lose w) 1 changes
-
-  -- the least change set that is ready
-  abbrev pub first_ready : ℕ → SceneState Config Node → Option ℕ
-  first_ready changes w = first_from (ready_at w) 1 changes
+  abbrev pub loses_links : ℕ → Option Event
+  loses_links changes = first_from (at_devices devices state rules.Lose) 1 changes
 
   -- a change set goes on: a stranded link breaks, or a request is delivered, or a reply is answered, or else the manager acts
-  abbrev pub goes_on : SceneState Config Node → ℕ → Option Event
-  goes_on w change =
-      found_or (at_devices rules.Break w change) (found_or (at_devices rules.Deliver w change) (found_or (at_devices rules.Answer w change) (Some (Turn change))))
+  abbrev pub goes_on : ℕ → Option Event
+  goes_on change = found_or (at_devices devices state rules.Break change)
+      (found_or (at_devices devices state rules.Deliver change) (found_or (at_devices devices state rules.Answer change) (Some (Turn change))))
 
-  abbrev pub goes_on_with : SceneState Config Node → Option ℕ → Option Event
-  goes_on_with w None = None
-  goes_on_with w (Some change) = goes_on w change
+  abbrev pub goes_on_with : Option ℕ → Option Event
+  goes_on_with None = None
+  goes_on_with (Some change) = goes_on change
 
   -- the next step of so many change sets
-  abbrev pub drain_in : ℕ → SceneState Config Node → Option Event
-  drain_in changes w = found_or (leaves w) (found_or (loses_links changes w) (goes_on_with w (first_ready changes w)))
+  abbrev pub drain_of : ℕ → List (List (Option ℕ)) → Option Event
+  drain_of changes operators =
+      found_or (leaves devices operators) (found_or (loses_links changes) (goes_on_with (first_ready changes state.entries)))
+
+abbrev pub drain_in : {Config Node : Type 0} → ℕ → SceneState Config Node → Option Event
+drain_in changes w = drain_of w.devices (manager_in w) changes w.operators
 
 -- the next step, None where the world is at rest
 abbrev pub drain_event : {Config TheEdit Node : Type 0} → Setting TheEdit → WorldState Config Node → Option Event

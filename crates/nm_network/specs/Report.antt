@@ -1,16 +1,17 @@
 -- What is reported of a world at its end (this project's own): the devices that differ from a journalled verdict, and those of which
 -- it isn't known yet what becomes of a change set. Both are read from the devices' histories, which no manager sees.
-use Rattle.std.specs.Prelude.{ℕ, zero, suc, ◌+◌, Bool, true, false, ◌&&◌, ◌||◌, not, List, [], ◌∷◌, ◌++◌, length, Option, Some, None, is_some}
+use Rattle.std.specs.Prelude.{ℕ, zero, suc, ◌+◌, ◌-◌, Bool, true, false, ◌&&◌, ◌||◌, not, List, [], ◌∷◌, ◌++◌, length, Option, Some, None, is_some, slice_get}
 use Rattle.nm_base.specs.Token.{token_of}
+use Rattle.nm_proto.specs.declared.journal.Entry.{Entry}
 use Rattle.nm_history.specs.History.{RecordedState}
 use Rattle.nm_history.specs.Outcome.{outcome_of, is_pending, is_undone}
 use Rattle.nm_recovery.specs.Recovery.{is_started, verdict_in}
 use Rattle.nm_wire.specs.Wire.{WireState}
 use Rattle.nm_manager.specs.Slot.{to_commit}
-use Rattle.nm_manager.specs.Manager.{wire_in}
+use Rattle.nm_manager.specs.Manager.{ManagerState, wire_in}
 use Rattle.nm_network.specs.declared.report.Pair.{Pair}
 use Rattle.nm_network.specs.declared.report.Report.{Report}
-use Rattle.nm_network.specs.World.{Setting, SceneState, WorldState, scene_of, manager_in, device_at, undelivered}
+use Rattle.nm_network.specs.World.{Setting, SceneState, WorldState, scene_of, manager_in, undelivered}
 
 -- ---- settled
 
@@ -45,33 +46,36 @@ pair_if false change device = []
 
 module _ {Config Node : Type 0} where
   -- it was decided to commit, and the device's commit was undone
-  abbrev pub differs : SceneState Config Node → ℕ → Option (RecordedState Config Node) → Bool
-  differs w change None = false
-  differs w change (Some r) = to_commit (verdict_in change w.entries) && is_undone (outcome_of (token_of change) r.history)
+  abbrev pub differs : Bool → ℕ → Option (RecordedState Config Node) → Bool
+  differs committed change None = false
+  differs committed change (Some r) = committed && is_undone (outcome_of (token_of change) r.history)
 
-  unfoldable pub differs_at : SceneState Config Node → ℕ → ℕ → List Pair
-  differs_at w change device = pair_if (differs w change (device_at w device)) change device
+  unfoldable pub differs_at : List (RecordedState Config Node) → Bool → ℕ → ℕ → List Pair
+  differs_at devices committed change device = pair_if (differs committed change (slice_get devices (device - 1))) change device
 
-  unfoldable pub differing : SceneState Config Node → ℕ → List Pair
-  differing w change = each_from (differs_at w change) 1 (length w.devices)
+  unfoldable pub differing : List (RecordedState Config Node) → List Entry → ℕ → List Pair
+  differing devices entries change = each_from (differs_at devices (to_commit (verdict_in change entries)) change) 1 (length devices)
 
   -- it was submitted, and it isn't settled at the device
-  abbrev pub unsettles : SceneState Config Node → ℕ → ℕ → Option (RecordedState Config Node) → Bool
-  unsettles w change device None = false
-  unsettles w change device (Some r) = is_started change w.entries && not (is_settled r (wire_in (manager_in w) change device) change)
+  abbrev pub unsettles : ManagerState → ℕ → ℕ → Option (RecordedState Config Node) → Bool
+  unsettles state change device None = false
+  unsettles state change device (Some r) = is_started change state.entries && not (is_settled r (wire_in state change device) change)
 
-  unfoldable pub unsettled_at : SceneState Config Node → ℕ → ℕ → List Pair
-  unsettled_at w change device = pair_if (unsettles w change device (device_at w device)) change device
+  unfoldable pub unsettled_at : List (RecordedState Config Node) → ManagerState → ℕ → ℕ → List Pair
+  unsettled_at devices state change device = pair_if (unsettles state change device (slice_get devices (device - 1))) change device
 
-  unfoldable pub unsettling : SceneState Config Node → ℕ → List Pair
-  unsettling w change = each_from (unsettled_at w change) 1 (length w.devices)
+  unfoldable pub unsettling : List (RecordedState Config Node) → ManagerState → ℕ → List Pair
+  unsettling devices state change = each_from (unsettled_at devices state change) 1 (length devices)
 
--- the pairs in ascending order
+  -- the pairs in ascending order
+  abbrev pub report_from : List (RecordedState Config Node) → ManagerState → ℕ → Report
+  report_from devices state changes = record {
+    differ = each_from (differing devices state.entries) 1 changes;
+    unsettled = each_from (unsettling devices state) 1 changes;
+  }
+
 abbrev pub report_in : {Config TheEdit Node : Type 0} → Setting TheEdit → SceneState Config Node → Report
-report_in setting w = record {
-  differ = each_from (differing w) 1 (length setting.plans);
-  unsettled = each_from (unsettling w) 1 (length setting.plans);
-}
+report_in setting w = report_from w.devices (manager_in w) (length setting.plans)
 
 abbrev pub report_of : {Config TheEdit Node : Type 0} → Setting TheEdit → WorldState Config Node → Report
 report_of setting w = report_in setting (scene_of w)

@@ -11,6 +11,7 @@ pub mod operator;
 mod places;
 pub mod report;
 mod scene;
+mod search;
 pub mod settled;
 mod steps;
 #[cfg(test)]
