@@ -1,5 +1,5 @@
 -- What the program says to its words and its input (this project's own), and what the top call tells of it.
-use Rattle.std.specs.Prelude.{◌≡◌, ℕ, codes, List, [], ◌∷◌, length, map, Bool, true, false, Option, Some, None, Result, Ok, Err, IfSome, IsTrue}
+use Rattle.std.specs.Prelude.{◌≡◌, ℕ, codes, List, [], ◌∷◌, length, map, Bool, true, false, Option, Some, None, Result, Ok, Err, IfSome, IsTrue, unwrap_or}
 use Rattle.std.specs.List.{All}
 use Rattle.std.specs.Io.KnownBytes.{append_known}
 use Rattle.nm_io.specs.Bytes.{Begins}
@@ -34,6 +34,7 @@ use Rattle.nm_journal.specs.Fits.{ReadsAs}
 use Rattle.nm_journal.specs.declared.fault.JournalFault.{JournalFault}
 use Rattle.nm_journal.specs.declared.fault.JournalFault.TheVariants.{NotEmpty}
 use Rattle.nm_proto.specs.declared.journal.Entry.{Entry}
+use Rattle.nm_world.specs.Journalled.{IsBetween}
 use Rattle.nm_console.specs.declared.status.Status.{Status}
 use Rattle.nm_console.specs.declared.status.Status.TheVariants as status
 use Rattle.nm_console.specs.declared.command.Command.{Command}
@@ -197,6 +198,16 @@ entries_left None bytes image = None
 abbrev pub Stores : Option (List Entry) → Option (List ℕ) → Option (List ℕ) → Type 0
 Stores None stored after = after ≡ stored
 Stores (Some entries) stored after = IfSome after (ReadsAs entries)
+
+-- what a crash leaves of a journal in which nothing stood, while this is replayed: the entries so far
+abbrev pub LeavesSoFar : Result Scenario Fault → List ℕ → Type 0
+LeavesSoFar read image = IsBetween [] (unwrap_or (replay_entries [] read) []) image
+
+-- the same of what an input holds
+pub record LeavesSoFarOf (left : Option (List ℕ)) (image : List ℕ) : Type 0 where
+  pub bytes : List ℕ
+  pub held : IfSome left (λ told. told ≡ bytes)
+  pub so_far : LeavesSoFar (flat_scenario_of bytes) image
 
 -- devices of flat contents begin with valid configurations
 abbrev pub AreFirst : Body → Type 0

@@ -1,9 +1,11 @@
-ghost use Rattle.std.specs.Prelude.{◌≡◌, List, ℕ, Option, IfOk, IsErrOf, Some, IsTrue, true, false};
+ghost use Rattle.std.specs.Prelude.{◌≡◌, List, [], ℕ, Option, IfOk, IsErrOf, Some, IsSome, IsTrue, true, false};
 ghost use Rattle.nm_base.specs.Count.{Rose};
+ghost use Rattle.nm_disk.specs.Image.{AnyMoment, LeavesOnly};
 ghost use Rattle.nm_disk.specs.Keeps.{KeepsDisk};
 ghost use Rattle.nm_console.specs.Words.{command_of, is_replay, reads_input, uses_journal, texts_of};
 ghost use Rattle.nm_console.specs.Status.{is_whole};
-ghost use Rattle.nm_console.specs.Console.{Answers, CutOff, Says, Tells, TellsOver, usage_told};
+ghost use Rattle.nm_scenario.specs.Scenario.{flat_scenario_of};
+ghost use Rattle.nm_console.specs.Console.{Answers, CutOff, LeavesSoFar, LeavesSoFarOf, Says, Tells, TellsOver, usage_told};
 
 use crate::check::check_bytes;
 use crate::command::{Command, command_of};
@@ -63,6 +65,10 @@ pub fn console<S: Source, K: Sink, D: Disk>(
     ensures unread { reads_input (command_of (texts_of words.now)) ≡ false → input.new ≡ input.old }
     ensures journal_stays { is_replay (command_of (texts_of words.now)) ≡ false → D.told journal.new ≡ D.told journal.old }
     ensures journal_kept { KeepsDisk D.told D.faults journal.old journal.new }
+
+    // A crash at any moment of a run over an empty journal leaves the entries so far, the one being written with them or not.
+    ensures any_moment { is_replay (command_of (texts_of words.now)) ≡ true → IsSome (D.told journal.old) → LeavesOnly [] (D.may_leave journal.old)
+        → AnyMoment D.moment D.might_have_left journal.old journal.new (LeavesSoFarOf (S.left input.old)) }
 {
     let said = match say(alloc, command_of(words), input, journal) {
         Ok(said) => said,
@@ -93,6 +99,8 @@ fn say<S: Source, D: Disk>(
     ensures unread { reads_input command ≡ false → input.new ≡ input.old }
     ensures journal_stays { is_replay command ≡ false → D.told journal.new ≡ D.told journal.old }
     ensures journal_kept { KeepsDisk D.told D.faults journal.old journal.new }
+    ensures any_moment { is_replay command ≡ true → IsSome (D.told journal.old) → LeavesOnly [] (D.may_leave journal.old)
+        → AnyMoment D.moment D.might_have_left journal.old journal.new (LeavesSoFarOf (S.left input.old)) }
 {
     match command {
         None => match say_usage(alloc) {
@@ -135,6 +143,8 @@ fn say_input<S: Source, D: Disk>(
     ensures disk_fault { IsErrOf result Stop.DiskFault → IsTrue (uses_journal (Some command)) × Rose (D.faults journal.old) (D.faults journal.new) }
     ensures journal_stays { is_replay (Some command) ≡ false → D.told journal.new ≡ D.told journal.old }
     ensures journal_kept { KeepsDisk D.told D.faults journal.old journal.new }
+    ensures any_moment { is_replay (Some command) ≡ true → IsSome (D.told journal.old) → LeavesOnly [] (D.may_leave journal.old)
+        → AnyMoment D.moment D.might_have_left journal.old journal.new (LeavesSoFarOf (S.left input.old)) }
 {
     match read_all(alloc, input, BYTE_LIMIT) {
         Ok(bytes) => match say_bytes(alloc, command, bytes.as_slice(), journal) {
@@ -164,6 +174,8 @@ fn say_bytes<D: Disk>(
     ensures disk_fault { IsErrOf result JournalStop.DiskFault → IsTrue (uses_journal (Some command)) × Rose (D.faults journal.old) (D.faults journal.new) }
     ensures journal_stays { is_replay (Some command) ≡ false → D.told journal.new ≡ D.told journal.old }
     ensures journal_kept { KeepsDisk D.told D.faults journal.old journal.new }
+    ensures any_moment { is_replay (Some command) ≡ true → IsSome (D.told journal.old) → LeavesOnly [] (D.may_leave journal.old)
+        → AnyMoment D.moment D.might_have_left journal.old journal.new (LeavesSoFar (flat_scenario_of bytes.now)) }
 {
     match command {
         Command::Check => match check_bytes(alloc, bytes) {

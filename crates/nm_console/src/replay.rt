@@ -1,15 +1,17 @@
 //! The command `replay`.
 
-ghost use Rattle.std.specs.Prelude.{◌≡◌, [], None, Ok, IfOk, IfSome, IsErrOf};
+ghost use Rattle.std.specs.Prelude.{◌≡◌, [], None, Ok, IfOk, IfSome, IsSome, IsErrOf};
 ghost use Rattle.std.specs.List.{All};
 ghost use Rattle.nm_base.specs.Count.{Rose};
+ghost use Rattle.nm_disk.specs.Image.{AnyMoment, LeavesOnly};
 ghost use Rattle.nm_disk.specs.Keeps.{KeepsDisk};
 ghost use Rattle.nm_journal.specs.Fits.{Fits, ReadsAs};
 ghost use Rattle.nm_journal.specs.declared.fault.JournalFault.TheVariants.{DiskFault};
 ghost use Rattle.nm_proto.specs.FlatContent.{flat_meaning};
 ghost use Rattle.nm_scenario.specs.Scenario.{flat_scenario_of};
+ghost use Rattle.nm_world.specs.Journalled.{IsBetween};
 ghost use Rattle.nm_world.specs.World.{IsFirst};
-ghost use Rattle.nm_console.specs.Console.{AreFirst, Tells, TellsReplay, TellsRun, TellsUnopened, course_of, devices_told, entries_of_world, faulted, no_plan, not_empty, not_replayed, told_with, world_from, world_told};
+ghost use Rattle.nm_console.specs.Console.{AreFirst, LeavesSoFar, Tells, TellsReplay, TellsRun, TellsUnopened, course_of, devices_told, entries_of_world, faulted, no_plan, not_empty, not_replayed, told_with, world_from, world_told};
 
 use crate::journal::JournalStop;
 use crate::refusal::write_not_empty;
@@ -33,6 +35,8 @@ pub fn replay_bytes<D: Disk>(alloc: Global, bytes: &[u8], disk: &mut D) -> Resul
     ensures told { IfOk result (λ said. TellsReplay (flat_scenario_of bytes.now) (D.told disk.old) (D.told disk.new) said.status said.text.items) }
     ensures disk_fault { IsErrOf result JournalStop.DiskFault → Rose (D.faults disk.old) (D.faults disk.new) }
     ensures keeps { KeepsDisk D.told D.faults disk.old disk.new }
+    // A crash at any moment leaves the entries so far.
+    ensures any_moment { IsSome (D.told disk.old) → LeavesOnly [] (D.may_leave disk.old) → AnyMoment D.moment D.might_have_left disk.old disk.new (LeavesSoFar (flat_scenario_of bytes.now)) }
 {
     match read_flat_scenario(alloc, bytes) {
         Ok(scenario) => say_scenario(alloc, scenario, disk),
@@ -54,6 +58,7 @@ fn say_scenario<D: Disk>(
     ensures told { IfOk result (λ said. TellsReplay (Ok scenario) (D.told disk.old) (D.told disk.new) said.status said.text.items) }
     ensures disk_fault { IsErrOf result JournalStop.DiskFault → Rose (D.faults disk.old) (D.faults disk.new) }
     ensures keeps { KeepsDisk D.told D.faults disk.old disk.new }
+    ensures any_moment { IsSome (D.told disk.old) → LeavesOnly [] (D.may_leave disk.old) → AnyMoment D.moment D.might_have_left disk.old disk.new (LeavesSoFar (Ok scenario)) }
 {
     let Scenario {
         body,
@@ -112,6 +117,8 @@ fn say_flat<D: Disk>(
     ensures told { IfOk result (λ said. TellsRun (told_with devices tables changes operators events.now trace) (entries_of_world devices tables changes operators events.now) (D.told disk.old) (D.told disk.new) said.status said.text.items) }
     ensures disk_fault { IsErrOf result JournalStop.DiskFault → Rose (D.faults disk.old) (D.faults disk.new) }
     ensures keeps { KeepsDisk D.told D.faults disk.old disk.new }
+    ensures any_moment { IsSome (D.told disk.old) → LeavesOnly [] (D.may_leave disk.old)
+        → AnyMoment D.moment D.might_have_left disk.old disk.new (IsBetween [] (entries_of_world devices tables changes operators events.now)) }
 {
     match Journal::fresh(alloc, disk) {
         Ok(journal) => say_run(
@@ -168,6 +175,8 @@ fn say_run<D: Disk>(
     ensures stored { IfOk result (λ _. IfSome (D.told disk.new) (ReadsAs (entries_of_world devices tables changes operators events.now))) }
     ensures disk_fault { IsErrOf result JournalStop.DiskFault → Rose (D.faults disk.old) (D.faults disk.new) }
     ensures keeps { KeepsDisk D.told D.faults disk.old disk.new }
+    ensures any_moment { IsSome (D.told disk.old)
+        → AnyMoment D.moment D.might_have_left disk.old disk.new (IsBetween [] (entries_of_world devices tables changes operators events.now)) }
 {
     match changes.take_first() {
         None => {
@@ -229,6 +238,8 @@ fn world_of<D: Disk>(
     ensures stored { IfOk result (λ _. IfSome (D.told disk.new) (ReadsAs (world_from devices tables plan.now operators events.now).entries)) }
     ensures disk_fault { IsErrOf result JournalStop.DiskFault → Rose (D.faults disk.old) (D.faults disk.new) }
     ensures keeps { KeepsDisk D.told D.faults disk.old disk.new }
+    ensures any_moment { IsSome (D.told disk.old)
+        → AnyMoment D.moment D.might_have_left disk.old disk.new (IsBetween [] (world_from devices tables plan.now operators events.now).entries) }
 {
     let content = FlatContent::new(alloc);
     let course = course_of(alloc, plan)?;

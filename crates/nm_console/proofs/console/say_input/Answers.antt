@@ -1,5 +1,6 @@
 use Rattle.std.proofs.Common.{List, ℕ, subst, Some}
 use Rattle.nm_console.specs.Console.{TellsOver}
+use Rattle.nm_console.proofs.Crashes.{not_read}
 use Rattle.nm_console.proofs.Saying.{bytes_say}
 use Rattle.nm_console.proofs.console.say_input.Goals as goal
 
@@ -10,3 +11,19 @@ returns-in-Ok-say_bytes-clause-says g c =
     let after = g.D.Disk.told c.say_bytes.new.journal in
     bytes_say (record { left = g.S.Source.left c.args.input.now; stored = stored; after = after }) c.args.command c.in-Ok.bytes.items said.status said.text.items c.in-Ok.ensures.whole
     (subst (λ b. TellsOver (Some c.args.command) b stored after said.status said.text.items) c.as_slice.ensures.value c.in-Ok-say_bytes.ensures.told)
+
+pub returns-in-Ok-say_whole_fault-clause-any_moment : goal.returns-in-Ok-say_whole_fault-clause-any_moment
+returns-in-Ok-say_whole_fault-clause-any_moment g c = λ replays there empty.
+    not_read g.D.Disk.may_leave g.D.Disk.moment g.D.Disk.might_have_left (g.S.Source.left c.args.input.now) c.args.journal.now (g.met.D.Disk.only_now c.args.journal.now) empty
+
+pub returns-in-Err-TooLong-clause-any_moment : goal.returns-in-Err-TooLong-clause-any_moment
+returns-in-Err-TooLong-clause-any_moment g c = λ replays there empty.
+    not_read g.D.Disk.may_leave g.D.Disk.moment g.D.Disk.might_have_left (g.S.Source.left c.args.input.now) c.args.journal.now (g.met.D.Disk.only_now c.args.journal.now) empty
+
+pub returns-in-Err-ReadFault-clause-any_moment : goal.returns-in-Err-ReadFault-clause-any_moment
+returns-in-Err-ReadFault-clause-any_moment g c = λ replays there empty.
+    not_read g.D.Disk.may_leave g.D.Disk.moment g.D.Disk.might_have_left (g.S.Source.left c.args.input.now) c.args.journal.now (g.met.D.Disk.only_now c.args.journal.now) empty
+
+pub returns-clause-any_moment : goal.returns-clause-any_moment
+returns-clause-any_moment g c = λ replays there empty.
+    not_read g.D.Disk.may_leave g.D.Disk.moment g.D.Disk.might_have_left (g.S.Source.left c.args.input.now) c.args.journal.now (g.met.D.Disk.only_now c.args.journal.now) empty
