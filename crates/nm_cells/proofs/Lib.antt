@@ -1,2 +1,4 @@
+pub mod Clock
 pub mod Cursor
+pub mod Finds
 pub mod Keeps

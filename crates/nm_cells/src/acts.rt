@@ -1,7 +1,7 @@
 //! What happens at a device, noted in its history, which has room for it. Nothing is left half done: where there is no
 //! memory, neither the device nor the history has changed.
 
-ghost use Rattle.std.specs.Prelude.{◌≡◌, ◌<◌, true, false, Some, IfOk, OnOk, OnErr, length, vec_capacity};
+ghost use Rattle.std.specs.Prelude.{◌≡◌, ◌<◌, ◌+◌, true, false, Some, IfOk, OnOk, OnErr, length, vec_capacity};
 ghost use Rattle.std.specs.List.{All};
 ghost use Rattle.nm_proto.specs.Message.{holds_text};
 ghost use Rattle.nm_sessions.specs.Sessions.{is_open};
@@ -102,6 +102,7 @@ pub(crate) fn lose<C: Content>(
 }
 
 // The clock rises.
+#[tactic(auto, using(crate::proofs::Clock::clock_rises, crate::proofs::Clock::sessions_stay))]
 pub(crate) fn advance<C: Content>(
     device: &mut Device<C>,
     history: &mut Vec<Noted>,
@@ -113,6 +114,8 @@ pub(crate) fn advance<C: Content>(
     requires in_time { IsInTime device.old.clock }
     ensures advanced { Changes result (beside device.old history.old.items) (beside device.new history.new.items) (DeviceEvent.Advanced seconds) (advancing (C.meaning content.now) device.old seconds) }
     ensures capacity { vec_capacity history.new ≡ vec_capacity history.old }
+    ensures clock { device.new.clock ≡ device.old.clock + seconds }
+    ensures sessions { device.new.sessions ≡ device.old.sessions }
     ensures sound { IsSound (C.meaning content.now) device.new }
 {
     let undone = device.advance(content, seconds);

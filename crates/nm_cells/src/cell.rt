@@ -1,14 +1,18 @@
 //! A device behind its lock.
 
 ghost use Rattle.std.specs.Prelude.{◌≡◌, true, Some, IfOk, OnErr};
+ghost use Rattle.std.specs.List.{All};
+ghost use Rattle.nm_history.specs.History.{event_of};
 ghost use Rattle.nm_cells.specs.Kept.{IsKept};
+ghost use Rattle.nm_cells.specs.Asking.{FindsBy};
 ghost use Rattle.nm_cells.specs.Pass.{is_operator};
 
+use crate::asked::Asked;
 use crate::kept::KeptDevice;
 use crate::pass::Pass;
 use nm_base::{DeviceNo, NoMemory, SessionId};
 use nm_plan::RunName;
-use nm_proto::Content;
+use nm_proto::{Content, Request, Tables};
 use std::sync::{Mutex, Wait};
 
 /// A device of a run behind its lock. What its type keeps is so whenever the lock is free.
@@ -35,6 +39,30 @@ impl<C: Content, N: RunName<C, C::Config, C::Edit>> DeviceCell<C, N> {
             device,
             state: Mutex::new(state),
         }
+    }
+
+    /// A request of a caller, once the lock is free, as `KeptDevice::serve` answers it. What the caller finds of it stands in the
+    /// pass, at the place that is told.
+    #[tactic(auto, using(crate::proofs::Finds::finds))]
+    pub fn ask<R: Wait>(
+        &self,
+        rt: &R,
+        content: &C,
+        tables: &Tables<C>,
+        pass: &mut Pass,
+        session: Option<SessionId>,
+        request: &Request,
+    ) -> Result<Asked, NoMemory>
+        requires content { N.run.content ≡ Some content.now }
+        requires tables { N.run.tables ≡ tables.now }
+        requires edits_belong { All (C.meaning content.now).edit_belongs tables.now.edits }
+        ensures found { IfOk result (λ asked. FindsBy (event_of session request.now) asked pass.old.entries pass.new.entries self.now.device) }
+        ensures owner { pass.new.owner ≡ pass.old.owner }
+        ensures unchanged { OnErr result (pass.new ≡ pass.old) }
+    {
+        self.state
+            .lock(rt)
+            .serve(content, tables, self.device, pass, session, request)
     }
 
     /// An operator hangs up a session, once the lock is free. Answers the place of the loss in the device's history, and

@@ -6,14 +6,18 @@
 #![tactic(auto)]
 
 pub mod acts;
+pub mod asked;
 pub mod cell;
 pub mod end;
+pub mod ended;
 pub mod faults;
 pub mod kept;
 pub mod pass;
+pub mod serve;
 #[cfg(test)]
 mod tests;
 
+pub use asked::Asked;
 pub use cell::DeviceCell;
 pub use faults::Faults;
 pub use kept::{HISTORY_LIMIT, KeptDevice};

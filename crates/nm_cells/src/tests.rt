@@ -4,11 +4,13 @@ ghost use Rattle.nm_plan.specs.Fault.{IsPlan};
 ghost use Rattle.nm_proto.specs.FlatContent.{flat_meaning};
 
 use super::*;
-use nm_base::{DeviceNo, Label, SessionId};
+use nm_base::{ChangeMask, ChangeNo, DeviceNo, EditNo, Label, SessionId};
 use nm_device::Device;
+use nm_history::{DeviceEvent, Noted};
 use nm_plan::{PlanEntry, PlanFault, RunName};
 use nm_proto::{
-    Content, FlatConfig, FlatContent, FlatEdit, Listed, NumberMap, Reply, Request, Store, Tables,
+    Content, DefaultOperation, FlatConfig, FlatContent, FlatEdit, Listed, Marks, NumberMap, Reply,
+    Request, Store, Tables,
 };
 use std::alloc::Global;
 use std::marker::Brand;
@@ -33,188 +35,464 @@ fn plan_of(alloc: Global) -> Result<Vec<PlanEntry>, Fail>
     Ok(plan)
 }
 
-// Each fault comes at just the request that it names.
+// Each fault comes at just the request that it names, and an advance that was done doesn't come again.
 #[test]
 fn faults_come_at_their_requests(rt: HostRuntime) -> Result<(), Fail> {
     let mut faults = Faults::new(plan_of(rt.alloc())?);
-    assert_eq!(rt; faults.counted(), 0);
-    assert_eq!(rt; faults.count(), None);
-    assert_eq!(rt; faults.count(), Some(PlanFault::Drop));
-    assert_eq!(rt; faults.count(), Some(PlanFault::Advance { seconds: 5 }));
-    assert_eq!(rt; faults.count(), None);
-    assert_eq!(rt; faults.counted(), 4);
+    assert!(rt; faults.due().is_none());
+    faults.count();
+    assert_eq!(rt; faults.due(), Some(PlanFault::Drop));
+    faults.count_if(false);
+    assert_eq!(rt; faults.due(), Some(PlanFault::Drop));
+    faults.count_if(true);
+    assert_eq!(rt; faults.due(), Some(PlanFault::Advance { seconds: 5 }));
+    faults.come();
+    assert!(rt; faults.due().is_none());
+    assert_eq!(rt; faults.counted(), 2);
     Ok(())
 }
 
-// What is seen of a device: the places of two hangings up, how many entries the history and the pass have, and the clock.
-#[derive(Drop)]
-struct Seen {
-    first: Option<u32>,
-    again: Option<u32>,
-    history: usize,
-    pass: usize,
-    clock: u64,
-    opened: bool,
-    locked: bool,
+fn lock_running() -> Request {
+    Request::Lock {
+        store: Store::Running,
+    }
 }
 
-// Alice opens a session, locks running and hangs up; the device restarts, and its clock rises.
+fn open(alloc: Global, user: &str) -> Result<Request, Fail> {
+    Ok(Request::OpenSession {
+        user: Label::new(alloc, user)?,
+    })
+}
+
+// A device of a run that runs `{"7":1}`.
+fn device_of<N: RunName<FlatContent, FlatConfig, FlatEdit>>(
+    alloc: Global,
+    content: &FlatContent,
+    number: DeviceNo,
+    running: FlatConfig,
+    plan: Vec<PlanEntry>,
+) -> Result<KeptDevice<FlatContent, N>, Fail>
+    requires content { N.run.content ≡ Some content.now }
+    requires number { number ≡ 1 }
+    requires starts { N.run.starts ≡ running ∷ [] }
+    requires faults { N.run.faults ≡ plan.items ∷ [] }
+    requires plan { IsPlan plan.items }
+{
+    if content.check(&running).is_err() {
+        return Err("not valid")?;
+    }
+    let device = Device::new(alloc, running);
+    Ok(KeptDevice::new(alloc, number, device, plan))
+}
+
+// Whether a call was answered so, at this place.
+fn is_answered(asked: &Asked, place: u32, want: &Reply) -> bool {
+    match asked {
+        Asked::Answered { position, reply } => *position == place && reply.same(want),
+        Asked::Broken { .. } => false,
+    }
+}
+
+fn is_broken(asked: &Asked, place: u32) -> bool {
+    match asked {
+        Asked::Answered { .. } => false,
+        Asked::Broken { position } => *position == place,
+    }
+}
+
+// Whether a pass holds just the entries of a history, each at its place.
+fn holds_all(pass: &Pass, history: &[Noted]) -> bool {
+    if pass.entries().len() != history.len() {
+        return false;
+    }
+    let mut place = 0;
+    for (entry, noted) in pass.entries().iter().zip(history.iter()) {
+        place += 1;
+        if entry.position != place || !entry.noted.same(noted) {
+            return false;
+        }
+    }
+    true
+}
+
+// What is seen of a device and a pass: the two calls or hangings up, and whether the pass holds just the history.
+#[derive(Drop)]
+struct Seen {
+    opened: Asked,
+    locked: Asked,
+    first: Option<u32>,
+    again: Option<u32>,
+    entries: usize,
+    agree: bool,
+}
+
+// Alice opens a session, locks running and hangs up, twice.
 fn story<N: RunName<FlatContent, FlatConfig, FlatEdit>>(
     alloc: Global,
     content: &FlatContent,
     tables: &Tables<FlatContent>,
     running: FlatConfig,
+    plan: Vec<PlanEntry>,
 ) -> Result<Seen, Fail>
     requires content { N.run.content ≡ Some content.now }
     requires tables { N.run.tables ≡ tables.now }
     requires edits_belong { All flat_meaning.edit_belongs tables.now.edits }
     requires starts { N.run.starts ≡ running ∷ [] }
-    requires faults { N.run.faults ≡ [] ∷ [] }
+    requires faults { N.run.faults ≡ plan.items ∷ [] }
+    requires plan { IsPlan plan.items }
 {
     let number = DeviceNo::new(1).ok_or("1")?;
     let alice = SessionId::new(1).ok_or("1")?;
-    if content.check(&running).is_err() {
-        return Err("not valid")?;
-    }
-    let device = Device::new(alloc, running);
-    let mut kept: KeptDevice<FlatContent, N> = KeptDevice::new(
-        alloc,
-        number,
-        device,
-        Vec::new(alloc),
-    );
+    let mut kept: KeptDevice<FlatContent, N> = device_of(alloc, content, number, running, plan)?;
     let mut pass = Pass::new(alloc, PassOwner::Operator { operator: 1 });
-    kept.room()?;
-    let opened = kept.enter(Label::new(alloc, "alice")?)?;
-    if !kept.device().has_session(alice) {
-        return Err("not open")?;
-    }
-    let ask = Request::Lock {
-        store: Store::Running,
-    };
-    let locked = kept.ask(content, tables, alice, &ask)?;
+    let ask = open(alloc, "alice")?;
+    let opened = kept.serve(content, tables, number, &mut pass, None, &ask)?;
+    let ask = lock_running();
+    let locked = kept.serve(content, tables, number, &mut pass, Some(alice), &ask)?;
     let first = kept.end(content, number, &mut pass, alice)?;
     let again = kept.end(content, number, &mut pass, alice)?;
-    kept.room()?;
-    kept.restart(content);
-    kept.advance(content, 5);
     Ok(Seen {
+        opened,
+        locked,
         first,
         again,
-        history: kept.history().len(),
-        pass: pass.entries().len(),
-        clock: kept.device().clock(),
-        opened: opened.reply.same(&Reply::Opened(alice)),
-        locked: locked.reply.same(&Reply::Done),
+        entries: kept.history().len(),
+        agree: holds_all(&pass, kept.history()),
     })
 }
 
-// The same at a device that runs `{"7":1}`.
+// The same at a device that runs `{"7":1}`, without planned faults.
 fn run_story(alloc: Global) -> Result<Seen, Fail> {
     let content = FlatContent::new(alloc);
     let tables = Tables::new(Listed::new(alloc), Listed::new(alloc));
     let mut cells = NumberMap::new(alloc);
     cells.insert(7, 1)?;
-    story::<Brand>(alloc, &content, &tables, FlatConfig::new(alloc, cells))
+    let running = FlatConfig::new(alloc, cells);
+    story::<Brand>(alloc, &content, &tables, running, Vec::new(alloc))
 }
 
-// A history holds what happened, and an operator's pass the loss of the session that it hung up, at the same place.
+// The pass of an operator holds what happened, at the places of the history.
 #[test]
 fn histories_and_passes_agree(rt: HostRuntime) -> Result<(), Fail> {
+    let session = SessionId::new(1).ok_or("1")?;
     let seen = run_story(rt.alloc())?;
-    assert!(rt; seen.opened && seen.locked);
+    assert!(rt; is_answered(&seen.opened, 1, &Reply::Opened(session)));
+    assert!(rt; is_answered(&seen.locked, 2, &Reply::Done));
     assert_eq!(rt; seen.first, Some(3));
     assert_eq!(rt; seen.again, None);
-    assert_eq!(rt; seen.history, 5);
-    assert_eq!(rt; seen.pass, 1);
-    assert_eq!(rt; seen.clock, 5);
+    assert_eq!(rt; seen.entries, 3);
+    assert!(rt; seen.agree);
     Ok(())
 }
 
-// An operator hangs up at a device behind its lock, and gives the place of the loss that its pass holds.
-fn hang_up<N: RunName<FlatContent, FlatConfig, FlatEdit>, R: Wait>(
+// What is seen of a device that drops a session: three calls, and whether the pass holds just the history, at whose end the
+// session is lost.
+#[derive(Drop)]
+struct Dropped {
+    opened: Asked,
+    locked: Asked,
+    discarded: Asked,
+    entries: usize,
+    agree: bool,
+    lost: bool,
+}
+
+// A coordinator opens a session and locks running, where the session is dropped; then it asks on it again.
+fn drop_story<N: RunName<FlatContent, FlatConfig, FlatEdit>>(
+    alloc: Global,
+    content: &FlatContent,
+    tables: &Tables<FlatContent>,
+    running: FlatConfig,
+    plan: Vec<PlanEntry>,
+) -> Result<Dropped, Fail>
+    requires content { N.run.content ≡ Some content.now }
+    requires tables { N.run.tables ≡ tables.now }
+    requires edits_belong { All flat_meaning.edit_belongs tables.now.edits }
+    requires starts { N.run.starts ≡ running ∷ [] }
+    requires faults { N.run.faults ≡ plan.items ∷ [] }
+    requires plan { IsPlan plan.items }
+{
+    let number = DeviceNo::new(1).ok_or("1")?;
+    let change = ChangeNo::new(1).ok_or("1")?;
+    let session = SessionId::new(1).ok_or("1")?;
+    let mut kept: KeptDevice<FlatContent, N> = device_of(alloc, content, number, running, plan)?;
+    let mut pass = Pass::new(alloc, PassOwner::Coordinator { change });
+    let ask = open(alloc, "netm")?;
+    let opened = kept.serve(content, tables, number, &mut pass, None, &ask)?;
+    let ask = lock_running();
+    let locked = kept.serve(content, tables, number, &mut pass, Some(session), &ask)?;
+    let ask = Request::Discard;
+    let discarded = kept.serve(content, tables, number, &mut pass, Some(session), &ask)?;
+    let lost = match kept.history().last() {
+        Some(entry) => entry.event.same(&DeviceEvent::Lost { session }),
+        None => false,
+    };
+    Ok(Dropped {
+        opened,
+        locked,
+        discarded,
+        entries: kept.history().len(),
+        agree: holds_all(&pass, kept.history()),
+        lost,
+    })
+}
+
+// The same at a device that runs `{"7":1}`, with a drop at the manager's second request.
+fn run_drop(alloc: Global) -> Result<Dropped, Fail> {
+    let content = FlatContent::new(alloc);
+    let tables = Tables::new(Listed::new(alloc), Listed::new(alloc));
+    let mut cells = NumberMap::new(alloc);
+    cells.insert(7, 1)?;
+    let running = FlatConfig::new(alloc, cells);
+    drop_story::<Brand>(alloc, &content, &tables, running, plan_of(alloc)?)
+}
+
+// A call that a drop broke is told the place of the loss, and so is a call after it, which changes nothing.
+#[test]
+fn a_drop_breaks_its_call(rt: HostRuntime) -> Result<(), Fail> {
+    let session = SessionId::new(1).ok_or("1")?;
+    let seen = run_drop(rt.alloc())?;
+    assert!(rt; is_answered(&seen.opened, 1, &Reply::Opened(session)));
+    assert!(rt; is_broken(&seen.locked, 2));
+    assert!(rt; is_broken(&seen.discarded, 2));
+    assert_eq!(rt; seen.entries, 2);
+    assert!(rt; seen.agree && seen.lost);
+    Ok(())
+}
+
+// ---- a coordinator's first pass under each kind of fault
+
+// The request at this place of a coordinator's first pass of change set 1.
+fn request_at(alloc: Global, place: u32) -> Result<Request, Fail> {
+    Ok(match place {
+        1 => open(alloc, "netm")?,
+        2 => lock_running(),
+        3 => Request::Lock {
+            store: Store::Candidate,
+        },
+        4 => Request::Edit {
+            edit: EditNo(0),
+            default_operation: DefaultOperation::Merge,
+            marks: None,
+        },
+        5 => Request::Validate,
+        _ => Request::Commit {
+            confirmed: true,
+            timeout: Some(600),
+            persist: Some(Label::new(alloc, "netm:1")?),
+            persist_id: None,
+        },
+    })
+}
+
+// What came of a first pass: the place of the request that was broken, 0 where none was, how many entries the history and the
+// pass have, and the clock.
+#[derive(Clone, Copy, Debug, PartialEq, Eq)]
+struct Course {
+    broken: u32,
+    history: usize,
+    pass: usize,
+    clock: u64,
+}
+
+// A coordinator goes through its first pass until a call is broken.
+fn first_pass<N: RunName<FlatContent, FlatConfig, FlatEdit>>(
+    alloc: Global,
+    content: &FlatContent,
+    tables: &Tables<FlatContent>,
+    running: FlatConfig,
+    plan: Vec<PlanEntry>,
+) -> Result<Course, Fail>
+    requires content { N.run.content ≡ Some content.now }
+    requires tables { N.run.tables ≡ tables.now }
+    requires edits_belong { All flat_meaning.edit_belongs tables.now.edits }
+    requires starts { N.run.starts ≡ running ∷ [] }
+    requires faults { N.run.faults ≡ plan.items ∷ [] }
+    requires plan { IsPlan plan.items }
+{
+    let number = DeviceNo::new(1).ok_or("1")?;
+    let change = ChangeNo::new(1).ok_or("1")?;
+    let mut kept: KeptDevice<FlatContent, N> = device_of(alloc, content, number, running, plan)?;
+    let mut pass = Pass::new(alloc, PassOwner::Coordinator { change });
+    let mut broken = 0;
+    for place in 1..7u32 {
+        let ask = request_at(alloc, place)?;
+        let session = if place == 1 { None } else { SessionId::new(1) };
+        if let Asked::Broken { .. } = kept.serve(
+            content, tables, number, &mut pass, session, &ask,
+        )? {
+            broken = place;
+            break;
+        }
+    }
+    Ok(Course {
+        broken,
+        history: kept.history().len(),
+        pass: pass.entries().len(),
+        clock: kept.device().clock(),
+    })
+}
+
+// A plan of one fault.
+fn plan_at(alloc: Global, at: u32, fault: PlanFault) -> Result<Vec<PlanEntry>, Fail>
+    requires { 1 ≤ at }
+    ensures { IfOk result (λ plan. IsPlan plan.items) }
+{
+    let mut plan = Vec::new(alloc);
+    plan.push(PlanEntry { at, fault })?;
+    Ok(plan)
+}
+
+// The same at a device that runs `{"7":1}`, where one fault is planned.
+fn run_pass(alloc: Global, at: u32, fault: PlanFault) -> Result<Course, Fail>
+    requires { 1 ≤ at }
+{
+    let content = FlatContent::new(alloc);
+    let tables = Tables::new(Listed::new(alloc), Listed::new(alloc));
+    let mut cells = NumberMap::new(alloc);
+    cells.insert(7, 1)?;
+    let running = FlatConfig::new(alloc, cells);
+    first_pass::<Brand>(
+        alloc,
+        &content,
+        &tables,
+        running,
+        plan_at(alloc, at, fault)?,
+    )
+}
+
+// At each place a drop loses the session in place of the request, but at the opening, which is done first; a cut does the
+// request and then loses the session; a restart comes in place of the request; and an advance comes before it and breaks nothing.
+#[test]
+fn each_fault_breaks_its_call(rt: HostRuntime) -> Result<(), Fail> {
+    for at in 1..7u32 {
+        let before = at as usize - 1;
+        let dropped = if at == 1 { 2 } else { before + 1 };
+        let cases = [
+            (PlanFault::Drop, at, dropped, dropped, 0),
+            (PlanFault::Cut, at, before + 2, before + 2, 0),
+            (PlanFault::Restart, at, before + 1, before + 1, 0),
+            (PlanFault::Advance { seconds: 5 }, 0, 7, 6, 5),
+        ];
+        for (fault, broken, history, pass, clock) in cases {
+            let want = Course {
+                broken,
+                history,
+                pass,
+                clock,
+            };
+            assert_eq!(rt; run_pass(rt.alloc(), at, fault)?, want);
+        }
+    }
+    Ok(())
+}
+
+// ---- two threads
+
+// An operator opens a session through the lock and hangs it up.
+fn come_and_go<N: RunName<FlatContent, FlatConfig, FlatEdit>, R: Wait>(
     rt: &R,
     alloc: Global,
     content: &FlatContent,
+    tables: &Tables<FlatContent>,
     cell: &DeviceCell<FlatContent, N>,
     operator: u32,
-    session: SessionId,
-) -> Option<u32>
+) -> Option<Pass>
     requires content { N.run.content ≡ Some content.now }
+    requires tables { N.run.tables ≡ tables.now }
+    requires edits_belong { All flat_meaning.edit_belongs tables.now.edits }
 {
     let mut pass = Pass::new(alloc, PassOwner::Operator { operator });
-    match cell.hang_up(rt, content, &mut pass, session) {
-        Ok(Some(position)) => {
-            let entry = pass.entries().last()?;
-            if entry.position == position && pass.entries().len() == 1 {
-                Some(position)
-            } else {
-                None
-            }
-        }
-        _ => None,
+    let user = Label::new(alloc, "alice").ok()?;
+    let ask = Request::OpenSession { user };
+    let asked = cell.ask(rt, content, tables, &mut pass, None, &ask).ok()?;
+    let session = opened_by(&asked)?;
+    cell.hang_up(rt, content, &mut pass, session).ok()?;
+    Some(pass)
+}
+
+// The session that a call opened.
+fn opened_by(asked: &Asked) -> Option<SessionId> {
+    match asked {
+        Asked::Answered { reply, .. } => match reply {
+            Reply::Opened(session) => Some(*session),
+            _ => None,
+        },
+        Asked::Broken { .. } => None,
     }
 }
 
-// Two operators open a session each, and hang up from two threads. Gives the places of the losses and the history's length.
+// Whether each entry of a pass stands in a history, at its place.
+fn is_found(pass: &Pass, history: &[Noted]) -> bool {
+    for entry in pass.entries() {
+        let place = entry.position as usize;
+        if place == 0 {
+            return false;
+        }
+        match history.get(place - 1) {
+            Some(noted) => {
+                if !noted.same(&entry.noted) {
+                    return false;
+                }
+            }
+            None => return false,
+        }
+    }
+    true
+}
+
+// Two operators come and go in two threads. Gives whether both passes are found in the history, which has no more entries.
 fn together<N: RunName<FlatContent, FlatConfig, FlatEdit> + Send + Sync, R: Threads + Wait + Sync>(
     rt: &R,
     alloc: Global,
     content: &FlatContent,
+    tables: &Tables<FlatContent>,
     running: FlatConfig,
-) -> Result<(Option<u32>, Option<u32>, usize), Fail>
+    plan: Vec<PlanEntry>,
+) -> Result<bool, Fail>
     requires content { N.run.content ≡ Some content.now }
+    requires tables { N.run.tables ≡ tables.now }
+    requires edits_belong { All flat_meaning.edit_belongs tables.now.edits }
     requires starts { N.run.starts ≡ running ∷ [] }
-    requires faults { N.run.faults ≡ [] ∷ [] }
+    requires faults { N.run.faults ≡ plan.items ∷ [] }
+    requires plan { IsPlan plan.items }
 {
     let number = DeviceNo::new(1).ok_or("1")?;
-    let alice = SessionId::new(1).ok_or("1")?;
-    let bob = SessionId::new(2).ok_or("2")?;
-    if content.check(&running).is_err() {
-        return Err("not valid")?;
-    }
-    let device = Device::new(alloc, running);
-    let mut kept: KeptDevice<FlatContent, N> = KeptDevice::new(
-        alloc,
-        number,
-        device,
-        Vec::new(alloc),
-    );
-    kept.room()?;
-    kept.enter(Label::new(alloc, "alice")?)?;
-    kept.enter(Label::new(alloc, "bob")?)?;
+    let kept: KeptDevice<FlatContent, N> = device_of(alloc, content, number, running, plan)?;
     let cell = DeviceCell::new(number, kept);
     let shared = &cell;
     let (one, two) = thread::join(
         rt,
-        || -> Option<u32>
-            requires { N.run.content ≡ Some content.now }
-        { hang_up(rt, alloc, content, shared, 1, alice) },
-        || -> Option<u32>
-            requires { N.run.content ≡ Some content.now }
-        { hang_up(rt, alloc, content, shared, 2, bob) },
+        || -> Option<Pass>
+            requires { (N.run.content ≡ Some content.now) × (N.run.tables ≡ tables.now) × All flat_meaning.edit_belongs tables.now.edits }
+        { come_and_go(rt, alloc, content, tables, shared, 1) },
+        || -> Option<Pass>
+            requires { (N.run.content ≡ Some content.now) × (N.run.tables ≡ tables.now) × All flat_meaning.edit_belongs tables.now.edits }
+        { come_and_go(rt, alloc, content, tables, shared, 2) },
     );
-    Ok((one, two, cell.into_state().history().len()))
+    let one = one.ok_or("no pass")?;
+    let two = two.ok_or("no pass")?;
+    let kept = cell.into_state();
+    Ok(
+        is_found(&one, kept.history())
+            && is_found(&two, kept.history())
+            && kept.history().len() == 4,
+    )
 }
 
-// The same at a device that runs `{"7":1}`.
-fn run_together<R: Threads + Wait + Sync>(
-    rt: &R,
-    alloc: Global,
-) -> Result<(Option<u32>, Option<u32>, usize), Fail> {
+// The same at a device that runs `{"7":1}`, without planned faults.
+fn run_together<R: Threads + Wait + Sync>(rt: &R, alloc: Global) -> Result<bool, Fail> {
     let content = FlatContent::new(alloc);
+    let tables = Tables::new(Listed::new(alloc), Listed::new(alloc));
     let mut cells = NumberMap::new(alloc);
     cells.insert(7, 1)?;
-    together::<Brand, R>(rt, alloc, &content, FlatConfig::new(alloc, cells))
+    let running = FlatConfig::new(alloc, cells);
+    together::<Brand, R>(rt, alloc, &content, &tables, running, Vec::new(alloc))
 }
 
-// Both threads find their loss at a place of its own in the one history.
+// Both threads find all that they asked in the one history.
 #[test]
 fn two_threads_share_a_history(rt: HostRuntime) -> Result<(), Fail> {
-    let (one, two, entries) = run_together(&rt, rt.alloc())?;
-    assert_eq!(rt; entries, 4);
-    let one = one.ok_or("no place")?;
-    let two = two.ok_or("no place")?;
-    assert!(rt; (one == 3 && two == 4) || (one == 4 && two == 3));
+    assert!(rt; run_together(&rt, rt.alloc())?);
     Ok(())
 }

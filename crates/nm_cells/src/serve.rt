@@ -1,0 +1,486 @@
+//! A request at a device, under the faults that are planned for it.
+
+ghost use Rattle.std.specs.Prelude.{◌≡◌, ◌≤◌, ◌<◌, ◌+◌, true, false, Some, IfOk, OnErr, option_copied, length, vec_capacity};
+ghost use Rattle.std.specs.List.{All};
+ghost use Rattle.nm_device.specs.Table.{opening_user, is_opening};
+ghost use Rattle.nm_cells.specs.Kept.{with_room};
+ghost use Rattle.nm_cells.specs.Serve.{opened_session, Does, Answers, Breaks, Cuts, ServesManager, ServesSession, OpensManager, ServesOpening, Serves, StaysOrAdvances, Finds, may_ask, asking};
+ghost use Rattle.nm_cells.specs.Ended.{found};
+ghost use Rattle.nm_cells.specs.Pass.{is_operator};
+
+use crate::asked::Asked;
+use crate::end::place_after;
+use crate::ended;
+use crate::kept::KeptDevice;
+use crate::pass::{Pass, PassEntry, PassOwner};
+use nm_base::{DeviceNo, Label, MANAGER, NoMemory, SessionId};
+use nm_history::{DeviceEvent, Noted, Told};
+use nm_plan::{PlanFault, RunName};
+use nm_proto::{Content, Reply, Request, Tables};
+
+// A request that was done: the place of its entry, and its reply.
+#[derive(Drop)]
+struct Reached {
+    position: u32,
+    reply: Reply,
+}
+
+impl<C: Content, N: RunName<C, C::Config, C::Edit>> KeptDevice<C, N> {
+    /// A request of a caller, on a session or for one, under the faults that are planned for the device. Its entry, and that
+    /// of what broke the call, stand in the history and in the pass, under this number of the device.
+    ///
+    /// The call is broken exactly where a planned drop, cut or restart breaks it, or the session isn't open; then the caller
+    /// finds what ended it. An operator asks on no session of the manager: such a one counts as one that isn't open. Where
+    /// there is no memory, an advance that is planned for the request may have been done, and nothing else has.
+    pub fn serve(
+        &mut self,
+        content: &C,
+        tables: &Tables<C>,
+        device: DeviceNo,
+        pass: &mut Pass,
+        session: Option<SessionId>,
+        request: &Request,
+    ) -> Result<Asked, NoMemory>
+        requires content { N.run.content ≡ Some content.now }
+        requires tables { N.run.tables ≡ tables.now }
+        requires edits_belong { All (C.meaning content.now).edit_belongs tables.now.edits }
+        ensures served { IfOk result (λ asked. Serves (C.meaning content.now) tables.now device pass.old.owner asked self.old self.new pass.old.entries pass.new.entries session request.now) }
+        ensures owner { pass.new.owner ≡ pass.old.owner }
+        ensures no_memory { OnErr result (StaysOrAdvances (C.meaning content.now) self.old self.new) }
+        ensures pass { OnErr result (pass.new ≡ pass.old) }
+    {
+        let Pass { owner, entries } = pass;
+        entries.reserve(2)?;
+        if let Some(user) = opening_user(request) {
+            return self.serve_opening(content, device, entries, user);
+        }
+        match session {
+            Some(session) => {
+                self.serve_session(content, tables, device, &*owner, entries, session, request)
+            }
+            None => Ok(Asked::Broken { position: 0 }),
+        }
+    }
+
+    // A request on a session.
+    fn serve_session(
+        &mut self,
+        content: &C,
+        tables: &Tables<C>,
+        device: DeviceNo,
+        owner: &PassOwner,
+        entries: &mut Vec<PassEntry>,
+        session: SessionId,
+        request: &Request,
+    ) -> Result<Asked, NoMemory>
+        requires room { length entries.old.items + 2 ≤ vec_capacity entries.old }
+        requires content { N.run.content ≡ Some content.now }
+        requires tables { N.run.tables ≡ tables.now }
+        requires edits_belong { All (C.meaning content.now).edit_belongs tables.now.edits }
+        requires asks { is_opening request.now ≡ false }
+        ensures served { IfOk result (λ asked. ServesSession (C.meaning content.now) tables.now device owner.now asked self.old self.new entries.old.items entries.new.items session request.now) }
+        ensures no_memory { OnErr result (StaysOrAdvances (C.meaning content.now) self.old self.new) }
+        ensures pass { OnErr result (entries.new.items ≡ entries.old.items) }
+    {
+        if !self.may_ask(owner, session) {
+            return self.tell_end(device, owner, entries, session);
+        }
+        self.room()?;
+        if !self.is_managers(session) {
+            return self.answer(content, tables, device, entries, session, request, false);
+        }
+        self.prepare(content);
+        self.serve_manager(content, tables, device, entries, session, request)
+    }
+
+    // The caller may ask on the session.
+    fn may_ask(&self, owner: &PassOwner, session: SessionId) -> bool
+        ensures { result ≡ may_ask owner.now self.now session }
+    {
+        self.device.has_session(session) && !(is_operator(owner) && self.is_managers(session))
+    }
+
+    // The session isn't open: the caller finds what ended it.
+    fn tell_end(
+        &mut self,
+        device: DeviceNo,
+        owner: &PassOwner,
+        entries: &mut Vec<PassEntry>,
+        session: SessionId,
+    ) -> Result<Asked, NoMemory>
+        requires room { length entries.old.items + 2 ≤ vec_capacity entries.old }
+        ensures found { IfOk result (λ asked. Finds device asked self.old self.new entries.old.items entries.new.items (found owner.now device session entries.old.items self.old.recorded.history)) }
+        ensures unchanged { self.new ≡ self.old }
+        ensures pass { OnErr result (entries.new.items ≡ entries.old.items) }
+    {
+        let managers = self.is_managers(session);
+        let it = ended::found_at(
+            owner,
+            managers,
+            device,
+            session,
+            entries.as_slice(),
+            self.history.as_slice(),
+        )?;
+        let position = it.position;
+        ended::keep_found(entries, device, it);
+        Ok(Asked::Broken { position })
+    }
+}
+
+// Requests of open sessions.
+impl<C: Content, N: RunName<C, C::Config, C::Edit>> KeptDevice<C, N> {
+    ghost use Rattle.nm_sessions.specs.Sessions.{is_open};
+    ghost use Rattle.nm_history.specs.History.{losing};
+    ghost use Rattle.nm_cells.specs.Faults.{due};
+
+    // A request of the manager, by the fault that comes with it.
+    fn serve_manager(
+        &mut self,
+        content: &C,
+        tables: &Tables<C>,
+        device: DeviceNo,
+        entries: &mut Vec<PassEntry>,
+        session: SessionId,
+        request: &Request,
+    ) -> Result<Asked, NoMemory>
+        requires spare { 2 ≤ self.old.spare }
+        requires room { length entries.old.items + 2 ≤ vec_capacity entries.old }
+        requires content { N.run.content ≡ Some content.now }
+        requires tables { N.run.tables ≡ tables.now }
+        requires edits_belong { All (C.meaning content.now).edit_belongs tables.now.edits }
+        requires open { is_open self.old.recorded.device.sessions session ≡ true }
+        requires asks { is_opening request.now ≡ false }
+        ensures served { IfOk result (λ asked. ServesManager (C.meaning content.now) tables.now device (due self.old.faults) asked self.old self.new entries.old.items entries.new.items session request.now) }
+        ensures unchanged { OnErr result (self.new ≡ self.old) }
+        ensures pass { OnErr result (entries.new.items ≡ entries.old.items) }
+    {
+        match &self.due() {
+            None => self.answer(content, tables, device, entries, session, request, true),
+            Some(PlanFault::Advance { .. }) => {
+                self.answer(content, tables, device, entries, session, request, true)
+            }
+            Some(PlanFault::Drop) => {
+                Ok(self.break_by_loss(content, device, entries, session, true))
+            }
+            Some(PlanFault::Cut) => self.cut(content, tables, device, entries, session, request),
+            Some(PlanFault::Restart) => Ok(self.break_by_restart(content, device, entries)),
+        }
+    }
+
+    // A request is done and answered.
+    fn answer(
+        &mut self,
+        content: &C,
+        tables: &Tables<C>,
+        device: DeviceNo,
+        entries: &mut Vec<PassEntry>,
+        session: SessionId,
+        request: &Request,
+        counts: bool,
+    ) -> Result<Asked, NoMemory>
+        requires spare { 1 ≤ self.old.spare }
+        requires room { length entries.old.items < vec_capacity entries.old }
+        requires content { N.run.content ≡ Some content.now }
+        requires tables { N.run.tables ≡ tables.now }
+        requires edits_belong { All (C.meaning content.now).edit_belongs tables.now.edits }
+        requires open { is_open self.old.recorded.device.sessions session ≡ true }
+        requires asks { is_opening request.now ≡ false }
+        ensures answered { IfOk result (λ asked. Answers counts device asked self.old self.new entries.old.items entries.new.items (DeviceEvent.Asked session request.now) (asking (C.meaning content.now) tables.now device self.old session request.now)) }
+        ensures unchanged { OnErr result (self.new ≡ self.old) }
+        ensures pass { OnErr result (entries.new.items ≡ entries.old.items) }
+    {
+        let Reached { position, reply } = self.reach(
+            content, tables, device, entries, session, request, counts,
+        )?;
+        Ok(Asked::Answered { position, reply })
+    }
+
+    // A request is done, and then its reply and the session are lost.
+    fn cut(
+        &mut self,
+        content: &C,
+        tables: &Tables<C>,
+        device: DeviceNo,
+        entries: &mut Vec<PassEntry>,
+        session: SessionId,
+        request: &Request,
+    ) -> Result<Asked, NoMemory>
+        requires spare { 2 ≤ self.old.spare }
+        requires room { length entries.old.items + 2 ≤ vec_capacity entries.old }
+        requires content { N.run.content ≡ Some content.now }
+        requires tables { N.run.tables ≡ tables.now }
+        requires edits_belong { All (C.meaning content.now).edit_belongs tables.now.edits }
+        requires open { is_open self.old.recorded.device.sessions session ≡ true }
+        requires asks { is_opening request.now ≡ false }
+        ensures cut { IfOk result (λ asked. Cuts (C.meaning content.now) device asked self.old self.new entries.old.items entries.new.items (DeviceEvent.Asked session request.now) (asking (C.meaning content.now) tables.now device self.old session request.now) (Some session)) }
+        ensures unchanged { OnErr result (self.new ≡ self.old) }
+        ensures pass { OnErr result (entries.new.items ≡ entries.old.items) }
+    {
+        let Reached { position, reply } = self.reach(
+            content, tables, device, entries, session, request, true,
+        )?;
+        if !self.device.has_session(session) {
+            return Ok(Asked::Answered { position, reply });
+        }
+        Ok(self.break_by_loss(content, device, entries, session, false))
+    }
+
+    // A request is done: its entry stands in the history and in the pass.
+    fn reach(
+        &mut self,
+        content: &C,
+        tables: &Tables<C>,
+        device: DeviceNo,
+        entries: &mut Vec<PassEntry>,
+        session: SessionId,
+        request: &Request,
+        counts: bool,
+    ) -> Result<Reached, NoMemory>
+        requires spare { 1 ≤ self.old.spare }
+        requires room { length entries.old.items < vec_capacity entries.old }
+        requires content { N.run.content ≡ Some content.now }
+        requires tables { N.run.tables ≡ tables.now }
+        requires edits_belong { All (C.meaning content.now).edit_belongs tables.now.edits }
+        requires open { is_open self.old.recorded.device.sessions session ≡ true }
+        requires asks { is_opening request.now ≡ false }
+        ensures done { IfOk result (λ done. Does counts device done.position done.reply self.old self.new entries.old.items entries.new.items (DeviceEvent.Asked session request.now) (asking (C.meaning content.now) tables.now device self.old session request.now)) }
+        ensures unchanged { OnErr result (self.new ≡ self.old) }
+        ensures pass { OnErr result (entries.new.items ≡ entries.old.items) }
+        ensures capacity { vec_capacity entries.new ≡ vec_capacity entries.old }
+    {
+        let asked = request.copy()?;
+        let position = place_after(self.history.len());
+        let Told {
+            reply,
+            again,
+            undone,
+        } = self.ask(content, tables, session, request, counts)?;
+        entries.push_reserved(PassEntry {
+            device,
+            position,
+            noted: Noted {
+                event: DeviceEvent::Asked {
+                    session,
+                    request: asked,
+                },
+                reply: Some(again),
+                undone,
+            },
+        });
+        Ok(Reached { position, reply })
+    }
+
+    // The session is lost, which breaks the call.
+    fn break_by_loss(
+        &mut self,
+        content: &C,
+        device: DeviceNo,
+        entries: &mut Vec<PassEntry>,
+        session: SessionId,
+        counts: bool,
+    ) -> Asked
+        requires spare { 1 ≤ self.old.spare }
+        requires room { length entries.old.items < vec_capacity entries.old }
+        requires content { N.run.content ≡ Some content.now }
+        requires open { is_open self.old.recorded.device.sessions session ≡ true }
+        ensures { Breaks counts device result self.old self.new entries.old.items entries.new.items (DeviceEvent.Lost session) (losing (C.meaning content.now) self.old.recorded.device session) }
+    {
+        let position = place_after(self.history.len());
+        let undone = self.lose(content, session, counts);
+        entries.push_reserved(PassEntry {
+            device,
+            position,
+            noted: Noted {
+                event: DeviceEvent::Lost { session },
+                reply: None,
+                undone,
+            },
+        });
+        Asked::Broken { position }
+    }
+}
+
+// Openings of sessions, and restarts.
+impl<C: Content, N: RunName<C, C::Config, C::Edit>> KeptDevice<C, N> {
+    ghost use Rattle.nm_history.specs.History.{entering, restarting};
+    ghost use Rattle.nm_cells.specs.Faults.{due};
+
+    // Somebody asks for a session.
+    fn serve_opening(
+        &mut self,
+        content: &C,
+        device: DeviceNo,
+        entries: &mut Vec<PassEntry>,
+        user: &Label,
+    ) -> Result<Asked, NoMemory>
+        requires room { length entries.old.items + 2 ≤ vec_capacity entries.old }
+        requires content { N.run.content ≡ Some content.now }
+        ensures served { IfOk result (λ asked. ServesOpening (C.meaning content.now) device asked (with_room self.old) self.new entries.old.items entries.new.items user.now) }
+        ensures no_memory { OnErr result (StaysOrAdvances (C.meaning content.now) self.old self.new) }
+        ensures pass { OnErr result (entries.new.items ≡ entries.old.items) }
+    {
+        self.room()?;
+        if user.as_str() != MANAGER {
+            return self.let_in(device, entries, user, false);
+        }
+        self.prepare(content);
+        self.open_manager(content, device, entries, user)
+    }
+
+    // The manager asks for one, by the fault that comes with that.
+    fn open_manager(
+        &mut self,
+        content: &C,
+        device: DeviceNo,
+        entries: &mut Vec<PassEntry>,
+        user: &Label,
+    ) -> Result<Asked, NoMemory>
+        requires spare { 2 ≤ self.old.spare }
+        requires room { length entries.old.items + 2 ≤ vec_capacity entries.old }
+        requires content { N.run.content ≡ Some content.now }
+        ensures served { IfOk result (λ asked. OpensManager (C.meaning content.now) device (due self.old.faults) asked self.old self.new entries.old.items entries.new.items user.now) }
+        ensures unchanged { OnErr result (self.new ≡ self.old) }
+        ensures pass { OnErr result (entries.new.items ≡ entries.old.items) }
+    {
+        match &self.due() {
+            None => self.let_in(device, entries, user, true),
+            Some(PlanFault::Advance { .. }) => self.let_in(device, entries, user, true),
+            Some(PlanFault::Drop) => self.cut_opening(content, device, entries, user),
+            Some(PlanFault::Cut) => self.cut_opening(content, device, entries, user),
+            Some(PlanFault::Restart) => Ok(self.break_by_restart(content, device, entries)),
+        }
+    }
+
+    // An opening is answered.
+    fn let_in(
+        &mut self,
+        device: DeviceNo,
+        entries: &mut Vec<PassEntry>,
+        user: &Label,
+        counts: bool,
+    ) -> Result<Asked, NoMemory>
+        requires spare { 1 ≤ self.old.spare }
+        requires room { length entries.old.items < vec_capacity entries.old }
+        ensures answered { IfOk result (λ asked. Answers counts device asked self.old self.new entries.old.items entries.new.items (DeviceEvent.Entered user.now) (entering self.old.recorded.device user.now)) }
+        ensures unchanged { OnErr result (self.new ≡ self.old) }
+        ensures pass { OnErr result (entries.new.items ≡ entries.old.items) }
+    {
+        let Reached { position, reply } = self.reach_in(device, entries, user, counts)?;
+        Ok(Asked::Answered { position, reply })
+    }
+
+    // An opening is done, and then its reply and the session are lost.
+    fn cut_opening(
+        &mut self,
+        content: &C,
+        device: DeviceNo,
+        entries: &mut Vec<PassEntry>,
+        user: &Label,
+    ) -> Result<Asked, NoMemory>
+        requires spare { 2 ≤ self.old.spare }
+        requires room { length entries.old.items + 2 ≤ vec_capacity entries.old }
+        requires content { N.run.content ≡ Some content.now }
+        ensures cut { IfOk result (λ asked. Cuts (C.meaning content.now) device asked self.old self.new entries.old.items entries.new.items (DeviceEvent.Entered user.now) (entering self.old.recorded.device user.now) (opened_session (entering self.old.recorded.device user.now).reply)) }
+        ensures unchanged { OnErr result (self.new ≡ self.old) }
+        ensures pass { OnErr result (entries.new.items ≡ entries.old.items) }
+    {
+        let Reached { position, reply } = self.reach_in(device, entries, user, true)?;
+        let Some(session) = opened_session(&reply) else {
+            return Ok(Asked::Answered { position, reply });
+        };
+        if !self.device.has_session(session) {
+            return Ok(Asked::Answered { position, reply });
+        }
+        Ok(self.break_by_loss(content, device, entries, session, false))
+    }
+
+    // An opening is done: its entry stands in the history and in the pass.
+    fn reach_in(
+        &mut self,
+        device: DeviceNo,
+        entries: &mut Vec<PassEntry>,
+        user: &Label,
+        counts: bool,
+    ) -> Result<Reached, NoMemory>
+        requires spare { 1 ≤ self.old.spare }
+        requires room { length entries.old.items < vec_capacity entries.old }
+        ensures done { IfOk result (λ done. Does counts device done.position done.reply self.old self.new entries.old.items entries.new.items (DeviceEvent.Entered user.now) (entering self.old.recorded.device user.now)) }
+        ensures unchanged { OnErr result (self.new ≡ self.old) }
+        ensures pass { OnErr result (entries.new.items ≡ entries.old.items) }
+        ensures capacity { vec_capacity entries.new ≡ vec_capacity entries.old }
+    {
+        let entered = user.copy()?;
+        let position = place_after(self.history.len());
+        let Told {
+            reply,
+            again,
+            undone,
+        } = self.enter(user.copy()?, counts)?;
+        entries.push_reserved(PassEntry {
+            device,
+            position,
+            noted: Noted {
+                event: DeviceEvent::Entered { user: entered },
+                reply: Some(again),
+                undone,
+            },
+        });
+        Ok(Reached { position, reply })
+    }
+
+    // The device restarts, which breaks the call.
+    fn break_by_restart(
+        &mut self,
+        content: &C,
+        device: DeviceNo,
+        entries: &mut Vec<PassEntry>,
+    ) -> Asked
+        requires spare { 1 ≤ self.old.spare }
+        requires room { length entries.old.items < vec_capacity entries.old }
+        requires content { N.run.content ≡ Some content.now }
+        ensures { Breaks true device result self.old self.new entries.old.items entries.new.items DeviceEvent.Restarted (restarting (C.meaning content.now) self.old.recorded.device) }
+    {
+        let position = place_after(self.history.len());
+        let undone = self.restart(content);
+        entries.push_reserved(PassEntry {
+            device,
+            position,
+            noted: Noted {
+                event: DeviceEvent::Restarted,
+                reply: None,
+                undone,
+            },
+        });
+        Asked::Broken { position }
+    }
+}
+
+// The user who asks for a session.
+fn opening_user(request: &Request) -> Option<&Label>
+    ensures { option_copied result ≡ opening_user request.now }
+{
+    match request {
+        Request::OpenSession { user } => Some(user),
+        _ => None,
+    }
+}
+
+// The session that a reply opened.
+fn opened_session(reply: &Reply) -> Option<SessionId>
+    ensures { result ≡ opened_session (Some reply.now) }
+{
+    match reply {
+        Reply::Opened(session) => Some(*session),
+        _ => None,
+    }
+}
+
+fn is_operator(owner: &PassOwner) -> bool
+    ensures { result ≡ is_operator owner.now }
+{
+    match owner {
+        PassOwner::Coordinator { .. } => false,
+        PassOwner::Operator { .. } => true,
+    }
+}
