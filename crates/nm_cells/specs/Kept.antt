@@ -90,8 +90,8 @@ module _ {Config Node : Type 0} where
 
 module _ {C Config TheEdit Node : Type 0} (meaning : C → Meaning Config TheEdit Node) (run : Run C Config TheEdit) where
   -- what is true of every device of a run: it began with the run's first configuration of its number, its faults are those
-  -- that the run plans for it, its history is legal and whole and leads to it, and its clock rose by faults of the plan alone,
-  -- of which there are at most 1,000
+  -- that the run plans for it, its history is legal and whole and leads to it, and its clock is at most 2 ^ 32 seconds for each
+  -- fault that came, of which there are at most 1,000
   pub record IsKept (kept : KeptState Config Node) : Type 0 where
     pub first : Config
     pub first_is : slice_get run.starts (kept.number - 1) ≡ Some first

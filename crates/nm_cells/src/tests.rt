@@ -1,4 +1,4 @@
-ghost use Rattle.std.specs.Prelude.{◌≡◌, Some, IfOk, ◌∷◌, []};
+ghost use Rattle.std.specs.Prelude.{◌≡◌, ◌≤◌, Some, IfOk, ◌∷◌, []};
 ghost use Rattle.std.specs.List.{All};
 ghost use Rattle.nm_plan.specs.Fault.{IsPlan};
 ghost use Rattle.nm_proto.specs.FlatContent.{flat_meaning};
@@ -100,19 +100,28 @@ fn is_broken(asked: &Asked, place: u32) -> bool {
     }
 }
 
-// Whether a pass holds just the entries of a history, each at its place.
-fn holds_all(pass: &Pass, history: &[Noted]) -> bool {
-    if pass.entries().len() != history.len() {
-        return false;
-    }
-    let mut place = 0;
-    for (entry, noted) in pass.entries().iter().zip(history.iter()) {
-        place += 1;
-        if entry.position != place || !entry.noted.same(noted) {
+// Whether each entry of a pass stands in a history, at its place.
+fn is_found(pass: &Pass, history: &[Noted]) -> bool {
+    for entry in pass.entries() {
+        let place = entry.position as usize;
+        if place == 0 {
             return false;
+        }
+        match history.get(place - 1) {
+            Some(noted) => {
+                if !noted.same(&entry.noted) {
+                    return false;
+                }
+            }
+            None => return false,
         }
     }
     true
+}
+
+// Whether a pass holds the entries of a history, each at its place, and no others.
+fn holds_all(pass: &Pass, history: &[Noted]) -> bool {
+    pass.entries().len() == history.len() && is_found(pass, history)
 }
 
 // What is seen of a device and a pass: the two calls or hangings up, and whether the pass holds just the history.
@@ -420,25 +429,6 @@ fn opened_by(asked: &Asked) -> Option<SessionId> {
         },
         Asked::Broken { .. } => None,
     }
-}
-
-// Whether each entry of a pass stands in a history, at its place.
-fn is_found(pass: &Pass, history: &[Noted]) -> bool {
-    for entry in pass.entries() {
-        let place = entry.position as usize;
-        if place == 0 {
-            return false;
-        }
-        match history.get(place - 1) {
-            Some(noted) => {
-                if !noted.same(&entry.noted) {
-                    return false;
-                }
-            }
-            None => return false,
-        }
-    }
-    true
 }
 
 // Two operators come and go in two threads. Gives whether both passes are found in the history, which has no more entries.
