@@ -159,7 +159,8 @@ fn story<N: RunName<FlatContent, FlatConfig, FlatEdit>>(
     let ask = lock_running();
     let locked = kept.serve(content, tables, number, &mut pass, Some(alice), &ask)?;
     let first = kept.end(content, number, &mut pass, alice)?;
-    let again = kept.end(content, number, &mut pass, alice)?;
+    let mut other = Pass::new(alloc, PassOwner::Operator { operator: 1 });
+    let again = kept.end(content, number, &mut other, alice)?;
     Ok(Seen {
         opened,
         locked,
