@@ -1,5 +1,5 @@
 -- The devices before anything has happened.
-use Rattle.std.proofs.Common.{List, ℕ, map}
+use Rattle.std.proofs.Common.{List, map}
 use Rattle.std.specs.List.{All}
 use Rattle.std.proofs.lemmas.List.Elements.{All-map}
 use Rattle.nm_proto.specs.Content.{Meaning}

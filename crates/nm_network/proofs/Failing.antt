@@ -3,7 +3,7 @@ use Rattle.std.proofs.Common.{◌≡◌, ℕ, Bool, List, Option, Some, None, Re
 use Rattle.nm_disk.specs.Image.{AnyMoment}
 use Rattle.nm_proto.specs.Content.{TablesState}
 use Rattle.nm_proto.specs.declared.journal.Entry.{Entry}
-use Rattle.nm_journal.specs.Fits.{JournalState, Fits, IsImageOf, ReadsAs}
+use Rattle.nm_journal.specs.Fits.{JournalState, Fits, ReadsAs}
 use Rattle.nm_history.specs.History.{RecordedState}
 use Rattle.nm_manager.specs.declared.action.Action.{Action}
 use Rattle.nm_manager.specs.declared.action.TurnFault.{TurnFault}
@@ -11,13 +11,10 @@ use Rattle.nm_manager.specs.declared.action.TurnFault.TheVariants as fault
 use Rattle.nm_manager.specs.Manager.{Managing, MayRead, FailsAt}
 use Rattle.nm_network.specs.declared.happened.Happened.{Happened}
 use Rattle.nm_network.specs.World.{Staged, Came, ComesOrFails}
+use Rattle.nm_network.proofs.Order.{reads_whole}
 use Rattle.nm_network.proofs.Staging.{staged}
 
 module _ {D : Type 0} (told : D → Option (List ℕ)) (may_leave : D → List ℕ → Type 0) (moment : D → ℕ) (left_since : D → ℕ → List ℕ → Type 0) where
-  reads_whole : (failed : Option Entry) (entries : List Entry) (image : List ℕ) → failed ≡ None → IsImageOf failed entries image → ReadsAs entries image
-  reads_whole None entries image h is = is.reads
-  reads_whole (Some entry) entries image h is = absurd (let e : Some entry ≡ None = h in cc)
-
   reads_may : (entries : List Entry) (entry : Option Entry) (image : List ℕ) → ReadsAs entries image → MayRead entries entry image
   reads_may entries None image reads = reads
   reads_may entries (Some entry) image reads = inl reads

@@ -3,5 +3,11 @@ pub mod Staging
 pub mod Clocks
 pub mod Meetings
 pub mod Beginnings
+pub mod Order
+pub mod Growing
+pub mod Aside
+pub mod Passing
+pub mod Crashing
+pub mod Chains
 pub mod Failing
 pub mod Searches

@@ -1,8 +1,8 @@
 //! The world: devices with their histories, the manager of all change sets with its links, and operators beside it.
 //!
 //! Stands on `nm_history` and `nm_manager`. What every event does, how a world comes to rest and what is reported of it are
-//! defined here. The layers above rely on each event but a crash as an equation between what stands before
-//! and after it.
+//! defined here. The layers above rely on each event as an equation between the world before and after it, on the trail of what
+//! came of each, and on the journal's disk holding the entries so far at each moment.
 #![tactic(auto)]
 
 pub mod drain;
@@ -17,6 +17,8 @@ mod steps;
 #[cfg(test)]
 mod tests;
 mod turns;
+pub mod world;
 
 pub use happened::{Happened, Passed, Sending};
 pub use report::{Pair, Report};
+pub use world::World;

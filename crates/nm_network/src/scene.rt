@@ -1,7 +1,7 @@
 //! What stands at a moment, and what each elementary event does to it. It is apart from the trail, so that the trail's room
 //! outlasts an event.
 
-ghost use Rattle.std.specs.Prelude.{◌≡◌, ◌≤◌, ◌+◌, ℕ, length, map, replicate, [], None, false, IfOk};
+ghost use Rattle.std.specs.Prelude.{◌≡◌, ◌≤◌, ◌<◌, ◌+◌, ◌^◌, ℕ, length, map, replicate, [], None, false, IfOk};
 ghost use Rattle.std.specs.List.{All};
 ghost use Rattle.nm_manager.specs.Requests.{IsWellFormed};
 ghost use Rattle.nm_history.specs.History.{recorded};
@@ -79,7 +79,8 @@ impl<C: Content + Drop> Model for Scene<C> {
 }
 
 impl<C: Content + Drop> Scene<C> {
-    ghost use Rattle.nm_network.specs.World.{Staged, begin, AreSound, IsFirst};
+    ghost use Rattle.nm_network.specs.World.{Staged, begin, AreSound, IsFirst, manager_in, replies_on};
+    ghost use Rattle.nm_manager.specs.Manager.{wire_in};
 
     // Before anything happened.
     pub(crate) fn new(
@@ -133,7 +134,8 @@ impl<C: Content + Drop> Scene<C> {
     }
 
     pub(crate) fn plans(&self) -> &[ChangePlan]
-        ensures { result.now ≡ self.now.setting.plans }
+        ensures value { result.now ≡ self.now.setting.plans }
+        ensures few { length self.now.setting.plans ≤ 64 }
     {
         self.manager.plans()
     }
@@ -141,6 +143,7 @@ impl<C: Content + Drop> Scene<C> {
     pub(crate) fn devices(&self) -> &[Recorded<C>]
         ensures value { result.now ≡ self.now.state.devices }
         ensures sound { AreSound (C.meaning self.now.content) self.now.state.devices }
+        ensures few { length self.now.state.devices ≤ 32 }
     {
         self.devices.as_slice()
     }
@@ -149,6 +152,14 @@ impl<C: Content + Drop> Scene<C> {
         ensures { result.now ≡ self.now.state.entries }
     {
         self.manager.entries()
+    }
+
+    // How many replies were sent on a link.
+    pub(crate) fn replies_on(&self, change: ChangeNo, device: DeviceNo, link: u32) -> u32
+        requires given { change ≤ length self.now.setting.plans }
+        ensures { result ≡ replies_on (wire_in (manager_in self.now.state) change device) link }
+    {
+        self.manager.replies(change, device, link).0
     }
 
     pub(crate) fn has_failed(&self) -> bool
@@ -184,6 +195,7 @@ pub(crate) fn happened_of(action: &Action, request: Option<Request>) -> Happened
 // The events at a device.
 impl<C: Content + Drop> Scene<C> {
     ghost use Rattle.nm_network.specs.World.{Comes, delivering, losing, asking, leaving, passing, going_anew, AreInTime};
+    ghost use Rattle.nm_network.specs.Runs.{KeepsTime};
 
     // A device does the request that a link has outstanding.
     fn deliver(
@@ -194,7 +206,8 @@ impl<C: Content + Drop> Scene<C> {
     ) -> Result<Happened, NoMemory>
         requires given { change ≤ length self.old.setting.plans }
         requires in_time { AreInTime self.old.state.devices }
-        ensures { Comes result self.old self.new (delivering (C.meaning self.old.content) self.old.setting.tables self.old.state change device link) }
+        ensures came { Comes result self.old self.new (delivering (C.meaning self.old.content) self.old.setting.tables self.old.state change device link) }
+        ensures time { KeepsTime 0 self.old.state.devices self.new.state.devices }
     {
         let happened = deliver_at(
             &self.content,
@@ -211,7 +224,8 @@ impl<C: Content + Drop> Scene<C> {
     // A device's side of a link ends.
     fn lose(&mut self, change: ChangeNo, device: DeviceNo, link: u32) -> Result<Happened, NoMemory>
         requires given { change ≤ length self.old.setting.plans }
-        ensures { Comes result self.old self.new (losing (C.meaning self.old.content) self.old.state change device link) }
+        ensures came { Comes result self.old self.new (losing (C.meaning self.old.content) self.old.state change device link) }
+        ensures time { KeepsTime 0 self.old.state.devices self.new.state.devices }
     {
         let happened = lose_at(
             &self.content,
@@ -232,7 +246,8 @@ impl<C: Content + Drop> Scene<C> {
         request: &Request,
     ) -> Result<Happened, NoMemory>
         requires in_time { AreInTime self.old.state.devices }
-        ensures { Comes result self.old self.new (asking (C.meaning self.old.content) self.old.setting.tables self.old.state operator device request.now) }
+        ensures came { Comes result self.old self.new (asking (C.meaning self.old.content) self.old.setting.tables self.old.state operator device request.now) }
+        ensures time { KeepsTime 0 self.old.state.devices self.new.state.devices }
     {
         let happened = ask_at(
             &self.content,
@@ -248,7 +263,8 @@ impl<C: Content + Drop> Scene<C> {
 
     // The session that an operator, by its number from 1, has on a device is lost.
     fn leave(&mut self, operator: usize, device: DeviceNo) -> Result<Happened, NoMemory>
-        ensures { Comes result self.old self.new (leaving (C.meaning self.old.content) self.old.state operator device) }
+        ensures came { Comes result self.old self.new (leaving (C.meaning self.old.content) self.old.state operator device) }
+        ensures time { KeepsTime 0 self.old.state.devices self.new.state.devices }
     {
         let happened = leave_at(
             &self.content,
@@ -263,7 +279,8 @@ impl<C: Content + Drop> Scene<C> {
     // The clock of a device rises by some seconds.
     fn advance(&mut self, device: DeviceNo, seconds: u32) -> Result<Happened, NoMemory>
         requires in_time { AreInTime self.old.state.devices }
-        ensures { Comes result self.old self.new (passing (C.meaning self.old.content) self.old.state device seconds) }
+        ensures came { Comes result self.old self.new (passing (C.meaning self.old.content) self.old.state device seconds) }
+        ensures time { KeepsTime seconds self.old.state.devices self.new.state.devices }
     {
         let happened = advance_at(&self.content, &mut self.devices, device, seconds)?;
         Ok(happened)
@@ -271,7 +288,8 @@ impl<C: Content + Drop> Scene<C> {
 
     // A device restarts, and its sides of all links end.
     fn restart(&mut self, device: DeviceNo) -> Result<Happened, NoMemory>
-        ensures { Comes result self.old self.new (going_anew (C.meaning self.old.content) self.old.state device) }
+        ensures came { Comes result self.old self.new (going_anew (C.meaning self.old.content) self.old.state device) }
+        ensures time { KeepsTime 0 self.old.state.devices self.new.state.devices }
     {
         let happened = restart_at(&self.content, &mut self.devices, &mut self.manager, device)?;
         Ok(happened)
@@ -285,7 +303,8 @@ impl<C: Content + Drop> Scene<C> {
     // The manager handles a reply of a link, by its number from 1.
     fn answer(&mut self, change: ChangeNo, device: DeviceNo, link: u32, number: u32) -> Happened
         requires given { change ≤ length self.old.setting.plans }
-        ensures { IsCome result self.old self.new (answering self.old.state change device link number) }
+        ensures came { IsCome result self.old self.new (answering self.old.state change device link number) }
+        ensures devices { self.new.state.devices ≡ self.old.state.devices }
     {
         let action = self.manager.receive(change, device, link, number);
         happened_of(&action, None)
@@ -294,7 +313,8 @@ impl<C: Content + Drop> Scene<C> {
     // The manager's side of the current link to a device ends.
     fn break_link(&mut self, change: ChangeNo, device: DeviceNo) -> Happened
         requires given { change ≤ length self.old.setting.plans }
-        ensures { IsCome result self.old self.new (breaking self.old.state change device) }
+        ensures came { IsCome result self.old self.new (breaking self.old.state change device) }
+        ensures devices { self.new.state.devices ≡ self.old.state.devices }
     {
         let action = self.manager.break_link(change, device);
         happened_of(&action, None)
@@ -303,7 +323,8 @@ impl<C: Content + Drop> Scene<C> {
     // What the manager knows of a change set is lost.
     fn forget(&mut self, change: ChangeNo) -> Happened
         requires given { change ≤ length self.old.setting.plans }
-        ensures { IsCome result self.old self.new (forgetting self.old.setting.plans self.old.state change) }
+        ensures came { IsCome result self.old self.new (forgetting self.old.setting.plans self.old.state change) }
+        ensures devices { self.new.state.devices ≡ self.old.state.devices }
     {
         let action = self.manager.forget(change);
         happened_of(&action, None)
@@ -312,7 +333,8 @@ impl<C: Content + Drop> Scene<C> {
     // The timer of the pending commit of a device is set anew.
     fn renew(&mut self, change: ChangeNo, device: DeviceNo) -> Result<Happened, NoMemory>
         requires given { change ≤ length self.old.setting.plans }
-        ensures { Comes result self.old self.new (renewing self.old.setting.plans self.old.state change device) }
+        ensures came { Comes result self.old self.new (renewing self.old.setting.plans self.old.state change device) }
+        ensures devices { self.new.state.devices ≡ self.old.state.devices }
     {
         let request = self.manager.request_to(change, device, Ask::Renew)?;
         let action = self.manager.renew(change, device)?;
@@ -323,13 +345,16 @@ impl<C: Content + Drop> Scene<C> {
 // Any event that doesn't touch the journal.
 impl<C: Content + Drop> Scene<C> {
     ghost use Rattle.nm_network.specs.World.{Comes, AreInTime, elementary, change_in, touches_journal};
+    ghost use Rattle.nm_network.specs.Runs.{KeepsTime, seconds_in};
 
     // An event that doesn't touch the journal.
     pub(crate) fn come_alone(&mut self, event: &Event) -> Result<Happened, NoMemory>
         requires given { change_in event.now ≤ length self.old.setting.plans }
         requires in_time { AreInTime self.old.state.devices }
         requires alone { touches_journal event.now ≡ false }
-        ensures { Comes result self.old self.new (elementary (C.meaning self.old.content) self.old.setting self.old.state event.now) }
+        ensures came { Comes result self.old self.new (elementary (C.meaning self.old.content) self.old.setting self.old.state event.now) }
+        ensures time { KeepsTime (seconds_in event.now) self.old.state.devices self.new.state.devices }
+        ensures short { seconds_in event.now < 2 ^ 32 }
     {
         match event {
             Event::Deliver {

@@ -3,6 +3,7 @@
 ghost use Rattle.std.specs.Prelude.{◌≡◌, ◌≤◌, ◌-◌, length, slice_get, option_copied, IfOk, OnErr};
 ghost use Rattle.std.specs.List.{All};
 ghost use Rattle.nm_network.specs.World.{delivering_at, losing_at, asking_at, leaving_at, later_at, anew_at, operator_at, AreSound, AreInTime, AreMet, AreAsked, AreMoved};
+ghost use Rattle.nm_network.specs.Runs.{KeepsTime};
 
 use crate::happened::Happened;
 use crate::operator::Operator;
@@ -30,6 +31,7 @@ pub(crate) fn operator_at(operators: &[Operator], number: usize) -> Option<&Oper
 }
 
 /// A device does the request that a link has outstanding.
+#[tactic(auto, using(crate::proofs::Clocks::time_stays))]
 pub(crate) fn deliver_at<C: Content>(
     content: &C,
     tables: &Tables<C>,
@@ -47,6 +49,7 @@ pub(crate) fn deliver_at<C: Content>(
     ensures unchanged { OnErr result (devices.new.items ≡ devices.old.items) }
     ensures manager_unchanged { OnErr result (manager.new ≡ manager.old) }
     ensures count { length devices.new.items ≡ length devices.old.items }
+    ensures time { KeepsTime 0 devices.old.items devices.new.items }
     ensures sound { AreSound (C.meaning content.now) devices.new.items }
 {
     let place = place_of(device);
@@ -65,6 +68,7 @@ pub(crate) fn deliver_at<C: Content>(
 }
 
 /// A device's side of a link ends.
+#[tactic(auto, using(crate::proofs::Clocks::time_stays))]
 pub(crate) fn lose_at<C: Content>(
     content: &C,
     devices: &mut Vec<Recorded<C>>,
@@ -79,6 +83,7 @@ pub(crate) fn lose_at<C: Content>(
     ensures unchanged { OnErr result (devices.new.items ≡ devices.old.items) }
     ensures manager_unchanged { OnErr result (manager.new ≡ manager.old) }
     ensures count { length devices.new.items ≡ length devices.old.items }
+    ensures time { KeepsTime 0 devices.old.items devices.new.items }
     ensures sound { AreSound (C.meaning content.now) devices.new.items }
 {
     let place = place_of(device);
@@ -89,6 +94,7 @@ pub(crate) fn lose_at<C: Content>(
 }
 
 /// A device does a request of an operator, by its number from 1.
+#[tactic(auto, using(crate::proofs::Clocks::time_stays))]
 pub(crate) fn ask_at<C: Content>(
     content: &C,
     tables: &Tables<C>,
@@ -105,6 +111,7 @@ pub(crate) fn ask_at<C: Content>(
     ensures unchanged { OnErr result (devices.new.items ≡ devices.old.items) }
     ensures operators_unchanged { OnErr result (operators.new.items ≡ operators.old.items) }
     ensures count { length devices.new.items ≡ length devices.old.items }
+    ensures time { KeepsTime 0 devices.old.items devices.new.items }
     ensures sound { AreSound (C.meaning content.now) devices.new.items }
 {
     let place = place_of(device);
@@ -129,6 +136,7 @@ pub(crate) fn ask_at<C: Content>(
 }
 
 /// The session that an operator, by its number from 1, has on a device is lost.
+#[tactic(auto, using(crate::proofs::Clocks::time_stays))]
 pub(crate) fn leave_at<C: Content>(
     content: &C,
     devices: &mut Vec<Recorded<C>>,
@@ -140,6 +148,7 @@ pub(crate) fn leave_at<C: Content>(
     ensures left { IfOk result (λ what. AreMoved what devices.old.items devices.new.items device (leaving_at (C.meaning content.now) device (operator_at operators.now number) (slice_get devices.old.items (device - 1)))) }
     ensures unchanged { OnErr result (devices.new.items ≡ devices.old.items) }
     ensures count { length devices.new.items ≡ length devices.old.items }
+    ensures time { KeepsTime 0 devices.old.items devices.new.items }
     ensures sound { AreSound (C.meaning content.now) devices.new.items }
 {
     let Some(operator) = operator_at(operators, number) else {
@@ -153,6 +162,7 @@ pub(crate) fn leave_at<C: Content>(
 }
 
 /// The clock of a device rises.
+#[tactic(auto, using(crate::proofs::Clocks::time_stays))]
 pub(crate) fn advance_at<C: Content>(
     content: &C,
     devices: &mut Vec<Recorded<C>>,
@@ -164,6 +174,7 @@ pub(crate) fn advance_at<C: Content>(
     ensures advanced { IfOk result (λ what. AreMoved what devices.old.items devices.new.items device (later_at (C.meaning content.now) seconds (slice_get devices.old.items (device - 1)))) }
     ensures unchanged { OnErr result (devices.new.items ≡ devices.old.items) }
     ensures count { length devices.new.items ≡ length devices.old.items }
+    ensures time { KeepsTime seconds devices.old.items devices.new.items }
     ensures sound { AreSound (C.meaning content.now) devices.new.items }
 {
     let place = place_of(device);
@@ -174,6 +185,7 @@ pub(crate) fn advance_at<C: Content>(
 }
 
 /// A device restarts, and its sides of all links end.
+#[tactic(auto, using(crate::proofs::Clocks::time_stays))]
 pub(crate) fn restart_at<C: Content>(
     content: &C,
     devices: &mut Vec<Recorded<C>>,
@@ -185,6 +197,7 @@ pub(crate) fn restart_at<C: Content>(
     ensures unchanged { OnErr result (devices.new.items ≡ devices.old.items) }
     ensures manager_unchanged { OnErr result (manager.new ≡ manager.old) }
     ensures count { length devices.new.items ≡ length devices.old.items }
+    ensures time { KeepsTime 0 devices.old.items devices.new.items }
     ensures sound { AreSound (C.meaning content.now) devices.new.items }
 {
     let place = place_of(device);

@@ -1,4 +1,4 @@
-use Rattle.std.proofs.Common.{◌≡◌, Some, ap, ◌∙◌, sym, option_copied}
+use Rattle.std.proofs.Common.{ap, option_copied}
 use Rattle.nm_manager.specs.Manager.{wire_in}
 use Rattle.nm_network.proofs.Meetings.{delivers_so}
 use Rattle.nm_network.proofs.places.deliver_to.Goals as goal

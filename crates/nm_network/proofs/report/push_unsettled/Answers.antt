@@ -1,5 +1,5 @@
-use Rattle.std.proofs.Common.{◌≡◌, ◌≤◌, ◌<◌, ◌++◌, length, slice_get, ◌-◌, ap, ◌∙◌, arith}
-use Rattle.nm_network.specs.Report.{each_from, unsettled_at, unsettles, pair_if}
+use Rattle.std.proofs.Common.{◌≤◌, ◌<◌, ◌++◌, length, ap, ◌∙◌, arith}
+use Rattle.nm_network.specs.Report.{each_from, unsettled_at, pair_if}
 use Rattle.nm_network.proofs.Searches.{all_of, one_given, all_given}
 use Rattle.nm_network.proofs.report.push_unsettled.Goals as goal
 

@@ -1,7 +1,7 @@
 use Rattle.std.proofs.Common.{◌≡◌, ◌≤◌, ◌<◌, ◌-◌, [], ◌++◌, List, length, ap, ◌∙◌, arith}
 use Rattle.nm_network.specs.declared.report.Pair.{Pair}
 use Rattle.nm_network.specs.declared.report.Report.{Report}
-use Rattle.nm_network.specs.Report.{each_from, differing, unsettling, report_from}
+use Rattle.nm_network.specs.Report.{each_from, differing, unsettling}
 use Rattle.nm_network.proofs.Searches.{all_of, one_given, all_given}
 use Rattle.nm_network.proofs.report.report_from.Goals as goal
 

@@ -1,4 +1,4 @@
-use Rattle.std.proofs.Common.{◌+◌, ℕ, Option, None, replicate, arith}
+use Rattle.std.proofs.Common.{ℕ, Option, None, replicate, arith}
 use Rattle.std.proofs.lemmas.Grind.{common_steps}
 use Rattle.nm_network.proofs.Loops.{replicate-left}
 use Rattle.nm_network.proofs.scene.fresh_operators.Goals as goal

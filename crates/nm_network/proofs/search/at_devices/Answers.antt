@@ -1,4 +1,4 @@
-use Rattle.std.proofs.Common.{◌≤◌, ◌<◌, ◌≡◌, ◌+◌, length, arith}
+use Rattle.std.proofs.Common.{◌≤◌, ◌<◌, length, arith}
 use Rattle.nm_network.specs.Drain.{at_pair, at_devices}
 use Rattle.nm_network.proofs.Loops.{nowhere}
 use Rattle.nm_network.proofs.Searches.{from_start, found_at, not_at}

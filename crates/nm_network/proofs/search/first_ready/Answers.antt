@@ -1,7 +1,7 @@
 use Rattle.std.proofs.Common.{◌≤◌, ◌<◌, ◌≡◌, length, ap, arith}
 use Rattle.nm_network.specs.Drain.{ready_at, first_ready}
 use Rattle.nm_network.proofs.Loops.{nowhere}
-use Rattle.nm_network.proofs.Searches.{from_start, found_at, not_at}
+use Rattle.nm_network.proofs.Searches.{found_at, not_at}
 use Rattle.nm_network.proofs.search.first_ready.Goals as goal
 
 pub returns-in-Some-clause-value : goal.returns-in-Some-clause-value

@@ -1,7 +1,7 @@
-use Rattle.std.proofs.Common.{◌≤◌, ◌<◌, ◌≡◌, ◌+◌, length, refl, arith}
+use Rattle.std.proofs.Common.{◌≤◌, ◌<◌, ◌+◌, length, refl, arith}
 use Rattle.nm_network.specs.Drain.{leave_of, leaves}
 use Rattle.nm_network.proofs.Loops.{nowhere}
-use Rattle.nm_network.proofs.Searches.{from_start, found_at, not_at}
+use Rattle.nm_network.proofs.Searches.{found_at, not_at}
 use Rattle.nm_network.proofs.search.leaves.Goals as goal
 
 pub returns-in-Some : goal.returns-in-Some

@@ -2,7 +2,7 @@ use Rattle.std.proofs.Common.{◌≤◌, ◌<◌, ◌≡◌, length, ap, arith}
 use Rattle.nm_network.specs.declared.drain.Rule.TheVariants as rules
 use Rattle.nm_network.specs.Drain.{at_devices, loses_links}
 use Rattle.nm_network.proofs.Loops.{nowhere}
-use Rattle.nm_network.proofs.Searches.{from_start, found_at, not_at}
+use Rattle.nm_network.proofs.Searches.{found_at, not_at}
 use Rattle.nm_network.proofs.search.loses_links.Goals as goal
 
 pub returns-in-Some : goal.returns-in-Some

@@ -1,8 +1,9 @@
-use Rattle.std.proofs.Common.{◌≡◌, ◌-◌, ◌<◌, length, arith, subst, IfOk, rules}
+use Rattle.std.proofs.Common.{◌-◌, ◌<◌, length, subst, IfOk, rules}
 use Rattle.std.proofs.lemmas.List.Elements.{All-set}
 use Rattle.nm_device.specs.Device.{IsSound}
 use Rattle.nm_history.specs.History.{RecordedState}
 use Rattle.nm_network.specs.World.{asks, asking_at, IsAsked}
+use Rattle.nm_network.proofs.Clocks.{time_kept}
 use Rattle.nm_network.proofs.Staging.{all_asked_by}
 use Rattle.nm_network.proofs.steps.ask_at.Goals as goal
 
@@ -20,3 +21,8 @@ pub returns-clause-sound : goal.returns-clause-sound
 returns-clause-sound g c =
     All-set (λ (r : RecordedState _ _). IsSound (g.C.Content.meaning c.args.content.now) r.device) c.args.devices.now.items c.place_of-place.result c.ask_of.new.device
     c.ask_of.ensures.sound c.requires.sound
+
+pub returns-clause-time : goal.returns-clause-time
+returns-clause-time g c =
+    let within : c.place_of-place.result < length c.args.devices.now.items = search rules in
+    time_kept c.args.devices.now.items c.place_of-place.result c.index_mut.result.now c.ask_of.new.device within c.index_mut.ensures.value c.ask_of.ensures.clock

@@ -3,6 +3,7 @@ use Rattle.std.proofs.lemmas.List.Elements.{All-set}
 use Rattle.nm_device.specs.Device.{IsSound}
 use Rattle.nm_history.specs.History.{RecordedState}
 use Rattle.nm_network.specs.World.{anew_at}
+use Rattle.nm_network.proofs.Clocks.{time_kept}
 use Rattle.nm_network.proofs.Staging.{all_met}
 use Rattle.nm_network.proofs.steps.restart_at.Goals as goal
 
@@ -17,3 +18,8 @@ pub returns-clause-sound : goal.returns-clause-sound
 returns-clause-sound g c =
     All-set (λ (r : RecordedState _ _). IsSound (g.C.Content.meaning c.args.content.now) r.device) c.args.devices.now.items c.place_of-place.result c.restart_of.new.device
     c.restart_of.ensures.sound c.requires.sound
+
+pub returns-clause-time : goal.returns-clause-time
+returns-clause-time g c =
+    let within : c.place_of-place.result < length c.args.devices.now.items = omega (arith, c.if-place-len.false, c.len.ensures) in
+    time_kept c.args.devices.now.items c.place_of-place.result c.index_mut.result.now c.restart_of.new.device within c.index_mut.ensures.value c.restart_of.ensures.clock

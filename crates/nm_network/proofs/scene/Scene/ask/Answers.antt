@@ -1,10 +1,10 @@
-use Rattle.std.proofs.Common.{◌-◌, ◌∙◌, slice_get, subst, sym}
+use Rattle.std.proofs.Common.{◌-◌, slice_get, subst, sym}
 use Rattle.nm_network.specs.World.{Staged, AreInTime, asking_at, operator_at}
 use Rattle.nm_network.proofs.Staging.{asked_so}
 use Rattle.nm_network.proofs.scene.Scene.ask.Goals as goal
 
-pub returns : goal.returns
-returns g c =
+pub returns-clause-came : goal.returns-clause-came
+returns-clause-came g c =
     let s = c.self.inside in
     rw (← c.self.view_is) (asked_so s.content s.tables s.users s.strayed c.in_ok-happened.happened s.devices.items c.ask_at.new.devices.items s.manager
     s.operators.items c.ask_at.new.operators.items c.args.operator c.args.device
@@ -13,3 +13,9 @@ returns g c =
 
 pub ask_at-requires-clause-in_time : goal.ask_at-requires-clause-in_time
 ask_at-requires-clause-in_time g c = subst (λ (w : Staged _ _ _ _). AreInTime w.state.devices) (sym c.self.view_is) c.requires.in_time
+
+pub returns-clause-time : goal.returns-clause-time
+returns-clause-time g c = rw (← c.self.view_is) c.ask_at.ensures.time
+
+pub returns-in_err-happened-clause-time : goal.returns-in_err-happened-clause-time
+returns-in_err-happened-clause-time g c = rw (← c.self.view_is) c.ask_at.ensures.time

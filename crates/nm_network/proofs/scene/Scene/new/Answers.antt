@@ -1,4 +1,4 @@
-use Rattle.std.proofs.Common.{◌≡◌, ◌≤◌, ◌∙◌, ap, length, map, arith}
+use Rattle.std.proofs.Common.{◌≡◌, ◌∙◌, ap, length, map, arith}
 use Rattle.std.proofs.lemmas.List.{length-map}
 use Rattle.nm_history.specs.History.{recorded}
 use Rattle.nm_network.proofs.Beginnings.{fresh_sound}

@@ -5,8 +5,8 @@ use Rattle.nm_network.specs.World.{happened_of}
 use Rattle.nm_network.proofs.Staging.{by_so}
 use Rattle.nm_network.proofs.scene.Scene.renew.Goals as goal
 
-pub returns : goal.returns
-returns g c =
+pub returns-clause-came : goal.returns-clause-came
+returns-clause-came g c =
     let s = c.self.inside in
     rw (← c.self.view_is) (by_so s.content s.tables s.users s.strayed c.happened_of.result s.devices.items s.operators.items s.manager c.renew.new.self
     (renewed s.manager.plans s.manager.state c.args.change c.args.device) c.in_ok-action.action (request_to s.manager.plans s.manager.state c.args.change c.args.device ask.Renew)

@@ -1,0 +1,17 @@
+use Rattle.nm_network.proofs.Chains.{answer_did, answer_left}
+use Rattle.nm_network.proofs.world.World.answer_last.Goals as goal
+
+pub returns-clause-answered : goal.returns-clause-answered
+returns-clause-answered g c =
+    answer_did g.D.Disk.told g.D.Disk.faults g.D.Disk.may_leave g.D.Disk.moment g.D.Disk.might_have_left g.C.Content.meaning c.args.self.now c.args.change c.replies_on-number.result c.args.sending c.apply.new.self c.args.disk.now c.apply.new.disk
+    c.replies_on-number.ensures c.in_ok-apply.ensures.applied
+
+pub returns-clause-journals : goal.returns-clause-journals
+returns-clause-journals g c =
+    answer_left g.D.Disk.told g.D.Disk.faults g.D.Disk.may_leave g.D.Disk.moment g.D.Disk.might_have_left g.C.Content.meaning c.args.self.now c.args.change c.replies_on-number.result c.args.sending c.args.disk.now c.apply.new.disk
+    c.replies_on-number.ensures c.apply.ensures.journals
+
+pub returns-in_err-apply-clause-journals : goal.returns-in_err-apply-clause-journals
+returns-in_err-apply-clause-journals g c =
+    answer_left g.D.Disk.told g.D.Disk.faults g.D.Disk.may_leave g.D.Disk.moment g.D.Disk.might_have_left g.C.Content.meaning c.args.self.now c.args.change c.replies_on-number.result c.args.sending c.args.disk.now c.apply.new.disk
+    c.replies_on-number.ensures c.apply.ensures.journals

@@ -1,0 +1,80 @@
+use Rattle.std.proofs.Common.{◌∙◌, ap, sym, subst, length, arith, rules}
+use Rattle.nm_network.specs.Runs.{IsNumbered}
+use Rattle.nm_network.specs.World.{Whole, journal_of, with_state}
+use Rattle.nm_network.proofs.Clocks.{time_now, time_left, time_first}
+use Rattle.nm_network.proofs.Passing.{none_did, rose_since, tells_entries}
+use Rattle.nm_network.proofs.Chains.{run_did, run_left, run_end}
+use Rattle.nm_network.proofs.world.World.run.Goals as goal
+
+pub loop-event-init : goal.loop-event-init
+loop-event-init g c = (
+  none_did g.D.Disk.told g.D.Disk.faults g.D.Disk.may_leave g.D.Disk.moment g.D.Disk.might_have_left c.args.self c.args.disk.now c.requires.whole c.requires.fits (g.met.D.Disk.only_now c.args.disk.now),
+  time_first (length c.args.events.now) c.args.self.state.devices c.requires.in_time,
+)
+
+pub step-requires-clause-given : goal.step-requires-clause-given
+step-requires-clause-given g c =
+    subst (λ (w : Whole _ _ _ _). IsNumbered (length w.setting.plans) c.event-item.result) (sym c.loop-event.invariant.0.others)
+    (subst (IsNumbered (length c.args.self.setting.plans)) (sym c.event-item.is) (c.requires.given c.loop-event.event-index c.event-item.result c.loop-event-test.true))
+
+pub step-requires-clause-in_time : goal.step-requires-clause-in_time
+step-requires-clause-in_time g c = time_now _ c.loop-event.world.state.devices c.loop-event.invariant.1
+
+pub step-requires-clause-going : goal.step-requires-clause-going
+step-requires-clause-going g c = ap (λ (w : Whole _ _ _ _). w.has_failed) c.loop-event.invariant.0.others ∙ c.requires.going
+
+pub step-requires-clause-whole : goal.step-requires-clause-whole
+step-requires-clause-whole g c = ap (λ (w : Whole _ _ _ _). w.failed) c.loop-event.invariant.0.others ∙ c.requires.whole
+
+pub step-requires-clause-fits : goal.step-requires-clause-fits
+step-requires-clause-fits g c = c.loop-event.invariant.0.fits
+
+pub loop-event-preserved : goal.loop-event-preserved
+loop-event-preserved g c = (
+  run_did g.D.Disk.told g.D.Disk.faults g.D.Disk.may_leave g.D.Disk.moment g.D.Disk.might_have_left g.C.Content.meaning c.args.self c.args.events.now c.loop-event.event-index c.event-item.result c.loop-event.world c.step.new.self c.args.disk.now c.loop-event.disk c.step.new.disk
+      c.loop-event-test.true c.event-item.is c.loop-event.invariant.0 c.in_ok-step.ensures.stepped,
+  time_left (length c.args.events.now) c.loop-event.event-index c.loop-event.world.state.devices c.step.new.self.state.devices c.loop-event-test.true c.in_ok-step.ensures.time c.loop-event.invariant.1,
+)
+
+pub returns-in_err-step-clause-disk_fault : goal.returns-in_err-step-clause-disk_fault
+returns-in_err-step-clause-disk_fault g c = λ is.
+    rose_since (g.D.Disk.faults c.args.disk.now) (g.D.Disk.faults c.loop-event.disk) (g.D.Disk.faults c.step.new.disk) c.loop-event.invariant.0.journals.keeps.count (c.in_err-step.ensures.disk_fault (search (rules, is)))
+
+pub returns-in_err-step-clause-keeps : goal.returns-in_err-step-clause-keeps
+returns-in_err-step-clause-keeps g c =
+    (run_left g.D.Disk.told g.D.Disk.faults g.D.Disk.may_leave g.D.Disk.moment g.D.Disk.might_have_left g.C.Content.meaning c.args.self c.args.events.now c.loop-event.event-index c.event-item.result c.loop-event.world c.args.disk.now c.loop-event.disk c.step.new.disk
+    c.loop-event-test.true c.event-item.is c.loop-event.invariant.0 c.step.ensures.journals).keeps
+
+pub returns-in_err-step-clause-any_moment : goal.returns-in_err-step-clause-any_moment
+returns-in_err-step-clause-any_moment g c =
+    (run_left g.D.Disk.told g.D.Disk.faults g.D.Disk.may_leave g.D.Disk.moment g.D.Disk.might_have_left g.C.Content.meaning c.args.self c.args.events.now c.loop-event.event-index c.event-item.result c.loop-event.world c.args.disk.now c.loop-event.disk c.step.new.disk
+    c.loop-event-test.true c.event-item.is c.loop-event.invariant.0 c.step.ensures.journals).any_moment
+
+pub returns-clause-done : goal.returns-clause-done
+returns-clause-done g c = λ unstrayed.
+    let did = run_end g.D.Disk.told g.D.Disk.faults g.D.Disk.may_leave g.D.Disk.moment g.D.Disk.might_have_left g.C.Content.meaning c.args.self c.args.events.now c.loop-event.event-index c.loop-event.world c.args.disk.now c.loop-event.disk (omega (arith, c.loop-event-test.false)) c.loop-event.invariant.0 in
+    did.others ∙ ap (with_state c.args.self) (did.done unstrayed)
+
+pub returns-clause-others : goal.returns-clause-others
+returns-clause-others g c = c.loop-event.invariant.0.others
+
+pub returns-clause-straight : goal.returns-clause-straight
+returns-clause-straight g c = c.loop-event.invariant.0.straight
+
+pub returns-clause-fits : goal.returns-clause-fits
+returns-clause-fits g c = c.loop-event.invariant.0.fits
+
+pub returns-clause-stored : goal.returns-clause-stored
+returns-clause-stored g c =
+    tells_entries g.D.Disk.told g.D.Disk.may_leave (journal_of c.loop-event.world) c.loop-event.disk (ap (λ (w : Whole _ _ _ _). w.failed) c.loop-event.invariant.0.others ∙ c.requires.whole)
+    c.loop-event.invariant.0.fits (g.met.D.Disk.as_read c.loop-event.disk)
+
+pub returns-clause-in_time : goal.returns-clause-in_time
+returns-clause-in_time g c = time_now _ c.loop-event.world.state.devices c.loop-event.invariant.1
+
+pub returns-clause-keeps : goal.returns-clause-keeps
+returns-clause-keeps g c = c.loop-event.invariant.0.journals.keeps
+
+pub returns-clause-any_moment : goal.returns-clause-any_moment
+returns-clause-any_moment g c =
+    (run_end g.D.Disk.told g.D.Disk.faults g.D.Disk.may_leave g.D.Disk.moment g.D.Disk.might_have_left g.C.Content.meaning c.args.self c.args.events.now c.loop-event.event-index c.loop-event.world c.args.disk.now c.loop-event.disk (omega (arith, c.loop-event-test.false)) c.loop-event.invariant.0).journals.any_moment
