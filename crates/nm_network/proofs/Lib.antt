@@ -11,3 +11,4 @@ pub mod Crashing
 pub mod Chains
 pub mod Failing
 pub mod Searches
+pub mod Numbered

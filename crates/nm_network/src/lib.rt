@@ -10,6 +10,7 @@ pub mod happened;
 pub mod operator;
 mod places;
 pub mod report;
+mod rest;
 mod scene;
 mod search;
 pub mod settled;

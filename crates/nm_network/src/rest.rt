@@ -1,0 +1,70 @@
+//! How a world comes to rest, step by step, and what is reported of it.
+
+ghost use Rattle.std.specs.Prelude.{◌≡◌, ◌<◌, ◌^◌, length, is_some, false, Ok, Err, None, IfOk, OnOk, OnErr};
+ghost use Rattle.nm_base.specs.Count.{Rose};
+ghost use Rattle.nm_journal.specs.Fits.{Fits};
+ghost use Rattle.nm_manager.specs.declared.action.TurnFault.TheVariants as fault;
+ghost use Rattle.nm_network.specs.Drain.{drain_in, drain_event, drain_step};
+ghost use Rattle.nm_network.specs.Report.{report_in, report_of};
+ghost use Rattle.nm_network.specs.Runs.{Does, Journals, KeepsTime};
+
+use crate::report::{Report, report_from};
+use crate::scene::Scene;
+use crate::search::next_step;
+use crate::world::World;
+use nm_base::NoMemory;
+use nm_disk::Disk;
+use nm_manager::TurnFault;
+use nm_proto::{Content, Event};
+
+impl<C: Content + Drop> Scene<C> {
+    // The next step, and None exactly where the world is at rest.
+    fn next_step(&self) -> Option<Event>
+        requires numbered { length self.now.state.operators < 2 ^ 32 }
+        ensures { result ≡ drain_in (length self.now.setting.plans) self.now.state }
+    {
+        next_step(&self.devices, &self.operators, &self.manager)
+    }
+
+    // What is reported of what stands.
+    fn report(&self) -> Result<Report, NoMemory>
+        ensures { IfOk result (λ report. report ≡ report_in self.now.setting self.now.state) }
+    {
+        report_from(self.alloc, &self.devices, &self.manager)
+    }
+}
+
+impl<C: Content + Drop> World<C> {
+    ghost use Rattle.nm_network.specs.World.{AreInTime, IsStill, journal_of};
+
+    /// Does the next step that brings the world to rest, and answers whether there was one. Where there was none, the world is at
+    /// rest, and nothing changes. The operators are numbered by 32 bits.
+    pub fn drain_step<D: Disk>(&mut self, disk: &mut D) -> Result<bool, TurnFault>
+        requires numbered { length self.old.state.operators < 2 ^ 32 }
+        requires in_time { AreInTime self.old.state.devices }
+        requires going { self.old.has_failed ≡ false }
+        requires whole { self.old.failed ≡ None }
+        requires fits { Fits D.told D.may_leave (journal_of self.old) disk.old }
+        ensures stepped { OnOk result (Does D.told D.faults D.may_leave D.moment D.might_have_left (λ w. drain_step (C.meaning self.old.content) self.old.setting w) self.old self.new disk.old disk.new) }
+        ensures went { IfOk result (λ went. went ≡ is_some (drain_event self.old.setting self.old.state)) }
+        ensures at_rest { drain_event self.old.setting self.old.state ≡ None → (self.new ≡ self.old) × (disk.new ≡ disk.old) }
+        ensures still { OnErr result (IsStill self.old self.new) }
+        ensures no_memory { result ≡ Err fault.NoMemory → self.new ≡ self.old }
+        ensures disk_fault { result ≡ Err fault.DiskFault → Rose (D.faults disk.old) (D.faults disk.new) }
+        ensures journals { Journals D.told D.faults D.may_leave D.moment D.might_have_left self.old.state (drain_step (C.meaning self.old.content) self.old.setting self.old.state) disk.old disk.new }
+        ensures time { KeepsTime 0 self.old.state.devices self.new.state.devices }
+    {
+        let Some(event) = self.scene.next_step() else {
+            return Ok(false);
+        };
+        self.apply(disk, &event)?;
+        Ok(true)
+    }
+
+    /// The devices that differ from a journalled verdict, and those of which it isn't known yet what becomes of a change set.
+    pub fn report(&self) -> Result<Report, NoMemory>
+        ensures { IfOk result (λ report. report ≡ report_of self.now.setting self.now.state) }
+    {
+        self.scene.report()
+    }
+}
