@@ -21,7 +21,7 @@ use Rattle.nm_validate.proofs.Leasts.{range_step}
 
 -- ---- members of cases
 
-any_kept : {X : Type 0} (test other : X → Bool) (xs : List X) → list_any other (filter test xs) ≡ list_any (λ x. test x && other x) xs
+pub any_kept : {X : Type 0} (test other : X → Bool) (xs : List X) → list_any other (filter test xs) ≡ list_any (λ x. test x && other x) xs
 any_kept test other [] = refl
 any_kept test other (x ∷ xs) =
     let rest = any_kept test other xs in

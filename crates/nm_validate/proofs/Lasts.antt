@@ -1,6 +1,7 @@
 -- What the last step of a path chooses.
-use Rattle.std.proofs.Common.{◌≡◌, suc, ◌-◌, List, [], ◌∷◌, length, Option, Some, slice_get, sym, ap, ◌∙◌, arith}
+use Rattle.std.proofs.Common.{◌≡◌, suc, ◌-◌, List, [], ◌∷◌, length, take, Option, Some, slice_get, refl, sym, ap, ◌∙◌, arith}
 use Rattle.nm_types.specs.Path.{PathStep, choice_values}
+use Rattle.nm_rules.specs.Guards.{front}
 use Rattle.nm_rules.specs.Values.{chosen_values}
 use Rattle.nm_rules.specs.Violated.{last_chosen}
 
@@ -19,3 +20,10 @@ pub values_last : (ss : List PathStep) (s : PathStep) → slice_get ss (length s
 values_last [] s e = absurd (cc)
 values_last (r ∷ []) s e = ap choice_values (chosen_is r s e)
 values_last (r ∷ q ∷ ss) s e = values_last (q ∷ ss) s (ap (slice_get (r ∷ q ∷ ss)) (sym (one_less r q ss)) ∙ e)
+
+-- a path without its last step
+pub front_is : (path : List PathStep) → take (length path - 1) path ≡ front path
+front_is [] = refl
+front_is (s ∷ []) = refl
+front_is (s ∷ r ∷ ss) =
+    ap (λ n. take n (s ∷ r ∷ ss)) (one_less s r ss) ∙ ap (λ p. s ∷ p) (front_is (r ∷ ss))

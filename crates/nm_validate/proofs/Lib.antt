@@ -7,3 +7,5 @@ pub mod Outwards
 pub mod Below
 pub mod Missing
 pub mod Loops
+pub mod Counting
+pub mod Elements

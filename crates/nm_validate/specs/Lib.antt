@@ -3,3 +3,5 @@ pub mod Members
 pub mod Placing
 pub mod Least
 pub mod Groups
+pub mod Counts
+pub mod Wanted

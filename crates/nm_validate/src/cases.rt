@@ -1,10 +1,11 @@
 //! The cases that nodes stand in, and whether they hold (RFC 7950 section 7.9.2).
 
-ghost use Rattle.std.specs.Prelude.{◌≡◌, IfOk, filter};
+ghost use Rattle.std.specs.Prelude.{◌≡◌, ◌&&◌, ◌==◌, IfOk, filter, not};
 ghost use Rattle.std.specs.List.{list_any};
 ghost use Rattle.nm_base.specs.Numbers.{is_among};
+ghost use Rattle.nm_tree.specs.Nodes.{case_at};
 ghost use Rattle.nm_rules.specs.Cases as spec;
-ghost use Rattle.nm_validate.specs.Members.{AreMembers, is_allowed_by};
+ghost use Rattle.nm_validate.specs.Members.{AreMembers, AreOthers, is_allowed_by};
 
 use nm_base::{Label, NoMemory};
 use nm_config::RowMap;
@@ -63,6 +64,39 @@ pub fn members_of(
     match case {
         None => Ok(None),
         Some(case) => Ok(Some(nodes_of(alloc, schema, case)?)),
+    }
+}
+
+// Whether a node is another than one that stands in a case, and stands in that case too.
+fn is_other(schema: &Schema, case: usize, at: usize, other: usize) -> bool
+    ensures { result ≡ (not (other == at) && spec.is_in_case schema.now case other) }
+{
+    if other == at {
+        return false;
+    }
+    is_in_case(schema, case, other)
+}
+
+// The nodes of a case other than one of them.
+fn others_in(alloc: Global, schema: &Schema, case: usize, at: usize) -> Result<Vec<usize>, NoMemory>
+    ensures { IfOk result (λ all. all.items ≡ filter (λ other. not (other == at) && spec.is_in_case schema.now case other) (spec.numbers schema.now.nodes)) }
+{
+    let mut all = Vec::new(alloc);
+    for other in 0..schema.len() {
+        if is_other(schema, case, at, other) {
+            all.push(other)?;
+        }
+    }
+    Ok(all)
+}
+
+/// The other nodes of the case that a node stands in, and None where it stands in none.
+pub fn others_of(alloc: Global, schema: &Schema, at: usize) -> Result<Option<Vec<usize>>, NoMemory>
+    ensures { IfOk result (AreOthers schema.now at (case_at schema.now.nodes at)) }
+{
+    match schema.case_in(at) {
+        None => Ok(None),
+        Some(case) => Ok(Some(others_in(alloc, schema, case, at)?)),
     }
 }
 

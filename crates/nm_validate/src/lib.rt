@@ -6,14 +6,19 @@
 
 mod areas;
 mod cases;
+mod counts;
 mod fits;
 mod keys;
 mod leafs;
 mod least;
+mod too_few;
+mod too_many;
 mod value_types;
 
 pub use keys::least_bad_key;
 pub use leafs::least_missing_leaf;
+pub use too_few::least_too_few;
+pub use too_many::least_too_many;
 pub use value_types::least_bad_value;
 
 #[cfg(test)]

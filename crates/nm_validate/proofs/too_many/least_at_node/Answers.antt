@@ -1,0 +1,16 @@
+use Rattle.std.proofs.Common.{ap, sym, ◌∙◌}
+use Rattle.std.specs.Prelude.{filter, nat_lt}
+use Rattle.nm_rules.specs.Values.{count_at}
+use Rattle.nm_validate.specs.Least.{least_with}
+use Rattle.nm_validate.proofs.Elements.{above_max, no_max}
+use Rattle.nm_validate.proofs.too_many.least_at_node.Goals as goal
+
+pub returns-in_default : goal.returns-in_default
+returns-in_default g c =
+    let rows = g.M.RowMap.rows c.args.config.now in
+    ap (least_with c.args.found) (sym (no_max c.args.schema.now rows c.requires.sound c.args.at c.requires.within (ap (λ e. e.max) (sym c.elements.ensures) ∙ c.in_default.is)))
+
+pub returns : goal.returns
+returns g c =
+    let rows = g.M.RowMap.rows c.args.config.now in
+    c.least_above-least.ensures ∙ ap (λ l. least_with c.args.found l) (ap (filter (λ p. nat_lt c.in-Some.max (count_at rows p))) c.in_ok-paths.ensures ∙ above_max c.args.schema.now rows c.requires.sound c.args.at c.requires.within c.in-Some.max (ap (λ e. e.max) (sym c.elements.ensures) ∙ c.in-Some.is))
