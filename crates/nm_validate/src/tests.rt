@@ -20,8 +20,15 @@ const MODULE: &str =
 fn sample(alloc: Global) -> Result<Option<Schema>, NoMemory>
     ensures { IfOk result (λ found. IfSome found (λ schema. IsSound schema.nodes)) }
 {
+    schema_of(alloc, MODULE)
+}
+
+// The schema of a module, and None where it isn't read.
+fn schema_of(alloc: Global, module: &str) -> Result<Option<Schema>, NoMemory>
+    ensures { IfOk result (λ found. IfSome found (λ schema. IsSound schema.nodes)) }
+{
     let mut modules = Vec::new(alloc);
-    match read_module(alloc, MODULE.as_bytes()) {
+    match read_module(alloc, module.as_bytes()) {
         Ok(module) => modules.push(module)?,
         Err(_) => return Ok(None),
     }
@@ -147,5 +154,85 @@ fn bad_keys_are_answered(rt: HostRuntime) -> Result<(), Fail> {
     assert!(rt; is_bad_entry(alloc, &schema, &[256])?);
     assert!(rt; is_bad_entry(alloc, &schema, &[])?);
     assert!(rt; is_bad_entry(alloc, &schema, &[1, 2])?);
+    Ok(())
+}
+
+// Entries are counted at the top, in an entry, and behind a container with presence.
+const COUNTED: &str =
+    "module el { yang-version 1.1; namespace \"urn:el\"; prefix el; leaf-list dns { type string; max-elements 2; } list srv { key id; leaf id { type uint8; } leaf-list port { type uint16; min-elements 1; max-elements 2; } } container box { presence it; leaf-list hop { type string; min-elements 2; } } }";
+
+// Where a list has too few entries in the configuration of a JSON text.
+fn few_in(alloc: Global, schema: &Schema, text: &str) -> Result<Label, NoMemory>
+    requires { IsSound schema.now.nodes }
+{
+    match read_config(alloc, schema, text.as_bytes()) {
+        Err(_) => Label::new(alloc, "not read"),
+        Ok(config) => {
+            let found = least_too_few(alloc, schema, &config)?;
+            path_text(alloc, schema, &found)
+        }
+    }
+}
+
+// A configuration, and the path that RFC 7950 section 7.7.5 says has too few entries.
+const FEW: &[(&str, &str)] = &[
+    ("{}", ""),
+    ("{\"el:box\":{}}", "/el:box/hop"),
+    ("{\"el:box\":{\"hop\":[\"a\"]}}", "/el:box/hop"),
+    ("{\"el:box\":{\"hop\":[\"a\",\"c\"]}}", ""),
+    (
+        "{\"el:srv\":[{\"id\":2},{\"id\":1,\"port\":[1]}]}",
+        "/el:srv[id='2']/port",
+    ),
+];
+
+#[test]
+fn too_few_entries_are_answered(rt: HostRuntime) -> Result<(), Fail> {
+    let alloc = rt.alloc();
+    let Some(schema) = schema_of(alloc, COUNTED)? else {
+        return Err(Fail::new("the module isn't read"));
+    };
+    for (text, expected) in FEW {
+        assert_eq!(rt; few_in(alloc, &schema, text)?.as_str(), *expected, "{text}");
+    }
+    Ok(())
+}
+
+// Where a list has too many entries in the configuration of a JSON text.
+fn many_in(alloc: Global, schema: &Schema, text: &str) -> Result<Label, NoMemory>
+    requires { IsSound schema.now.nodes }
+{
+    match read_config(alloc, schema, text.as_bytes()) {
+        Err(_) => Label::new(alloc, "not read"),
+        Ok(config) => {
+            let found = least_too_many(alloc, schema, &config)?;
+            path_text(alloc, schema, &found)
+        }
+    }
+}
+
+// A configuration, and the path that RFC 7950 section 7.7.6 says has too many entries.
+const MANY: &[(&str, &str)] = &[
+    ("{\"el:dns\":[\"a\",\"b\"]}", ""),
+    ("{\"el:dns\":[\"a\",\"b\",\"c\"]}", "/el:dns"),
+    (
+        "{\"el:srv\":[{\"id\":2,\"port\":[1,2,3]},{\"id\":1,\"port\":[1,2]}]}",
+        "/el:srv[id='2']/port",
+    ),
+];
+
+#[test]
+fn too_many_entries_are_answered(rt: HostRuntime) -> Result<(), Fail> {
+    let alloc = rt.alloc();
+    let Some(schema) = schema_of(alloc, COUNTED)? else {
+        return Err(Fail::new("the module isn't read"));
+    };
+    for (text, expected) in MANY {
+        assert_eq!(rt;
+            many_in(alloc, &schema, text)?.as_str(),
+            *expected,
+            "{text}"
+        );
+    }
     Ok(())
 }
