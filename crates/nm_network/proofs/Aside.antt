@@ -1,12 +1,12 @@
 -- An event that doesn't touch the journal.
-use Rattle.std.proofs.Common.{◌≡◌, List, true, false, None, refl, sym, ap, ◌∙◌, subst}
+use Rattle.std.proofs.Common.{◌≡◌, List, length, true, false, None, refl, sym, ap, ◌∙◌, subst}
 use Rattle.nm_proto.specs.Content.{Meaning}
 use Rattle.nm_proto.specs.declared.journal.Entry.{Entry}
 use Rattle.nm_proto.specs.declared.plan.Event.{Event}
 use Rattle.nm_proto.specs.declared.plan.Event.TheVariants.{Submit, Turn, Deliver, Answer, Break, Lose, Advance, Restart, Forget, Crash, Renew, Foreign, Leave, Round}
 use Rattle.nm_network.specs.declared.happened.Happened.{Happened}
 use Rattle.nm_network.specs.World.{Setting, SceneState, Staged, IsCome, elementary, entry_of, touches_journal, scene_journal}
-use Rattle.nm_network.proofs.Growing.{Enters, event_enters, event_strays}
+use Rattle.nm_network.proofs.Growing.{Enters, event_enters, event_strays, event_as_many}
 
 abbrev IsAside : Event → Type 0
 IsAside event = touches_journal event ≡ false
@@ -35,6 +35,9 @@ module _ {TheContent Config TheEdit Node : Type 0} (m : Meaning Config TheEdit N
 
   pub strays_not : new.state.strayed ≡ old.state.strayed
   strays_not = ap (λ (w : Staged TheContent Config TheEdit Node). w.state.strayed) came.1 ∙ event_strays m old.setting old.state event
+
+  pub operators_stay : length new.state.operators ≡ length old.state.operators
+  operators_stay = ap (λ (w : Staged TheContent Config TheEdit Node). length w.state.operators) came.1 ∙ event_as_many m old.setting old.state event
 
   -- its journal stays
   pub journal_stays : touches_journal event ≡ false → scene_journal new ≡ scene_journal old

@@ -1,5 +1,5 @@
--- A round, rounds and a run, of their calls.
-use Rattle.std.proofs.Common.{◌≡◌, ◌≤◌, ◌<◌, ◌+◌, ℕ, suc, List, Option, Some, None, sym, ap, ◌∙◌, subst, arith, length, take, get_or}
+-- A round, rounds, a run, and the steps that bring a world to rest, of their calls.
+use Rattle.std.proofs.Common.{◌≡◌, ◌≤◌, ◌<◌, ◌+◌, ℕ, suc, false, List, Option, Some, None, sym, ap, ◌∙◌, subst, arith, length, take, get_or}
 use Rattle.std.proofs.lemmas.List.{take_all}
 use Rattle.nm_proto.specs.Content.{Meaning}
 use Rattle.nm_proto.specs.declared.plan.Event.{Event}
@@ -7,9 +7,10 @@ use Rattle.nm_proto.specs.declared.plan.Event.TheVariants.{Turn, Deliver, Answer
 use Rattle.nm_manager.specs.Manager.{wire_in}
 use Rattle.nm_network.specs.declared.happened.Sending.{Sending}
 use Rattle.nm_network.specs.Runs.{GoesOnAs}
-use Rattle.nm_network.specs.World.{Setting, WorldState, Whole, scene_of, manager_in, elementary, world_step, sending_of, replies_on, last_answered, followed, round, rounds, event_step, run}
+use Rattle.nm_network.specs.Drain.{drain_event, drain_step, drained}
+use Rattle.nm_network.specs.World.{Setting, WorldState, Whole, with_state, scene_of, manager_in, elementary, world_step, sending_of, replies_on, last_answered, followed, round, rounds, event_step, run}
 use Rattle.nm_network.proofs.Growing.{step_grows}
-use Rattle.nm_network.proofs.Passing.{Did, Left, left_more, then_left, then_did, did_as, last_grows, followed_grows, round_grows, rounds_grow, event_grows, run_grows, rounds_more, rounds_further, run_more, run_further}
+use Rattle.nm_network.proofs.Passing.{Did, Left, left_more, then_left, then_did, did_as, last_grows, followed_grows, round_grows, rounds_grow, event_grows, run_grows, rounds_more, rounds_further, run_more, run_further, drain_step_grows, drained_grows, drained_more, drained_further, drained_at_rest}
 
 module _ {D : Type 0} (told : D → Option (List ℕ)) (faults : D → ℕ) (may_leave : D → List ℕ → Type 0) (moment : D → ℕ) (left_since : D → ℕ → List ℕ → Type 0)
     {TheContent Config TheEdit Node : Type 0} (meaning : TheContent → Meaning Config TheEdit Node) (first : Whole TheContent Config TheEdit Node) where
@@ -185,3 +186,44 @@ module _ {D : Type 0} (told : D → Option (List ℕ)) (faults : D → ℕ) (may
 
   pub run_end : (events : List Event) (i : ℕ) (now : Whole TheContent Config TheEdit Node) (old new : D) → length events ≤ i → Does (Run (take i events)) first now old new → Does (Run events) first now old new
   run_end events i now old new over did = subst (λ l. Does (Run l) first now old new) (take_all i events over) did
+
+  -- ---- steps that bring it to rest
+
+  abbrev Drained : ℕ → Act
+  Drained n w = drained (meaning first.content) first.setting n w
+
+  abbrev one_drained : More
+  one_drained m setting w = drain_step m setting w
+
+  drained_next : (k : ℕ) → here one_drained (Drained k first.state) ≡ Drained (k + 1) first.state
+  drained_next k =
+      let e : k + 1 ≡ suc k = omega arith in
+      sym (ap (λ n. Drained n first.state) e ∙ drained_more (meaning first.content) first.setting k first.state)
+
+  pub drained_did : (k : ℕ) (now later : Whole TheContent Config TheEdit Node) (old mid new : D) → Does (Drained k) first now old mid
+      → Does (one_drained (meaning now.content) now.setting) now later mid new → Does (Drained (k + 1)) first later old new
+  drained_did k now later old mid new did next =
+      did_as told faults may_leave moment left_since (λ w. here one_drained (Drained k w)) (Drained (k + 1)) first later old new (drained_next k)
+      (and_did (Drained k) one_drained now later old mid new (drained_grows (meaning first.content) first.setting k first.state)
+      (drain_step_grows (meaning first.content) first.setting (Drained k first.state)) did next)
+
+  pub drained_left : (k n : ℕ) (now : Whole TheContent Config TheEdit Node) (old mid new : D) → k < n → Does (Drained k) first now old mid
+      → Leaves now.state (one_drained (meaning now.content) now.setting now.state) mid new → Leaves first.state (Drained n first.state) old new
+  drained_left k n now old mid new less did left =
+      left_more told faults may_leave moment left_since first.state (Drained (k + 1) first.state) (Drained n first.state) old new
+      (drained_further (meaning first.content) first.setting (k + 1) n first.state (omega (arith, less)))
+      (subst (λ (w : WorldState Config Node). Leaves first.state w old new) (drained_next k)
+      (and_left (Drained k) one_drained now old mid new (drained_grows (meaning first.content) first.setting k first.state)
+      (drain_step_grows (meaning first.content) first.setting (Drained k first.state)) did left))
+
+  pub drained_end : (k n : ℕ) (now : Whole TheContent Config TheEdit Node) (old new : D) → k ≡ n → Does (Drained k) first now old new → Does (Drained n) first now old new
+  drained_end k n now old new is did = subst (λ j. Does (Drained j) first now old new) is did
+
+  -- it came to rest before
+  pub drained_early : (k n : ℕ) (now : Whole TheContent Config TheEdit Node) (old new : D) → k ≤ n → Does (Drained k) first now old new → drain_event now.setting now.state ≡ None
+      → now.state.strayed ≡ false → now ≡ with_state first (Drained n first.state)
+  drained_early k n now old new le did rests unstrayed =
+      let done = did.done unstrayed in
+      let rest : drain_event first.setting (Drained k first.state) ≡ None =
+      ap (drain_event first.setting) (sym done) ∙ sym (ap (λ (w : Whole TheContent Config TheEdit Node). drain_event w.setting now.state) did.others) ∙ rests in
+      did.others ∙ ap (with_state first) (done ∙ drained_at_rest (meaning first.content) first.setting k n first.state le rest)

@@ -1,5 +1,6 @@
--- What an event makes of the journal's entries, and that of itself it doesn't stray.
-use Rattle.std.proofs.Common.{◌≡◌, ℕ, ◌-◌, List, [], ◌∷◌, ◌++◌, Bool, true, false, ◌&&◌, not, Option, Some, None, IfSome, slice_get, refl, sym, ap, ◌∙◌, subst, append_assoc, append-nil, inl, inr, if◌then◌else◌}
+-- What an event makes of the journal's entries, that of itself it doesn't stray, and that there are as many operators after it.
+use Rattle.std.proofs.Common.{◌≡◌, ℕ, ◌-◌, List, [], ◌∷◌, ◌++◌, length, Bool, true, false, ◌&&◌, not, Option, Some, None, IfSome, slice_get, refl, sym, ap, ◌∙◌, subst, append_assoc, append-nil, inl, inr, if◌then◌else◌}
+use Rattle.std.proofs.lemmas.List.{length-set}
 use Rattle.std.proofs.lemmas.Bool.{cond_both}
 use Rattle.nm_proto.specs.Content.{Meaning, TablesState}
 use Rattle.nm_proto.specs.declared.ask.Ask.{Ask}
@@ -207,6 +208,21 @@ module _ {Config Node : Type 0} (w : SceneState Config Node) where
   asked_strays number device None = refl
   asked_strays number device (Some a) = refl
 
+  abbrev AsMany : Came Config Node → Type 0
+  AsMany c = length c.after.operators ≡ length w.operators
+
+  met_as_many : (device : ℕ) (x : Option (Meeting Config Node)) → AsMany (met w device x)
+  met_as_many device None = refl
+  met_as_many device (Some m) = refl
+
+  moved_as_many : (device : ℕ) (x : Option (Moved Config Node)) → AsMany (moved w device x)
+  moved_as_many device None = refl
+  moved_as_many device (Some now) = refl
+
+  asked_as_many : (number device : ℕ) (x : Option (Asking Config Node)) → AsMany (asked_by w number device x)
+  asked_as_many number device None = refl
+  asked_as_many number device (Some a) = length-set w.operators (number - 1) a.operator
+
 module _ {Config TheEdit Node : Type 0} (m : Meaning Config TheEdit Node) (setting : Setting TheEdit) where
   pub event_enters : (w : SceneState Config Node) (event : Event) → Enters w.entries (world.entry_of setting w event) (elementary m setting w event).after.entries
   event_enters w (Submit change) = submits_enters (manager_in w) change (slice_get setting.plans (change - 1))
@@ -241,6 +257,22 @@ module _ {Config TheEdit Node : Type 0} (m : Meaning Config TheEdit Node) (setti
   event_strays w (Foreign operator device request) = asked_strays w operator device (asking_at m setting.tables device request (operator_at w.operators operator) (device_at w device))
   event_strays w (Leave operator device) = moved_strays w device (leaving_at m device (operator_at w.operators operator) (device_at w device))
   event_strays w (Round change turns) = refl
+
+  pub event_as_many : (w : SceneState Config Node) (event : Event) → length (elementary m setting w event).after.operators ≡ length w.operators
+  event_as_many w (Submit change) = refl
+  event_as_many w (Turn change) = refl
+  event_as_many w (Deliver change device link) = met_as_many w device (delivering_at m setting.tables (manager_in w) change device link (device_at w device))
+  event_as_many w (Answer change device link number) = refl
+  event_as_many w (Break change device) = refl
+  event_as_many w (Lose change device link) = met_as_many w device (losing_at m (manager_in w) change device link (device_at w device))
+  event_as_many w (Advance device seconds) = moved_as_many w device (later_at m seconds (device_at w device))
+  event_as_many w (Restart device) = met_as_many w device (anew_at m (manager_in w) device (device_at w device))
+  event_as_many w (Forget change) = refl
+  event_as_many w Crash = refl
+  event_as_many w (Renew change device) = refl
+  event_as_many w (Foreign operator device request) = asked_as_many w operator device (asking_at m setting.tables device request (operator_at w.operators operator) (device_at w device))
+  event_as_many w (Leave operator device) = moved_as_many w device (leaving_at m device (operator_at w.operators operator) (device_at w device))
+  event_as_many w (Round change turns) = refl
 
   pub step_grows : (w : WorldState Config Node) (event : Event) → GoesOnAs w.entries (world_step m setting w event).entries
   step_grows w event = enters_goes w.entries (world.entry_of setting (scene_of w) event) (world_step m setting w event).entries (event_enters (scene_of w) event)

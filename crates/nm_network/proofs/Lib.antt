@@ -12,3 +12,4 @@ pub mod Chains
 pub mod Failing
 pub mod Searches
 pub mod Numbered
+pub mod ToRest

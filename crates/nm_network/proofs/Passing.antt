@@ -14,6 +14,7 @@ use Rattle.nm_network.specs.declared.happened.Happened.{Happened}
 use Rattle.nm_network.specs.declared.happened.Passed.{Passed}
 use Rattle.nm_network.specs.declared.happened.Sending.{Sending}
 use Rattle.nm_network.specs.Runs.{GoesOnAs, IsBetween, Journals, Does}
+use Rattle.nm_network.specs.Drain.{drain_event, drain_by, drain_step, drained}
 use Rattle.nm_network.specs.World.{Setting, WorldState, Staged, Whole, Came, with_state, journal_of, scene_journal, IsAsBefore, IsStill, entry_of, scene_of, manager_in, passed, elementary, world_step, sending_of, replies_on, last_answered, followed, round, rounds, event_step, run}
 use Rattle.nm_network.proofs.Growing.{goes_itself, goes_then, between_more, between_earlier, between_first, may_between, event_enters, step_grows}
 use Rattle.nm_network.proofs.Order.{reads_whole}
@@ -100,6 +101,46 @@ module _ {Config TheEdit Node : Type 0} (m : Meaning Config TheEdit Node) (setti
   pub run_further : (w : WorldState Config Node) (n : ℕ) (events : List Event) → Grows (run m setting w (take n events)) (run m setting w events)
   run_further w n events = run_on w n events
 
+  -- ---- steps that bring it to rest
+
+  drain_by_grows : (w : WorldState Config Node) (event : Option Event) → Grows w (drain_by m setting w event)
+  drain_by_grows w None = goes_itself w.entries
+  drain_by_grows w (Some event) = step_grows m setting w event
+
+  pub drain_step_grows : (w : WorldState Config Node) → Grows w (drain_step m setting w)
+  drain_step_grows w = drain_by_grows w (drain_event setting w)
+
+  pub drained_grows : (n : ℕ) (w : WorldState Config Node) → Grows w (drained m setting n w)
+  drained_grows zero w = goes_itself w.entries
+  drained_grows (suc n) w =
+      let next = drain_step m setting w in
+      goes_then w.entries next.entries (drained m setting n next).entries (drain_step_grows w) (drained_grows n next)
+
+  -- one step more, at the end
+  pub drained_more : (n : ℕ) (w : WorldState Config Node) → drained m setting (suc n) w ≡ drain_step m setting (drained m setting n w)
+  drained_more zero w = refl
+  drained_more (suc n) w = drained_more n (drain_step m setting w)
+
+  drained_then : (k more : ℕ) (w : WorldState Config Node) → drained m setting (k + more) w ≡ drained m setting more (drained m setting k w)
+  drained_then zero more w = let e : zero + more ≡ more = omega arith in ap (λ n. drained m setting n w) e
+  drained_then (suc k) more w =
+      let e : suc k + more ≡ suc (k + more) = omega arith in
+      ap (λ n. drained m setting n w) e ∙ drained_then k more (drain_step m setting w)
+
+  drained_on : (k n : ℕ) (w : WorldState Config Node) → k ≤ n → drained m setting n w ≡ drained m setting (n - k) (drained m setting k w)
+  drained_on k n w le = let e : n ≡ k + (n - k) = omega (arith, le) in ap (λ j. drained m setting j w) e ∙ drained_then k (n - k) w
+
+  pub drained_further : (k n : ℕ) (w : WorldState Config Node) → k ≤ n → Grows (drained m setting k w) (drained m setting n w)
+  drained_further k n w le = subst (Grows (drained m setting k w)) (sym (drained_on k n w le)) (drained_grows (n - k) (drained m setting k w))
+
+  -- a world at rest stays
+  stays_at_rest : (n : ℕ) (w : WorldState Config Node) → drain_event setting w ≡ None → drained m setting n w ≡ w
+  stays_at_rest zero w rests = refl
+  stays_at_rest (suc n) w rests = ap (λ event. drained m setting n (drain_by m setting w event)) rests ∙ stays_at_rest n w rests
+
+  pub drained_at_rest : (k n : ℕ) (w : WorldState Config Node) → k ≤ n → drain_event setting (drained m setting k w) ≡ None → drained m setting k w ≡ drained m setting n w
+  drained_at_rest k n w le rests = sym (drained_on k n w le ∙ stays_at_rest (n - k) (drained m setting k w) rests)
+
 -- ---- calls
 
 module _ {D : Type 0} (told : D → Option (List ℕ)) (may_leave : D → List ℕ → Type 0) (moment : D → ℕ) (left_since : D → ℕ → List ℕ → Type 0) where
@@ -169,6 +210,7 @@ module _ {D : Type 0} (told : D → Option (List ℕ)) (faults : D → ℕ) (may
     done = λ unstrayed. next.done unstrayed ∙ ap more (did.done (next.once unstrayed));
     once = λ unstrayed. did.once (next.once unstrayed);
     straight = λ there. next.straight (did.journals.keeps.tells ∙ there) ∙ did.straight there;
+    operators = next.operators ∙ did.operators;
     fits = next.fits;
     journals = then_left act more first now old mid new began goes did next.journals;
   }
@@ -181,6 +223,7 @@ module _ {D : Type 0} (told : D → Option (List ℕ)) (faults : D → ℕ) (may
     done = λ unstrayed. did.done unstrayed ∙ same;
     once = did.once;
     straight = did.straight;
+    operators = did.operators;
     fits = did.fits;
     journals = subst (λ (w : WorldState Config Node). Left told faults may_leave moment left_since first.state w old new) same did.journals;
   }
@@ -201,6 +244,7 @@ module _ {D : Type 0} (told : D → Option (List ℕ)) (faults : D → ℕ) (may
     done = λ unstrayed. refl;
     once = λ unstrayed. unstrayed;
     straight = λ there. refl;
+    operators = refl;
     fits = fits;
     journals = none_left first first.state disk whole fits only (goes_itself first.state.entries);
   }
@@ -263,14 +307,15 @@ module _ {D : Type 0} (told : D → Option (List ℕ)) (faults : D → ℕ) (may
       → what ≡ (elementary m scene.setting scene.state event).happened → noted ≡ event → later ≡ trail ++ record { event = noted; happened = what } ∷ []
       → (new.state.strayed ≡ false → new ≡ record scene { state = (elementary m scene.setting scene.state event).after })
       → new ≡ record scene { state = new.state } → (new.state.strayed ≡ false → scene.state.strayed ≡ false) → (IsSome (told disk) → new.state.strayed ≡ scene.state.strayed)
-      → Fits told may_leave (scene_journal new) after → KeepsDisk told faults disk after
+      → length new.state.operators ≡ length scene.state.operators → Fits told may_leave (scene_journal new) after → KeepsDisk told faults disk after
       → (IsSome (told disk) → AnyMoment moment left_since disk after (MayRead scene.state.entries (entry_of scene.setting scene.state event)))
       → Does told faults may_leave moment left_since (λ w. world_step m scene.setting w event) (whole_of scene trail) (whole_of new later) disk after
-  come_did scene new trail later event noted what disk after happened copied tells came others once straight fits keeps moments = record {
+  come_did scene new trail later event noted what disk after happened copied tells came others once straight as_many fits keeps moments = record {
     others = ap (λ s. whole_of s later) others;
     done = λ unstrayed. applied_so scene new trail later event noted what (elementary m scene.setting scene.state event) (came unstrayed) happened copied tells;
     once = once;
     straight = straight;
+    operators = as_many;
     fits = fits;
     journals = come_left scene trail event disk after keeps moments;
   }

@@ -165,3 +165,7 @@ module _ {Config TheEdit Node : Type 0} (m : Meaning Config TheEdit Node) (setti
   abbrev pub drained : ℕ → WorldState Config Node → WorldState Config Node
   drained zero w = w
   drained (suc n) w = drained n (drain_step w)
+
+-- how many steps bring a world to rest at most
+unfoldable pub drain_limit : ℕ
+drain_limit = 1000000

@@ -1,6 +1,6 @@
 -- What a call of a world, and a run of them, does beside the state that it comes to: to time, and to the journal and its disk
 -- (this project's own).
-use Rattle.std.specs.Prelude.{◌≡◌, ◌≤◌, ℕ, ◌+◌, List, ◌++◌, Bool, false, Option, IsSome}
+use Rattle.std.specs.Prelude.{◌≡◌, ◌≤◌, ℕ, ◌+◌, List, ◌++◌, length, Bool, false, Option, IsSome}
 use Rattle.std.specs.List.{All}
 use Rattle.nm_disk.specs.Image.{AnyMoment}
 use Rattle.nm_disk.specs.Keeps.{KeepsDisk}
@@ -77,5 +77,7 @@ module _ {D : Type 0} (told : D → Option (List ℕ)) (faults : D → ℕ) (may
     -- once strayed stays strayed, and over a disk that tells its bytes no world strays
     pub once : now.state.strayed ≡ false → first.state.strayed ≡ false
     pub straight : IsSome (told old) → now.state.strayed ≡ first.state.strayed
+    -- there are as many operators as before
+    pub operators : length now.state.operators ≡ length first.state.operators
     pub fits : Fits told may_leave (journal_of now) new
     pub journals : Journals first.state (act first.state) old new

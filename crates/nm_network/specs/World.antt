@@ -537,6 +537,10 @@ abbrev pub is_crash : Event → Bool
 is_crash Crash = true
 is_crash _ = false
 
+-- no event is a crash
+abbrev pub AreCalm : List Event → Type 0
+AreCalm events = All (λ event. is_crash event ≡ false) events
+
 -- the change set that an event names, 0 where it names none
 abbrev pub change_in : Event → ℕ
 change_in (Submit change) = change

@@ -22,4 +22,5 @@ pub mod world;
 
 pub use happened::{Happened, Passed, Sending};
 pub use report::{Pair, Report};
+pub use rest::DRAIN_LIMIT;
 pub use world::World;

@@ -1,12 +1,14 @@
 //! How a world comes to rest, step by step, and what is reported of it.
 
-ghost use Rattle.std.specs.Prelude.{◌≡◌, ◌<◌, ◌^◌, length, is_some, false, Ok, Err, None, IfOk, OnOk, OnErr};
+ghost use Rattle.std.specs.Prelude.{◌≡◌, ◌<◌, ◌^◌, ℕ, length, is_some, false, Ok, Err, None, IfOk, OnOk, OnErr, IfSome, IsSome};
 ghost use Rattle.nm_base.specs.Count.{Rose};
-ghost use Rattle.nm_journal.specs.Fits.{Fits};
+ghost use Rattle.nm_disk.specs.Image.{AnyMoment};
+ghost use Rattle.nm_disk.specs.Keeps.{KeepsDisk};
+ghost use Rattle.nm_journal.specs.Fits.{Fits, ReadsAs};
 ghost use Rattle.nm_manager.specs.declared.action.TurnFault.TheVariants as fault;
-ghost use Rattle.nm_network.specs.Drain.{drain_in, drain_event, drain_step};
+ghost use Rattle.nm_network.specs.Drain.{drain_in, drain_event, drain_step, drained, drain_limit};
 ghost use Rattle.nm_network.specs.Report.{report_in, report_of};
-ghost use Rattle.nm_network.specs.Runs.{Does, Journals, KeepsTime};
+ghost use Rattle.nm_network.specs.Runs.{Does, IsBetween, Journals, KeepsTime};
 
 use crate::report::{Report, report_from};
 use crate::scene::Scene;
@@ -16,6 +18,16 @@ use nm_base::NoMemory;
 use nm_disk::Disk;
 use nm_manager::TurnFault;
 use nm_proto::{Content, Event};
+
+/// At most so many steps bring a world to rest: a world that is still not at rest then is left as it stands.
+pub const DRAIN_LIMIT: u32 = 1_000_000;
+
+#[tactic(auto, unfolding(crate::specs::Drain::drain_limit))]
+fn drain_limit() -> u32
+    ensures { result ≡ drain_limit }
+{
+    DRAIN_LIMIT
+}
 
 impl<C: Content + Drop> Scene<C> {
     // The next step, and None exactly where the world is at rest.
@@ -35,7 +47,7 @@ impl<C: Content + Drop> Scene<C> {
 }
 
 impl<C: Content + Drop> World<C> {
-    ghost use Rattle.nm_network.specs.World.{AreInTime, IsStill, journal_of};
+    ghost use Rattle.nm_network.specs.World.{AreInTime, IsStill, journal_of, with_state};
 
     /// Does the next step that brings the world to rest, and answers whether there was one. Where there was none, the world is at
     /// rest, and nothing changes. The operators are numbered by 32 bits.
@@ -46,6 +58,8 @@ impl<C: Content + Drop> World<C> {
         requires whole { self.old.failed ≡ None }
         requires fits { Fits D.told D.may_leave (journal_of self.old) disk.old }
         ensures stepped { OnOk result (Does D.told D.faults D.may_leave D.moment D.might_have_left (λ w. drain_step (C.meaning self.old.content) self.old.setting w) self.old self.new disk.old disk.new) }
+        ensures calm { OnOk result (self.new.state.strayed ≡ self.old.state.strayed) }
+        ensures read { (offset : ℕ) → result ≡ Err (fault.Damaged offset) → ⊥ }
         ensures went { IfOk result (λ went. went ≡ is_some (drain_event self.old.setting self.old.state)) }
         ensures at_rest { drain_event self.old.setting self.old.state ≡ None → (self.new ≡ self.old) × (disk.new ≡ disk.old) }
         ensures still { OnErr result (IsStill self.old self.new) }
@@ -59,6 +73,35 @@ impl<C: Content + Drop> World<C> {
         };
         self.apply(disk, &event)?;
         Ok(true)
+    }
+
+    /// Brings the world to rest, step by step, by at most `DRAIN_LIMIT` of them, and gives it back; where the disk fails or there is no
+    /// memory it is gone.
+    pub fn drain<D: Disk>(self, disk: &mut D) -> Result<World<C>, TurnFault>
+        requires numbered { length self.state.operators < 2 ^ 32 }
+        requires in_time { AreInTime self.state.devices }
+        requires going { self.has_failed ≡ false }
+        requires whole { self.failed ≡ None }
+        requires fits { Fits D.told D.may_leave (journal_of self) disk.old }
+        ensures done { IfOk result (λ world. world.state.strayed ≡ false → world ≡ with_state self (drained (C.meaning self.content) self.setting drain_limit self.state)) }
+        ensures others { IfOk result (λ world. world ≡ with_state self world.state) }
+        // No step is a crash.
+        ensures straight { IfOk result (λ world. world.state.strayed ≡ self.state.strayed) }
+        ensures read { (offset : ℕ) → result ≡ Err (fault.Damaged offset) → ⊥ }
+        ensures stored { IfOk result (λ world. IfSome (D.told disk.new) (ReadsAs world.state.entries)) }
+        ensures disk_fault { result ≡ Err fault.DiskFault → Rose (D.faults disk.old) (D.faults disk.new) }
+        ensures keeps { KeepsDisk D.told D.faults disk.old disk.new }
+        // A crash at any moment leaves the entries so far, the one being written with them or not.
+        ensures any_moment { IsSome (D.told disk.old) → self.state.strayed ≡ false → AnyMoment D.moment D.might_have_left disk.old disk.new (IsBetween self.state.entries (drained (C.meaning self.content) self.setting drain_limit self.state).entries) }
+    {
+        let mut world = self;
+        let limit = drain_limit();
+        for _ in 0..limit {
+            if !world.drain_step(disk)? {
+                return Ok(world);
+            }
+        }
+        Ok(world)
     }
 
     /// The devices that differ from a journalled verdict, and those of which it isn't known yet what becomes of a change set.

@@ -159,11 +159,14 @@ impl<C: Content + Drop> Scene<C> {
         ensures others { OnOk result (self.new ≡ record self.old { state = self.new.state }) }
         ensures once { OnOk result (self.new.state.strayed ≡ false → self.old.state.strayed ≡ false) }
         ensures straight { IsSome (D.told disk.old) → OnOk result (self.new.state.strayed ≡ self.old.state.strayed) }
+        ensures calm { is_crash event.now ≡ false → OnOk result (self.new.state.strayed ≡ self.old.state.strayed) }
+        ensures operators { OnOk result (length self.new.state.operators ≡ length self.old.state.operators) }
         ensures still { OnErr result (IsAsBefore self.old self.new) }
         ensures no_memory { result ≡ Err fault.NoMemory → is_crash event.now ≡ false → self.new ≡ self.old }
         ensures disk_fault { result ≡ Err fault.DiskFault → Rose (D.faults disk.old) (D.faults disk.new) }
         ensures damaged { (offset : ℕ) → result ≡ Err (fault.Damaged offset)
             → IfSome (D.told disk.old) (IsDamagedAt offset) ⊎ IsStrangeAt self.old.setting.plans (D.told disk.old) offset }
+        ensures read { is_crash event.now ≡ false → (offset : ℕ) → result ≡ Err (fault.Damaged offset) → ⊥ }
         ensures fits { OnOk result (Fits D.told D.may_leave (scene_journal self.new) disk.new) }
         ensures keeps { KeepsDisk D.told D.faults disk.old disk.new }
         ensures any_moment { IsSome (D.told disk.old) → AnyMoment D.moment D.might_have_left disk.old disk.new (MayRead self.old.state.entries (entry_of self.old.setting self.old.state event.now)) }

@@ -168,6 +168,8 @@ impl<C: Content + Drop> World<C> {
         requires whole { self.old.failed ≡ None }
         requires fits { Fits D.told D.may_leave (journal_of self.old) disk.old }
         ensures applied { OnOk result (Does D.told D.faults D.may_leave D.moment D.might_have_left (λ w. world_step (C.meaning self.old.content) self.old.setting w event.now) self.old self.new disk.old disk.new) }
+        ensures calm { is_crash event.now ≡ false → OnOk result (self.new.state.strayed ≡ self.old.state.strayed) }
+        ensures read { is_crash event.now ≡ false → (offset : ℕ) → result ≡ Err (fault.Damaged offset) → ⊥ }
         ensures sent { IfOk result (λ sending. sending ≡ sending_of (elementary (C.meaning self.old.content) self.old.setting (scene_of self.old.state) event.now).happened) }
         ensures still { OnErr result (IsStill self.old self.new) }
         ensures no_memory { result ≡ Err fault.NoMemory → is_crash event.now ≡ false → self.new ≡ self.old }
@@ -198,7 +200,7 @@ impl<C: Content + Drop> World<C> {
 // Rounds, and whole runs.
 impl<C: Content + Drop> World<C> {
     ghost use Rattle.nm_manager.specs.Manager.{wire_in};
-    ghost use Rattle.nm_network.specs.World.{AreInTime, elementary, manager_in, scene_of, sending_of, replies_on, last_answered, followed, round, rounds, event_step, run, with_state, journal_of};
+    ghost use Rattle.nm_network.specs.World.{AreInTime, AreCalm, is_crash, elementary, manager_in, scene_of, sending_of, replies_on, last_answered, followed, round, rounds, event_step, run, with_state, journal_of};
 
     // How many replies were sent on a link.
     fn replies_on(&self, change: ChangeNo, device: DeviceNo, link: u32) -> u32
@@ -221,6 +223,8 @@ impl<C: Content + Drop> World<C> {
         requires whole { self.old.failed ≡ None }
         requires fits { Fits D.told D.may_leave (journal_of self.old) disk.old }
         ensures answered { OnOk result (Does D.told D.faults D.may_leave D.moment D.might_have_left (λ w. last_answered (C.meaning self.old.content) self.old.setting w change sending) self.old self.new disk.old disk.new) }
+        ensures calm { OnOk result (self.new.state.strayed ≡ self.old.state.strayed) }
+        ensures read { (offset : ℕ) → result ≡ Err (fault.Damaged offset) → ⊥ }
         ensures disk_fault { result ≡ Err fault.DiskFault → Rose (D.faults disk.old) (D.faults disk.new) }
         ensures journals { Journals D.told D.faults D.may_leave D.moment D.might_have_left self.old.state (last_answered (C.meaning self.old.content) self.old.setting self.old.state change sending) disk.old disk.new }
         ensures time { KeepsTime 0 self.old.state.devices self.new.state.devices }
@@ -246,6 +250,8 @@ impl<C: Content + Drop> World<C> {
         requires whole { self.old.failed ≡ None }
         requires fits { Fits D.told D.may_leave (journal_of self.old) disk.old }
         ensures went { OnOk result (Does D.told D.faults D.may_leave D.moment D.might_have_left (λ w. round (C.meaning self.old.content) self.old.setting w change) self.old self.new disk.old disk.new) }
+        ensures calm { OnOk result (self.new.state.strayed ≡ self.old.state.strayed) }
+        ensures read { (offset : ℕ) → result ≡ Err (fault.Damaged offset) → ⊥ }
         ensures disk_fault { result ≡ Err fault.DiskFault → Rose (D.faults disk.old) (D.faults disk.new) }
         ensures journals { Journals D.told D.faults D.may_leave D.moment D.might_have_left self.old.state (round (C.meaning self.old.content) self.old.setting self.old.state change) disk.old disk.new }
         ensures time { KeepsTime 0 self.old.state.devices self.new.state.devices }
@@ -269,6 +275,8 @@ impl<C: Content + Drop> World<C> {
         requires whole { self.old.failed ≡ None }
         requires fits { Fits D.told D.may_leave (journal_of self.old) disk.old }
         ensures followed { OnOk result (Does D.told D.faults D.may_leave D.moment D.might_have_left (λ w. followed (C.meaning self.old.content) self.old.setting w change (Some sending)) self.old self.new disk.old disk.new) }
+        ensures calm { OnOk result (self.new.state.strayed ≡ self.old.state.strayed) }
+        ensures read { (offset : ℕ) → result ≡ Err (fault.Damaged offset) → ⊥ }
         ensures disk_fault { result ≡ Err fault.DiskFault → Rose (D.faults disk.old) (D.faults disk.new) }
         ensures journals { Journals D.told D.faults D.may_leave D.moment D.might_have_left self.old.state (followed (C.meaning self.old.content) self.old.setting self.old.state change (Some sending)) disk.old disk.new }
         ensures time { KeepsTime 0 self.old.state.devices self.new.state.devices }
@@ -297,6 +305,8 @@ impl<C: Content + Drop> World<C> {
         requires whole { self.old.failed ≡ None }
         requires fits { Fits D.told D.may_leave (journal_of self.old) disk.old }
         ensures went { OnOk result (Does D.told D.faults D.may_leave D.moment D.might_have_left (λ w. rounds (C.meaning self.old.content) self.old.setting turns w change) self.old self.new disk.old disk.new) }
+        ensures calm { OnOk result (self.new.state.strayed ≡ self.old.state.strayed) }
+        ensures read { (offset : ℕ) → result ≡ Err (fault.Damaged offset) → ⊥ }
         ensures disk_fault { result ≡ Err fault.DiskFault → Rose (D.faults disk.old) (D.faults disk.new) }
         ensures journals { Journals D.told D.faults D.may_leave D.moment D.might_have_left self.old.state (rounds (C.meaning self.old.content) self.old.setting turns self.old.state change) disk.old disk.new }
         ensures time { KeepsTime 0 self.old.state.devices self.new.state.devices }
@@ -315,6 +325,8 @@ impl<C: Content + Drop> World<C> {
         requires whole { self.old.failed ≡ None }
         requires fits { Fits D.told D.may_leave (journal_of self.old) disk.old }
         ensures stepped { OnOk result (Does D.told D.faults D.may_leave D.moment D.might_have_left (λ w. event_step (C.meaning self.old.content) self.old.setting w event.now) self.old self.new disk.old disk.new) }
+        ensures calm { is_crash event.now ≡ false → OnOk result (self.new.state.strayed ≡ self.old.state.strayed) }
+        ensures read { is_crash event.now ≡ false → (offset : ℕ) → result ≡ Err (fault.Damaged offset) → ⊥ }
         ensures disk_fault { result ≡ Err fault.DiskFault → Rose (D.faults disk.old) (D.faults disk.new) }
         ensures journals { Journals D.told D.faults D.may_leave D.moment D.might_have_left self.old.state (event_step (C.meaning self.old.content) self.old.setting self.old.state event.now) disk.old disk.new }
         ensures time { OnOk result (KeepsTime (2 ^ 32) self.old.state.devices self.new.state.devices) }
@@ -340,6 +352,11 @@ impl<C: Content + Drop> World<C> {
         ensures others { IfOk result (λ world. world ≡ with_state self world.state) }
         // Over a disk that tells its bytes no world strays.
         ensures straight { IsSome (D.told disk.old) → IfOk result (λ world. world.state.strayed ≡ self.state.strayed) }
+        // Only a crash can have a world stray.
+        ensures calm { AreCalm events.now → IfOk result (λ world. world.state.strayed ≡ self.state.strayed) }
+        // Without a crash nothing is read of the journal.
+        ensures read { AreCalm events.now → (offset : ℕ) → result ≡ Err (fault.Damaged offset) → ⊥ }
+        ensures operators { IfOk result (λ world. length world.state.operators ≡ length self.state.operators) }
         ensures fits { IfOk result (λ world. Fits D.told D.may_leave (journal_of world) disk.new) }
         ensures stored { IfOk result (λ world. IfSome (D.told disk.new) (ReadsAs world.state.entries)) }
         ensures in_time { IfOk result (λ world. AreInTime world.state.devices) }

@@ -21,3 +21,5 @@ pub mod Start
 pub mod Sendings
 pub mod Runs
 pub mod Safely
+pub mod Drained
+pub mod Tells

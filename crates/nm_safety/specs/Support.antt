@@ -1,6 +1,5 @@
 -- What every world keeps, whatever happens in it, and from which its safety follows (this project's own).
-use Rattle.std.specs.Prelude.{◌≡◌, ℕ, suc, ◌≤◌, ◌<◌, List, true, false, Option, Some, None, IfSome, is_some, slice_get}
-use Rattle.std.proofs.Common.{◌⊎◌}
+use Rattle.std.specs.Prelude.{◌≡◌, ◌⊎◌, ℕ, suc, ◌≤◌, ◌<◌, List, true, false, Option, Some, None, IfSome, is_some, slice_get}
 use Rattle.nm_base.specs.Token.{token_of}
 use Rattle.nm_base.specs.Words.{manager}
 use Rattle.nm_proto.specs.declared.ask.Ask.TheVariants as ask

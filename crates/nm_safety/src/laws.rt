@@ -1,7 +1,8 @@
 //! What every run of the world keeps.
 
-ghost use Rattle.std.specs.Prelude.{List};
+ghost use Rattle.std.specs.Prelude.{List, ℕ};
 ghost use Rattle.nm_proto.specs.declared.plan.Event.{Event as AnEvent};
+ghost use Rattle.nm_network.specs.Drain.{drained};
 ghost use Rattle.nm_network.specs.World.{Setting, run, start};
 ghost use Rattle.nm_safety.specs.Safe.{AreSoundFrom, IsProper, IsSafe};
 
@@ -23,4 +24,16 @@ pub fn every_device_is_sound<C: Content>(content: &C)
 pub fn every_run_is_safe<C: Content>(content: &C)
     ensures { (setting : Setting C.Edit) (running : List C.Config) (events : List AnEvent) → IsProper {Node = C.Node} (C.meaning content.now) setting running events
         → IsSafe (C.meaning content.now) setting running events (run (C.meaning content.now) setting (start setting running) events) }
+{}
+
+/// The devices are sound too after any number of steps that bring a world to rest.
+pub fn every_drained_device_is_sound<C: Content>(content: &C)
+    ensures { (setting : Setting C.Edit) (running : List C.Config) (events : List AnEvent) (steps : ℕ)
+        → AreSoundFrom (C.meaning content.now) setting running (drained (C.meaning content.now) setting steps (run (C.meaning content.now) setting (start setting running) events)) }
+{}
+
+/// A run is safe too after any number of steps that bring its world to rest.
+pub fn every_drained_run_is_safe<C: Content>(content: &C)
+    ensures { (setting : Setting C.Edit) (running : List C.Config) (events : List AnEvent) (steps : ℕ) → IsProper {Node = C.Node} (C.meaning content.now) setting running events
+        → IsSafe (C.meaning content.now) setting running events (drained (C.meaning content.now) setting steps (run (C.meaning content.now) setting (start setting running) events)) }
 {}

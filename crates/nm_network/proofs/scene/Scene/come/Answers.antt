@@ -2,7 +2,7 @@ use Rattle.std.proofs.Common.{◌≡◌, ◌∙◌, sym, subst, false, rules}
 use Rattle.nm_disk.specs.Keeps.{keeps_itself}
 use Rattle.nm_journal.specs.Fits.{Fits, JournalState}
 use Rattle.nm_network.specs.World.{scene_journal, entry_of, touches_journal}
-use Rattle.nm_network.proofs.Aside.{others_stay, strays_not, journal_stays}
+use Rattle.nm_network.proofs.Aside.{others_stay, strays_not, operators_stay, journal_stays}
 use Rattle.nm_network.proofs.Failing.{nothing_moves}
 use Rattle.nm_network.proofs.scene.Scene.come.Goals as goal
 
@@ -21,10 +21,13 @@ returns-in-Ok g c =
       others = others_stay m old new event what came;
       once = λ unstrayed. sym (strays_not m old new event what came) ∙ unstrayed;
       straight = λ there. strays_not m old new event what came;
+      calm = λ still. strays_not m old new event what came;
+      operators = operators_stay m old new event what came;
       still = tt;
       no_memory = λ is. absurd (search rules);
       disk_fault = λ is. absurd (search rules);
       damaged = λ offset is. absurd (search rules);
+      read = λ calm offset is. absurd (search rules);
       fits = subst (λ (journal : JournalState). Fits g.D.Disk.told g.D.Disk.may_leave journal c.args.disk.now) (sym (journal_stays m old new event what came alone)) c.requires.fits;
       keeps = keeps_itself g.D.Disk.told g.D.Disk.faults c.args.disk.now;
       any_moment = nothing_moves g.D.Disk.told g.D.Disk.may_leave g.D.Disk.moment g.D.Disk.might_have_left (scene_journal old) c.args.disk.now

@@ -1,3 +1,4 @@
+use Rattle.std.proofs.Common.{refl}
 use Rattle.nm_network.proofs.Chains.{answer_did, answer_left}
 use Rattle.nm_network.proofs.world.World.answer_last.Goals as goal
 
@@ -15,3 +16,6 @@ pub returns-in_err-apply-clause-journals : goal.returns-in_err-apply-clause-jour
 returns-in_err-apply-clause-journals g c =
     answer_left g.D.Disk.told g.D.Disk.faults g.D.Disk.may_leave g.D.Disk.moment g.D.Disk.might_have_left g.C.Content.meaning c.args.self.now c.args.change c.replies_on-number.result c.args.sending c.args.disk.now c.apply.new.disk
     c.replies_on-number.ensures c.apply.ensures.journals
+
+pub returns-clause-calm : goal.returns-clause-calm
+returns-clause-calm g c = c.in_ok-apply.ensures.calm refl

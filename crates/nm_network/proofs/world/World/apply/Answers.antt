@@ -59,4 +59,4 @@ returns-clause-applied g c =
     let tells : later ≡ trail ++ record { event = c.in-Ok-copy.noted; happened = c.in_ok-happened.happened } ∷ [] = search rules in
     subst (λ (w : Whole _ _ _ _). Does g.D.Disk.told g.D.Disk.faults g.D.Disk.may_leave g.D.Disk.moment g.D.Disk.might_have_left (λ s. world_step (g.C.Content.meaning w.content) w.setting s event) w (whole_of c.come.new.self later) c.args.disk.now c.come.new.disk) c.self.view_is
     (come_did g.D.Disk.told g.D.Disk.faults g.D.Disk.may_leave g.D.Disk.moment g.D.Disk.might_have_left (g.C.Content.meaning scene.content) scene c.come.new.self trail later event c.in-Ok-copy.noted c.in_ok-happened.happened c.args.disk.now c.come.new.disk
-    e.happened c.in-Ok-copy.ensures tells e.came e.others e.once e.straight e.fits e.keeps e.any_moment)
+    e.happened c.in-Ok-copy.ensures tells e.came e.others e.once e.straight e.operators e.fits e.keeps e.any_moment)

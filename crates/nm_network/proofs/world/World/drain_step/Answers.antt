@@ -22,3 +22,15 @@ returns-clause-time g c =
     let scene = c.self.inside.scene in
     let among = step_is_among scene.state.devices (manager_in scene.state) (length scene.setting.plans) scene.state.operators c.in-Some.event (sym c.next_step.ensures ∙ c.in-Some.is) in
     time_more (seconds_in c.in-Some.event) 0 c.args.self.now.state.devices c.apply.new.self.state.devices (omega (arith, among.at_once)) c.apply.ensures.time
+
+pub returns-clause-calm : goal.returns-clause-calm
+returns-clause-calm g c =
+    let scene = c.self.inside.scene in
+    let among = step_is_among scene.state.devices (manager_in scene.state) (length scene.setting.plans) scene.state.operators c.in-Some.event (sym c.next_step.ensures ∙ c.in-Some.is) in
+    c.in_ok-apply.ensures.calm among.no_crash
+
+pub returns-in_err-apply-clause-read : goal.returns-in_err-apply-clause-read
+returns-in_err-apply-clause-read g c = λ offset is.
+    let scene = c.self.inside.scene in
+    let among = step_is_among scene.state.devices (manager_in scene.state) (length scene.setting.plans) scene.state.operators c.in-Some.event (sym c.next_step.ensures ∙ c.in-Some.is) in
+    c.in_err-apply.ensures.read among.no_crash offset (search (rules, is))

@@ -1,4 +1,4 @@
-use Rattle.std.proofs.Common.{◌≤◌, ◌∙◌, ap, sym, subst, length}
+use Rattle.std.proofs.Common.{◌≤◌, ◌∙◌, refl, ap, sym, subst, length}
 use Rattle.nm_network.specs.World.{Whole}
 use Rattle.nm_network.proofs.Clocks.{still_in_time, time_still}
 use Rattle.nm_network.proofs.Passing.{ok_then, rose_since}
@@ -39,3 +39,6 @@ returns-clause-disk_fault g c = λ is.
 
 pub returns-clause-time : goal.returns-clause-time
 returns-clause-time g c = time_still c.args.self.now.state.devices c.apply.new.self.state.devices c.answer_last.new.self.state.devices c.apply.ensures.time c.answer_last.ensures.time
+
+pub returns-clause-calm : goal.returns-clause-calm
+returns-clause-calm g c = ok_then c.answer_last.result c.answer_last.ensures.calm (λ same. same ∙ c.in_ok-apply.ensures.calm refl)

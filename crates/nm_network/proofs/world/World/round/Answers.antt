@@ -1,4 +1,4 @@
-use Rattle.std.proofs.Common.{◌≤◌, ◌∙◌, ap, sym, subst, length}
+use Rattle.std.proofs.Common.{◌≤◌, ◌∙◌, refl, ap, sym, subst, length}
 use Rattle.nm_network.specs.World.{Whole}
 use Rattle.nm_network.proofs.Clocks.{still_in_time, time_still}
 use Rattle.nm_network.proofs.Passing.{ok_then}
@@ -36,3 +36,6 @@ returns-clause-journals g c =
 
 pub returns-clause-time : goal.returns-clause-time
 returns-clause-time g c = time_still c.args.self.now.state.devices c.apply.new.self.state.devices c.follow.new.self.state.devices c.apply.ensures.time c.follow.ensures.time
+
+pub returns-clause-calm : goal.returns-clause-calm
+returns-clause-calm g c = ok_then c.follow.result c.follow.ensures.calm (λ same. same ∙ c.in_ok-sending.ensures.calm refl)

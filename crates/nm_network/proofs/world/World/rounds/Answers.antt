@@ -1,4 +1,4 @@
-use Rattle.std.proofs.Common.{◌≤◌, ◌∙◌, ap, sym, subst, length, arith, rules}
+use Rattle.std.proofs.Common.{◌≤◌, ◌∙◌, refl, ap, sym, subst, length, arith, rules}
 use Rattle.nm_network.specs.World.{Whole}
 use Rattle.nm_network.proofs.Clocks.{still_in_time, time_still, time_stays}
 use Rattle.nm_network.proofs.Passing.{none_did, rose_since}
@@ -6,7 +6,7 @@ use Rattle.nm_network.proofs.Chains.{rounds_did, rounds_left, rounds_end}
 use Rattle.nm_network.proofs.world.World.rounds.Goals as goal
 
 pub loop-init : goal.loop-init
-loop-init g c = (none_did g.D.Disk.told g.D.Disk.faults g.D.Disk.may_leave g.D.Disk.moment g.D.Disk.might_have_left c.args.self.now c.args.disk.now c.requires.whole c.requires.fits (g.met.D.Disk.only_now c.args.disk.now), time_stays c.args.self.now.state.devices, omega arith)
+loop-init g c = (none_did g.D.Disk.told g.D.Disk.faults g.D.Disk.may_leave g.D.Disk.moment g.D.Disk.might_have_left c.args.self.now c.args.disk.now c.requires.whole c.requires.fits (g.met.D.Disk.only_now c.args.disk.now), time_stays c.args.self.now.state.devices, omega arith, refl)
 
 pub round-requires-clause-given : goal.round-requires-clause-given
 round-requires-clause-given g c = subst (λ (w : Whole _ _ _ _). c.args.change ≤ length w.setting.plans) (sym c.loop.invariant.0.others) c.requires.given
@@ -28,6 +28,7 @@ loop-preserved g c = (
   rounds_did g.D.Disk.told g.D.Disk.faults g.D.Disk.may_leave g.D.Disk.moment g.D.Disk.might_have_left g.C.Content.meaning c.args.self.now c.loop.counter c.args.change c.loop.self c.round.new.self c.args.disk.now c.loop.disk c.round.new.disk c.loop.invariant.0 c.in_ok-round.ensures.went,
   time_still c.args.self.now.state.devices c.loop.self.state.devices c.round.new.self.state.devices c.loop.invariant.1 c.round.ensures.time,
   omega (arith, c.loop-test.true),
+  c.in_ok-round.ensures.calm ∙ c.loop.invariant.3,
 )
 
 pub returns-in_err-round-clause-disk_fault : goal.returns-in_err-round-clause-disk_fault
@@ -52,3 +53,6 @@ returns-clause-journals g c =
 
 pub returns-clause-time : goal.returns-clause-time
 returns-clause-time g c = c.loop.invariant.1
+
+pub returns-clause-calm : goal.returns-clause-calm
+returns-clause-calm g c = c.loop.invariant.3

@@ -1,6 +1,6 @@
-use Rattle.std.proofs.Common.{◌∙◌, ap, sym, subst, length, arith, rules}
+use Rattle.std.proofs.Common.{◌≡◌, ◌∙◌, false, refl, ap, sym, subst, length, arith, rules}
 use Rattle.nm_network.specs.Runs.{IsNumbered}
-use Rattle.nm_network.specs.World.{Whole, journal_of, with_state}
+use Rattle.nm_network.specs.World.{Whole, journal_of, with_state, is_crash}
 use Rattle.nm_network.proofs.Clocks.{time_now, time_left, time_first}
 use Rattle.nm_network.proofs.Passing.{none_did, rose_since, tells_entries}
 use Rattle.nm_network.proofs.Chains.{run_did, run_left, run_end}
@@ -10,6 +10,7 @@ pub loop-event-init : goal.loop-event-init
 loop-event-init g c = (
   none_did g.D.Disk.told g.D.Disk.faults g.D.Disk.may_leave g.D.Disk.moment g.D.Disk.might_have_left c.args.self c.args.disk.now c.requires.whole c.requires.fits (g.met.D.Disk.only_now c.args.disk.now),
   time_first (length c.args.events.now) c.args.self.state.devices c.requires.in_time,
+  λ calm. refl,
 )
 
 pub step-requires-clause-given : goal.step-requires-clause-given
@@ -34,6 +35,8 @@ loop-event-preserved g c = (
   run_did g.D.Disk.told g.D.Disk.faults g.D.Disk.may_leave g.D.Disk.moment g.D.Disk.might_have_left g.C.Content.meaning c.args.self c.args.events.now c.loop-event.event-index c.event-item.result c.loop-event.world c.step.new.self c.args.disk.now c.loop-event.disk c.step.new.disk
       c.loop-event-test.true c.event-item.is c.loop-event.invariant.0 c.in_ok-step.ensures.stepped,
   time_left (length c.args.events.now) c.loop-event.event-index c.loop-event.world.state.devices c.step.new.self.state.devices c.loop-event-test.true c.in_ok-step.ensures.time c.loop-event.invariant.1,
+  λ calm.
+      c.in_ok-step.ensures.calm (subst (λ event. is_crash event ≡ false) (sym c.event-item.is) (calm c.loop-event.event-index c.event-item.result c.loop-event-test.true)) ∙ c.loop-event.invariant.2 calm,
 )
 
 pub returns-in_err-step-clause-disk_fault : goal.returns-in_err-step-clause-disk_fault
@@ -61,6 +64,12 @@ returns-clause-others g c = c.loop-event.invariant.0.others
 pub returns-clause-straight : goal.returns-clause-straight
 returns-clause-straight g c = c.loop-event.invariant.0.straight
 
+pub returns-clause-calm : goal.returns-clause-calm
+returns-clause-calm g c = c.loop-event.invariant.2
+
+pub returns-clause-operators : goal.returns-clause-operators
+returns-clause-operators g c = c.loop-event.invariant.0.operators
+
 pub returns-clause-fits : goal.returns-clause-fits
 returns-clause-fits g c = c.loop-event.invariant.0.fits
 
@@ -78,3 +87,7 @@ returns-clause-keeps g c = c.loop-event.invariant.0.journals.keeps
 pub returns-clause-any_moment : goal.returns-clause-any_moment
 returns-clause-any_moment g c =
     (run_end g.D.Disk.told g.D.Disk.faults g.D.Disk.may_leave g.D.Disk.moment g.D.Disk.might_have_left g.C.Content.meaning c.args.self c.args.events.now c.loop-event.event-index c.loop-event.world c.args.disk.now c.loop-event.disk (omega (arith, c.loop-event-test.false)) c.loop-event.invariant.0).journals.any_moment
+
+pub returns-in_err-step-clause-read : goal.returns-in_err-step-clause-read
+returns-in_err-step-clause-read g c = λ calm offset is.
+    c.in_err-step.ensures.read (subst (λ event. is_crash event ≡ false) (sym c.event-item.is) (calm c.loop-event.event-index c.event-item.result c.loop-event-test.true)) offset (search (rules, is))

@@ -19,6 +19,8 @@ returns-in_ok-apply-in_default g c =
     let same = other_step m now.setting now.state event alone in
     record {
       stepped = did_as g.D.Disk.told g.D.Disk.faults g.D.Disk.may_leave g.D.Disk.moment g.D.Disk.might_have_left (λ w. world_step m now.setting w event) (λ w. event_step m now.setting w event) now c.apply.new.self c.args.disk.now c.apply.new.disk same e.applied;
+      calm = e.calm;
+      read = λ calm offset is. absurd (search (rules, is));
       disk_fault = λ is. absurd (search (rules, is));
       journals = subst (λ (w : WorldState _ _). Journals g.D.Disk.told g.D.Disk.faults g.D.Disk.may_leave g.D.Disk.moment g.D.Disk.might_have_left now.state w c.args.disk.now c.apply.new.disk) same e.journals;
       time = time_more (seconds_in event) (2 ^ 32) now.state.devices c.apply.new.self.state.devices (omega (arith, e.short)) e.time;
