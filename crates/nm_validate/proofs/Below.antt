@@ -85,7 +85,7 @@ module _ (t : SchemaTree) (tree : IsTree t.nodes) where
   same_chain (suc n) zero x a b = absurd (omega (arith, b))
   same_chain (suc n) (suc m) x a b = ap (λ l. l ++ x ∷ []) (above_same n m x (parent_of t.nodes x) refl a b (λ p q r. same_chain n m p q r))
 
-  top_chain : (x : ℕ) (o : Option ℕ) → parent_of t.nodes x ≡ o → chain_of t.nodes x o ≡ chain t.nodes o
+  pub top_chain : (x : ℕ) (o : Option ℕ) → parent_of t.nodes x ≡ o → chain_of t.nodes x o ≡ chain t.nodes o
   top_chain x None is = refl
   top_chain x (Some p) is =
       let lower = parent_by x p (slice_get t.nodes x) refl is in

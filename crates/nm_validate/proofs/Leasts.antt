@@ -62,3 +62,10 @@ turn test f i n before after lt is =
     let rest = flat_map f (range_with_len (i + 1) (n - (i + 1))) in
     ap (λ o. least_with o (filter test rest)) is
     ∙ sym (ap (λ l. least_with before (filter test (flat_map f l))) (range_step i n lt) ∙ ap (least_with before) (filter_append test (f i) rest) ∙ least_append before (filter test (f i)) (filter test rest))
+
+-- what is looked at for one number more
+pub turn_all : (f : ℕ → List (List PathStep)) (i n : ℕ) (before after : Option (List PathStep)) → i < n → after ≡ least_with before (f i)
+    → least_with after (flat_map f (range_with_len (i + 1) (n - (i + 1)))) ≡ least_with before (flat_map f (range_with_len i (n - i)))
+turn_all f i n before after lt is =
+    let rest = flat_map f (range_with_len (i + 1) (n - (i + 1))) in
+    ap (λ o. least_with o rest) is ∙ sym (ap (λ l. least_with before (flat_map f l)) (range_step i n lt) ∙ least_append before (f i) rest)

@@ -9,3 +9,7 @@ pub mod Missing
 pub mod Loops
 pub mod Counting
 pub mod Elements
+pub mod Gathered
+pub mod Choosing
+pub mod Repeated
+pub mod InUse

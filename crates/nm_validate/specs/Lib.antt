@@ -5,3 +5,5 @@ pub mod Least
 pub mod Groups
 pub mod Counts
 pub mod Wanted
+pub mod Choosing
+pub mod Repeated

@@ -30,8 +30,8 @@ fn values_of(chosen: &Chosen) -> &[Value]
     }
 }
 
-// The values by which the last step of a path chooses an entry.
-fn values_in(path: &Path) -> &[Value]
+/// The values by which the last step of a path chooses an entry.
+pub fn values_in(path: &Path) -> &[Value]
     ensures { result.now ≡ chosen_values path.now }
 {
     match path.steps.last() {

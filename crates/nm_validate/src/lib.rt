@@ -6,6 +6,7 @@
 
 mod areas;
 mod cases;
+mod choices;
 mod counts;
 mod fits;
 mod keys;
@@ -13,12 +14,16 @@ mod leafs;
 mod least;
 mod too_few;
 mod too_many;
+mod unique;
 mod value_types;
+mod values;
 
+pub use choices::least_missing_choice;
 pub use keys::least_bad_key;
 pub use leafs::least_missing_leaf;
 pub use too_few::least_too_few;
 pub use too_many::least_too_many;
+pub use unique::least_repeated_entry;
 pub use value_types::least_bad_value;
 
 #[cfg(test)]

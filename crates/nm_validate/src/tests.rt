@@ -5,9 +5,9 @@ use super::*;
 use nm_base::{Label, NoMemory};
 use nm_config::Config;
 use nm_json::read_config;
-use nm_path::{read_path, write_path};
+use nm_path::{node_of, read_path, write_path};
 use nm_schema::build;
-use nm_tree::Schema;
+use nm_tree::{ChoiceNode, Schema};
 use nm_types::{Chosen, Path, Value};
 use nm_yang::read_module;
 use std::alloc::Global;
@@ -230,6 +230,128 @@ fn too_many_entries_are_answered(rt: HostRuntime) -> Result<(), Fail> {
     for (text, expected) in MANY {
         assert_eq!(rt;
             many_in(alloc, &schema, text)?.as_str(),
+            *expected,
+            "{text}"
+        );
+    }
+    Ok(())
+}
+
+// The sample with a mandatory choice without cases in the node that a path leads to, or at the top, where none does.
+fn with_choice(alloc: Global, parent: &str) -> Result<Option<Schema>, NoMemory>
+    ensures { IfOk result (λ found. IfSome found (λ schema. IsSound schema.nodes)) }
+{
+    let Some(mut schema) = sample(alloc)? else {
+        return Ok(None);
+    };
+    let parent = match read_path(alloc, &schema, parent) {
+        Ok(path) => node_of(&schema, &path),
+        Err(_) => None,
+    };
+    let choice = ChoiceNode {
+        parent,
+        case_in: None,
+        module: Label::new(alloc, "ez")?,
+        name: Label::new(alloc, "how")?,
+        mandatory: true,
+    };
+    schema.push_choice(choice)?;
+    Ok(Some(schema))
+}
+
+// Where a choice in the node that a path leads to has no node in the configuration of a JSON text.
+fn choice_in(alloc: Global, parent: &str, text: &str) -> Result<Label, NoMemory> {
+    let Some(schema) = with_choice(alloc, parent)? else {
+        return Label::new(alloc, "no schema");
+    };
+    match read_config(alloc, &schema, text.as_bytes()) {
+        Err(_) => Label::new(alloc, "not read"),
+        Ok(config) => {
+            let found = least_missing_choice(alloc, &schema, &config)?;
+            path_text(alloc, &schema, &found)
+        }
+    }
+}
+
+// What the choice stands in, a configuration, and the path at which RFC 7950 section 7.9.4 says a node is wanted.
+const CHOSEN: &[(&str, &str, &str)] = &[
+    ("", "{}", "/ez:how"),
+    ("/ez:box", "{}", ""),
+    ("/ez:box", "{\"ez:box\":{}}", "/ez:box/how"),
+    (
+        "/ez:box/srv[id='1']",
+        "{\"ez:box\":{\"srv\":[{\"id\":2},{\"id\":1}]}}",
+        "/ez:box/srv[id='1']/how",
+    ),
+    (
+        "/ez:box/srv[id='1']/tls",
+        "{\"ez:box\":{\"srv\":[{\"id\":2}]}}",
+        "/ez:box/srv[id='2']/tls/how",
+    ),
+];
+
+#[test]
+fn missing_choices_are_answered(rt: HostRuntime) -> Result<(), Fail> {
+    let alloc = rt.alloc();
+    for (parent, text, expected) in CHOSEN {
+        assert_eq!(rt;
+            choice_in(alloc, parent, text)?.as_str(),
+            *expected,
+            "{parent} {text}"
+        );
+    }
+    Ok(())
+}
+
+// Servers as in RFC 7950 section 7.8.3.1, entries with a default behind a container, and lists in entries.
+const UNIQUE: &str =
+    "module eu { yang-version 1.1; namespace \"urn:eu\"; prefix eu; list server { key name; unique \"ip port\"; leaf name { type string; } leaf ip { type string; } leaf port { type uint16; } } list peer { key id; unique \"addr opts/weight\"; leaf id { type uint8; } leaf addr { type string; } container opts { leaf weight { type uint8; default 5; } } } list group { key id; leaf id { type uint8; } list member { key id; unique name; leaf id { type uint8; } leaf name { type string; } } } }";
+
+// Where an entry repeats the values of one before it in the configuration of a JSON text.
+fn repeated_in(alloc: Global, schema: &Schema, text: &str) -> Result<Label, NoMemory> {
+    match read_config(alloc, schema, text.as_bytes()) {
+        Err(_) => Label::new(alloc, "not read"),
+        Ok(config) => {
+            let found = least_repeated_entry(alloc, schema, &config)?;
+            path_text(alloc, schema, &found)
+        }
+    }
+}
+
+// A configuration, and the entry whose values RFC 7950 section 7.8.3 says one before it has. Defaults count, and of an
+// entry that lacks a value none are compared.
+const REPEATED: &[(&str, &str)] = &[
+    (
+        "{\"eu:server\":[{\"name\":\"smtp\",\"ip\":\"192.0.2.1\",\"port\":25},{\"name\":\"http\",\"ip\":\"192.0.2.1\",\"port\":25}]}",
+        "/eu:server[name='smtp']",
+    ),
+    (
+        "{\"eu:server\":[{\"name\":\"smtp\",\"ip\":\"192.0.2.1\",\"port\":25},{\"name\":\"http\",\"ip\":\"192.0.2.1\"},{\"name\":\"ftp\",\"ip\":\"192.0.2.1\"}]}",
+        "",
+    ),
+    (
+        "{\"eu:peer\":[{\"id\":1,\"addr\":\"a\"},{\"id\":2,\"addr\":\"a\",\"opts\":{\"weight\":5}}]}",
+        "/eu:peer[id='2']",
+    ),
+    (
+        "{\"eu:peer\":[{\"id\":1,\"addr\":\"a\"},{\"id\":2,\"addr\":\"a\",\"opts\":{\"weight\":6}}]}",
+        "",
+    ),
+    (
+        "{\"eu:group\":[{\"id\":1,\"member\":[{\"id\":1,\"name\":\"a\"}]},{\"id\":2,\"member\":[{\"id\":1,\"name\":\"a\"}]}]}",
+        "",
+    ),
+];
+
+#[test]
+fn repeated_values_are_answered(rt: HostRuntime) -> Result<(), Fail> {
+    let alloc = rt.alloc();
+    let Some(schema) = schema_of(alloc, UNIQUE)? else {
+        return Err(Fail::new("the module isn't read"));
+    };
+    for (text, expected) in REPEATED {
+        assert_eq!(rt;
+            repeated_in(alloc, &schema, text)?.as_str(),
             *expected,
             "{text}"
         );

@@ -32,8 +32,8 @@ fn has_at_least<M: RowMap>(config: &M, path: &Path, min: u64) -> bool
     has_more(config, path, min - 1)
 }
 
-// The path without its last step.
-fn front(alloc: Global, path: &Path) -> Result<Path, NoMemory>
+/// The path without its last step.
+pub fn front(alloc: Global, path: &Path) -> Result<Path, NoMemory>
     ensures { IfOk result (λ above. above ≡ guard.front path.now) }
 {
     let mut above = path.copy(alloc)?;
