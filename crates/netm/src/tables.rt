@@ -12,6 +12,7 @@ mod pointers;
 mod replay;
 mod requests;
 mod whole;
+mod worlds;
 mod yang;
 
 use nm_console::console::console;

@@ -1,15 +1,14 @@
 -- What a crash leaves of a journal's disk in which nothing stood, from one part of a run to the whole.
-use Rattle.std.proofs.Common.{◌≡◌, ◌≤◌, ℕ, List, [], length, Option, Some, None, Result, Ok, Err, IsSome, IfSome, unwrap_or, refl, sym, subst, arith, ◌⊎◌, inl}
+use Rattle.std.proofs.Common.{◌≡◌, ℕ, List, [], Option, Some, None, Ok, IsSome, IfSome, unwrap_or, refl, sym, subst, arith, inl}
 use Rattle.nm_disk.specs.Image.{AnyMoment, LeavesOnly}
 use Rattle.nm_disk.specs.Moments.{and_then, weaker}
 use Rattle.nm_proto.specs.declared.journal.Entry.{Entry}
 use Rattle.nm_journal.specs.Fits.{Fits, ReadsAs}
-use Rattle.nm_reading.specs.declared.fault.Fault.{Fault}
 use Rattle.nm_scenario.specs.declared.scenario.Scenario.{Scenario}
-use Rattle.nm_scenario.specs.declared.scenario.Body.TheVariants.{Flat, Yang}
+use Rattle.nm_scenario.specs.declared.scenario.Body.TheVariants.{Flat}
 use Rattle.nm_scenario.specs.Scenario.{flat_scenario_of}
-use Rattle.nm_world.specs.Journalled.{GoesOnAs, IsBetween}
-use Rattle.nm_console.specs.Console.{LeavesSoFar, LeavesSoFarOf, entries_by, entries_of_world, tables_of}
+use Rattle.nm_network.specs.Runs.{GoesOnAs, IsBetween}
+use Rattle.nm_console.specs.Console.{LeavesSoFar, LeavesSoFarOf, entries_by, world_of}
 
 -- nothing was written, or these entries are to come
 goes : (entries : List Entry) → GoesOnAs [] entries
@@ -58,7 +57,7 @@ module _ {D : Type 0} (told : D → Option (List ℕ)) (may_leave : D → List �
 
   -- the entries of a scenario of flat contents are those of its world
   pub flat_so : (s : Scenario) (devices : _) (edits : _) (old new : D) → s.body ≡ Flat devices edits
-      → AnyMoment moment left_since old new (IsBetween [] (entries_of_world devices (tables_of edits s.selects) s.changes (length s.operators) s.events))
+      → AnyMoment moment left_since old new (IsBetween [] (world_of devices edits s).entries)
       → AnyMoment moment left_since old new (LeavesSoFar (Ok s))
   flat_so s devices edits old new is moments =
       subst (λ body. AnyMoment moment left_since old new (IsBetween [] (unwrap_or (entries_by [] body s) []))) (sym is) moments

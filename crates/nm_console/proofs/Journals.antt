@@ -1,5 +1,5 @@
 -- What is told of the journal that a disk holds.
-use Rattle.std.proofs.Common.{◌≡◌, ℕ, List, Option, Result, Ok, Err, IfOk, sym, subst}
+use Rattle.std.proofs.Common.{ℕ, List, Option, Result, Ok, Err, IfOk, sym, subst}
 use Rattle.nm_proto.specs.declared.journal.Entry.{Entry}
 use Rattle.nm_journal.specs.Fits.{OfImage, ReadsAs, IsDamagedAt}
 use Rattle.nm_console.specs.declared.status.Status.{Status}

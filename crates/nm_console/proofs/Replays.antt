@@ -1,8 +1,7 @@
 -- What replay tells over a journal's disk.
-use Rattle.std.proofs.Common.{◌≡◌, ◌<◌, ℕ, List, [], ◌∷◌, length, Option, Some, None, Result, Ok, Err, IfOk, IfSome, unwrap_or, replicate, refl, sym, ap, ◌∙◌, subst, arith}
+use Rattle.std.proofs.Common.{◌≡◌, ◌<◌, ◌⊎◌, inl, inr, ℕ, List, [], ◌∷◌, length, Option, Some, None, Result, Ok, Err, IfOk, IfSome, IsSome, unwrap_or, replicate, refl, sym, subst, arith}
 use Rattle.std.proofs.lemmas.List.{length-replicate}
 use Rattle.nm_proto.specs.declared.journal.Entry.{Entry}
-use Rattle.nm_journal.specs.Fits.{ReadsAs}
 use Rattle.nm_journal.specs.declared.fault.JournalFault.{JournalFault}
 use Rattle.nm_journal.specs.declared.fault.JournalFault.TheVariants.{NotEmpty, Damaged, DiskFault, Stopped, NoMemory}
 use Rattle.nm_reading.specs.declared.fault.Fault.{Fault}
@@ -16,7 +15,9 @@ use Rattle.nm_console.specs.declared.status.Status.{Status}
 use Rattle.nm_console.specs.declared.said.Said.{Said}
 use Rattle.nm_console.specs.declared.journal.JournalStop.{JournalStop}
 use Rattle.nm_console.specs.declared.command.Command.TheVariants.{Check, Replay}
-use Rattle.nm_console.specs.Console.{Answer, IsToldOfCheck, Stores, Tells, TellsOver, TellsReplay, TellsRun, TellsUnopened, entries_by, entries_of_world, faulted, left_in, not_empty, not_replayed, opened, tables_of, told_by, told_with}
+use Rattle.nm_network.specs.World.{WorldState}
+use Rattle.nm_proto.specs.declared.plan.Event.{Event}
+use Rattle.nm_console.specs.Console.{Answer, AsSaid, AsTold, IsAstray, IsAstrayBy, IsAstrayIn, IsToldOfCheck, Strayed, Stores, Tells, TellsLast, TellsOver, TellsReplay, TellsRun, TellsUnopened, Unread, entries_by, faulted, flat_told, left_in, not_empty, not_replayed, opened, replay_entries, replayed, told_by, world_of}
 
 some_image : (stored : Option (List ℕ)) → IfSome stored (λ told. told ≡ unwrap_or stored [])
 some_image None = tt
@@ -24,12 +25,22 @@ some_image (Some told) = refl
 
 -- the first fault of a scenario, whatever the journal holds
 pub fault_replays : (fault : Fault) (stored : Option (List ℕ)) (status : Status) (text : List ℕ) → Tells (faulted fault) status text → TellsReplay (Err fault) stored stored status text
-fault_replays fault stored status text tells = record { image = unwrap_or stored []; kept = some_image stored; tells = tells; stores = refl }
+fault_replays fault stored status text tells =
+    record { image = unwrap_or stored []; kept = some_image stored; goes = inl (record { tells = tells; stores = refl }) }
 
--- a run over an empty journal
-pub run_tells : (answer : Answer) (entries : List Entry) (stored after : Option (List ℕ)) (status : Status) (text : List ℕ) → IfSome stored (λ bytes. bytes ≡ [])
-    → Tells answer status text → IfSome after (ReadsAs entries) → TellsRun answer entries stored after status text
-run_tells answer entries stored after status text empty tells stores = record { image = []; kept = empty; tells = tells; stores = stores }
+module _ {Config Node : Type 0} (told_of : WorldState Config Node → Answer) (last : WorldState Config Node) (events : List Event) (stored mid after : Option (List ℕ)) (status : Status) (text : List ℕ) where
+  other : (IsSome stored → IsSome mid) → Strayed told_of mid status text ⊎ Unread status text → Strayed told_of stored status text ⊎ Unread status text
+  other some (inl strayed) = inl (record { untold = λ is. strayed.untold (some is); last = strayed.last; has = strayed.has; tells = strayed.tells })
+  other some (inr unread) = inr unread
+
+  goes_so : (IsSome stored → IsSome mid) → TellsLast told_of last events mid after status text
+      → AsTold (told_of last) (Some last.entries) stored after status text ⊎ IsAstray told_of events stored status text
+  goes_so some (inl both) = inl (record { tells = both.0; stores = both.1 })
+  goes_so some (inr astray) = inr (record { crashed = astray.crashed; tells = other some astray.tells })
+
+  -- a run over an empty journal
+  pub run_tells : IfSome stored (λ bytes. bytes ≡ []) → (IsSome stored → IsSome mid) → TellsLast told_of last events mid after status text → TellsRun told_of last events stored after status text
+  run_tells empty some tells = record { image = []; kept = empty; goes = goes_so some tells }
 
 -- ---- nothing is run over any other
 
@@ -58,56 +69,50 @@ full_tells : (answer : Answer) (entries : List Entry) (image : List ℕ) (stored
 full_tells answer entries [] stored after size status text is some tells same = absurd (omega (arith, is, some))
 full_tells answer entries (byte ∷ bytes) stored after size status text is some tells same = (subst (λ n. Tells (not_empty n) status text) (sym is) tells, same)
 
-pub not_empty_tells : (answer : Answer) (entries : List Entry) (stored after : Option (List ℕ)) (size : ℕ) (status : Status) (text : List ℕ) → 0 < size → IfSome stored (λ bytes. size ≡ length bytes)
-    → after ≡ stored → Tells (not_empty size) status text → TellsRun answer entries stored after status text
-not_empty_tells answer entries stored after size status text some held same tells =
-    let both = full_tells answer entries (image_of stored size) stored after size status text (size_of stored size held) some tells same in
-    record { image = image_of stored size; kept = kept_of stored size; tells = both.0; stores = both.1 }
+module _ {Config Node : Type 0} (told_of : WorldState Config Node → Answer) (last : WorldState Config Node) (events : List Event) (stored after : Option (List ℕ)) where
+  pub not_empty_tells : (size : ℕ) (status : Status) (text : List ℕ) → 0 < size → IfSome stored (λ bytes. size ≡ length bytes)
+      → after ≡ stored → Tells (not_empty size) status text → TellsRun told_of last events stored after status text
+  not_empty_tells size status text some held same tells =
+      let both = full_tells (told_of last) last.entries (image_of stored size) stored after size status text (size_of stored size held) some tells same in
+      record { image = image_of stored size; kept = kept_of stored size; goes = inl (record { tells = both.0; stores = both.1 }) }
 
-unopened_tells : (answer : Answer) (entries : List Entry) (stored after : Option (List ℕ)) (fault : JournalFault) (status : Status) (text : List ℕ)
-    → ((size : ℕ) → fault ≡ NotEmpty size → (0 < size) × IfSome stored (λ bytes. size ≡ length bytes) × (after ≡ stored))
-    → TellsUnopened fault status text → TellsRun answer entries stored after status text
-unopened_tells answer entries stored after (NotEmpty size) status text opens tells = let o = opens size refl in not_empty_tells answer entries stored after size status text o.0 o.1 o.2 tells
-unopened_tells answer entries stored after (Damaged offset) status text opens tells = absurd tells
-unopened_tells answer entries stored after DiskFault status text opens tells = absurd tells
-unopened_tells answer entries stored after Stopped status text opens tells = absurd tells
-unopened_tells answer entries stored after NoMemory status text opens tells = absurd tells
+  unopened_tells : (fault : JournalFault) (status : Status) (text : List ℕ)
+      → ((size : ℕ) → fault ≡ NotEmpty size → (0 < size) × IfSome stored (λ bytes. size ≡ length bytes) × (after ≡ stored))
+      → TellsUnopened fault status text → TellsRun told_of last events stored after status text
+  unopened_tells (NotEmpty size) status text opens tells = let o = opens size refl in not_empty_tells size status text o.0 o.1 o.2 tells
+  unopened_tells (Damaged offset) status text opens tells = absurd tells
+  unopened_tells DiskFault status text opens tells = absurd tells
+  unopened_tells Stopped status text opens tells = absurd tells
+  unopened_tells NoMemory status text opens tells = absurd tells
 
--- the same of an answer, where there is one
-pub unopened_told : (answer : Answer) (entries : List Entry) (stored after : Option (List ℕ)) (fault : JournalFault) (result : Result Said JournalStop)
-    → ((size : ℕ) → fault ≡ NotEmpty size → (0 < size) × IfSome stored (λ bytes. size ≡ length bytes) × (after ≡ stored))
-    → IfOk result (λ said. TellsUnopened fault said.status said.text.items) → IfOk result (λ said. TellsRun answer entries stored after said.status said.text.items)
-unopened_told answer entries stored after fault (Ok said) opens tells = unopened_tells answer entries stored after fault said.status said.text.items opens tells
-unopened_told answer entries stored after fault (Err stop) opens tells = tt
+  -- the same of an answer, where there is one
+  pub unopened_told : (fault : JournalFault) (result : Result Said JournalStop)
+      → ((size : ℕ) → fault ≡ NotEmpty size → (0 < size) × IfSome stored (λ bytes. size ≡ length bytes) × (after ≡ stored))
+      → IfOk result (λ said. TellsUnopened fault said.status said.text.items) → IfOk result (λ said. TellsRun told_of last events stored after said.status said.text.items)
+  unopened_told fault (Ok said) opens tells = unopened_tells fault said.status said.text.items opens tells
+  unopened_told fault (Err stop) opens tells = tt
 
--- and of a run over an empty one
-pub run_told : (answer : Answer) (entries : List Entry) (stored after : Option (List ℕ)) (result : Result Said JournalStop) → IfSome stored (λ bytes. bytes ≡ [])
-    → IfOk result (λ said. Tells answer said.status said.text.items) → IfOk result (λ _. IfSome after (ReadsAs entries)) → IfOk result (λ said. TellsRun answer entries stored after said.status said.text.items)
-run_told answer entries stored after (Ok said) empty tells stores = run_tells answer entries stored after said.status said.text.items empty tells stores
-run_told answer entries stored after (Err stop) empty tells stores = tt
+  -- and of a run over an empty one
+  pub run_told : (mid : Option (List ℕ)) (result : Result Said JournalStop) → IfSome stored (λ bytes. bytes ≡ []) → (IsSome stored → IsSome mid)
+      → IfOk result (λ said. TellsLast told_of last events mid after said.status said.text.items) → IfOk result (λ said. TellsRun told_of last events stored after said.status said.text.items)
+  run_told mid (Ok said) empty some tells = run_tells told_of last events stored mid after said.status said.text.items empty some tells
+  run_told mid (Err stop) empty some tells = tt
 
 -- ---- contents
 
--- the answer to a scenario of flat contents
-abbrev flat_answer : List FlatState → List FlatEdit → Scenario → Answer
-flat_answer devices edits s = told_with devices (tables_of edits s.selects) s.changes (length s.operators) s.events s.trace
+-- what a run of flat contents came to is told of its scenario
+flat_goes : (s : Scenario) (body : Body) (devices : List FlatState) (edits : List FlatEdit) (image : List ℕ) (stored after : Option (List ℕ)) (status : Status) (text : List ℕ) → body ≡ Flat devices edits
+    → AsTold (opened image (flat_told edits s (world_of devices edits s))) (left_in image (world_of devices edits s).entries) stored after status text ⊎ IsAstray (flat_told edits s) s.events stored status text
+    → AsTold (told_by image body s) (entries_by image body s) stored after status text ⊎ IsAstrayBy body s stored status text
+flat_goes s body devices edits image stored after status text is goes =
+    subst (λ b. AsTold (told_by image b s) (entries_by image b s) stored after status text ⊎ IsAstrayBy b s stored status text) (sym is) goes
 
-abbrev flat_entries : List FlatState → List FlatEdit → Scenario → List Entry
-flat_entries devices edits s = entries_of_world devices (tables_of edits s.selects) s.changes (length s.operators) s.events
-
-flat_replays : (s : Scenario) (body : Body) (devices : List FlatState) (edits : List FlatEdit) (stored after : Option (List ℕ)) (status : Status) (text : List ℕ) → body ≡ Flat devices edits
-    → TellsRun (flat_answer devices edits s) (flat_entries devices edits s) stored after status text
-    → (image : List ℕ) × IfSome stored (λ told. told ≡ image) × Tells (told_by image body s) status text × Stores (entries_by image body s) stored after
-flat_replays s body devices edits stored after status text is t =
-    (t.image, t.kept, subst (λ b. Tells (told_by t.image b s) status text) (sym is) t.tells, subst (λ b. Stores (entries_by t.image b s) stored after) (sym is) t.stores)
-
-pub flat_told : (s : Scenario) (devices : List FlatState) (edits : List FlatEdit) (stored after : Option (List ℕ)) (result : Result Said JournalStop) → s.body ≡ Flat devices edits
-    → IfOk result (λ said. TellsRun (flat_answer devices edits s) (flat_entries devices edits s) stored after said.status said.text.items)
+pub flat_replays : (s : Scenario) (devices : List FlatState) (edits : List FlatEdit) (stored after : Option (List ℕ)) (result : Result Said JournalStop) → s.body ≡ Flat devices edits
+    → IfOk result (λ said. TellsRun (flat_told edits s) (world_of devices edits s) s.events stored after said.status said.text.items)
     → IfOk result (λ said. TellsReplay (Ok s) stored after said.status said.text.items)
-flat_told s devices edits stored after (Ok said) is t =
-    let r = flat_replays s s.body devices edits stored after said.status said.text.items is t in
-    record { image = r.0; kept = r.1; tells = r.2; stores = r.3 }
-flat_told s devices edits stored after (Err stop) is t = tt
+flat_replays s devices edits stored after (Ok said) is t =
+    record { image = t.image; kept = t.kept; goes = flat_goes s s.body devices edits t.image stored after said.status said.text.items is t.goes }
+flat_replays s devices edits stored after (Err stop) is t = tt
 
 -- and of YANG contents
 pub yang_replays : (s : Scenario) (modules : _) (schema : _) (devices : _) (stored : Option (List ℕ)) (status : Status) (text : List ℕ) → s.body ≡ Yang modules schema devices
@@ -115,15 +120,23 @@ pub yang_replays : (s : Scenario) (modules : _) (schema : _) (devices : _) (stor
 yang_replays s modules schema devices stored status text is tells = record {
   image = unwrap_or stored [];
   kept = some_image stored;
-  tells = subst (λ b. Tells (told_by (unwrap_or stored []) b s) status text) (sym is) tells;
-  stores = subst (λ b. Stores (entries_by (unwrap_or stored []) b s) stored stored) (sym is) refl;
+  goes = inl (record {
+    tells = subst (λ b. Tells (told_by (unwrap_or stored []) b s) status text) (sym is) tells;
+    stores = subst (λ b. Stores (entries_by (unwrap_or stored []) b s) stored stored) (sym is) refl;
+  });
 }
 
 -- of the bytes that were read
+said_so : (bytes image : List ℕ) (stored after : Option (List ℕ)) (status : Status) (text : List ℕ)
+    → AsTold (replayed image (flat_scenario_of bytes)) (replay_entries image (flat_scenario_of bytes)) stored after status text ⊎ IsAstrayIn (flat_scenario_of bytes) stored status text
+    → AsSaid (Some Replay) bytes image stored after status text ⊎ IsAstrayIn (flat_scenario_of bytes) stored status text
+said_so bytes image stored after status text (inl told) = inl (record { tells = told.tells; stores = told.stores })
+said_so bytes image stored after status text (inr astray) = inr astray
+
 pub replay_over : (bytes : List ℕ) (stored after : Option (List ℕ)) (status : Status) (text : List ℕ) → TellsReplay (flat_scenario_of bytes) stored after status text → TellsOver (Some Replay) bytes stored after status text
-replay_over bytes stored after status text t = record { image = t.image; kept = t.kept; tells = t.tells; stores = t.stores }
+replay_over bytes stored after status text t = record { image = t.image; kept = t.kept; goes = said_so bytes t.image stored after status text t.goes }
 
 pub check_over : (bytes : List ℕ) (stored : Option (List ℕ)) (status : Status) (text : List ℕ) → IsToldOfCheck bytes status text → TellsOver (Some Check) bytes stored stored status text
-check_over bytes stored status text t = record { image = unwrap_or stored []; kept = some_image stored; tells = t; stores = refl }
+check_over bytes stored status text t = record { image = unwrap_or stored []; kept = some_image stored; goes = inl (record { tells = t; stores = refl }) }
 
-pub ruleset replays = (fault_replays, run_tells, not_empty_tells, replay_over, check_over)
+pub ruleset replays = (fault_replays, replay_over, check_over)

@@ -1,13 +1,9 @@
 -- What the program says to its words and its input (this project's own), and what the top call tells of it.
-use Rattle.std.specs.Prelude.{◌≡◌, ℕ, codes, List, [], ◌∷◌, length, map, Bool, true, false, Option, Some, None, Result, Ok, Err, IfSome, IsTrue, unwrap_or}
+use Rattle.std.specs.Prelude.{◌≡◌, ◌≤◌, ◌⊎◌, ℕ, codes, List, [], ◌∷◌, length, map, Bool, true, false, Option, Some, None, Result, Ok, Err, IfSome, IsSome, IsTrue, unwrap_or}
 use Rattle.std.specs.List.{All}
 use Rattle.std.specs.Io.KnownBytes.{append_known}
 use Rattle.nm_io.specs.Bytes.{Begins}
-use Rattle.nm_base.specs.Token.{token_of}
-use Rattle.nm_base.specs.Words.{manager, default_timeout}
-use Rattle.nm_proto.specs.Content.{TablesState}
-use Rattle.nm_proto.specs.Plan.{devices_in}
-use Rattle.nm_proto.specs.declared.plan.ChangePlan.{ChangePlan}
+use Rattle.nm_proto.specs.Content.{Meaning, TablesState}
 use Rattle.nm_proto.specs.declared.plan.Event.{Event}
 use Rattle.nm_proto.specs.declared.flat.FlatEdit.{FlatEdit}
 use Rattle.nm_proto.specs.declared.flat.FlatNode.{FlatNode}
@@ -23,10 +19,13 @@ use Rattle.nm_scenario.specs.declared.scenario.Scenario.{Scenario}
 use Rattle.nm_scenario.specs.Scenario.{ReadsBytes, flat_scenario_of}
 use Rattle.nm_refusals.specs.Told.{ToldOfBytes}
 use Rattle.nm_refusals.specs.Kept.{ScenarioKeeps}
-use Rattle.nm_world.specs.declared.course.Course.{Course}
-use Rattle.nm_world.specs.World.{WorldState, IsFirst, start, run}
-use Rattle.nm_world.specs.Safe.{IsSafe}
-use Rattle.nm_report.specs.Text.{devices_text, world_text}
+use Rattle.nm_manager.specs.Requests.{IsWellFormed}
+use Rattle.nm_network.specs.World.{AreCalm, IsFirst, Setting, WorldState, run, start}
+use Rattle.nm_network.specs.Drain.{drain_limit, drained}
+use Rattle.nm_network.specs.Runs.{IsBetween, IsNumbered}
+use Rattle.nm_safety.specs.Safe.{IsSafe}
+use Rattle.nm_safety.specs.Reported.{TellsAll}
+use Rattle.nm_report.specs.Text.{world_text}
 use Rattle.nm_report.specs.Check.{check_text}
 use Rattle.nm_report.specs.Journal.{journal_text}
 use Rattle.nm_journal.specs.Entries.{entries_of}
@@ -34,7 +33,6 @@ use Rattle.nm_journal.specs.Fits.{ReadsAs}
 use Rattle.nm_journal.specs.declared.fault.JournalFault.{JournalFault}
 use Rattle.nm_journal.specs.declared.fault.JournalFault.TheVariants.{NotEmpty}
 use Rattle.nm_proto.specs.declared.journal.Entry.{Entry}
-use Rattle.nm_world.specs.Journalled.{IsBetween}
 use Rattle.nm_console.specs.declared.status.Status.{Status}
 use Rattle.nm_console.specs.declared.status.Status.TheVariants as status
 use Rattle.nm_console.specs.declared.command.Command.{Command}
@@ -52,38 +50,45 @@ pub record Answer : Type 0 where
 abbrev pub faulted : Fault → Answer
 faulted fault = record { status = status.Scenario; text = fault_text fault }
 
--- the course of change set 1
-abbrev pub course_of : ChangePlan → Course
-course_of plan = record { change = 1; devices = record { 0 = devices_in plan.edits }; timeout = plan.timeout; user = manager; token = token_of 1 }
-
--- without a change set nothing is planned: its course is over no device, and no event names it
-abbrev pub no_plan : ChangePlan
-no_plan = record { timeout = default_timeout; edits = [] }
-
-abbrev pub plan_of : List ChangePlan → ChangePlan
-plan_of [] = no_plan
-plan_of (plan ∷ plans) = plan
-
 -- what requests name by number: edits, and the texts of selections
 abbrev pub tables_of : List FlatEdit → List (List (List ℕ)) → TablesState FlatEdit
 tables_of edits selects = record { edits = edits; selects = selects }
 
--- the world of flat contents that the events of a scenario with so many operators lead to
-abbrev pub world_from : List FlatState → TablesState FlatEdit → ChangePlan → ℕ → List Event → WorldState FlatState FlatNode
-world_from devices tables plan operators events = run flat_meaning tables (course_of plan) (start devices plan.edits operators) events
+-- what stays through the run of a scenario of flat contents with these edits
+abbrev pub setting_of : List FlatEdit → Scenario → Setting FlatEdit
+setting_of edits s = record { tables = tables_of edits s.selects; plans = s.changes; users = s.operators }
 
--- the world's text and status, where there is a change set
-abbrev pub world_told : Bool → Course → WorldState FlatState FlatNode → Answer
-world_told trace course w = record { status = world_status course w; text = world_text flat_text trace course w }
+-- ---- a world
 
--- and where there is none
-abbrev pub devices_told : Bool → WorldState FlatState FlatNode → Answer
-devices_told trace w = record { status = status.Ok; text = devices_text flat_text trace w.trail w.devices }
+module _ {Config TheEdit Node : Type 0} (m : Meaning Config TheEdit Node) (setting : Setting TheEdit) where
+  -- brought to rest, where that is asked for
+  abbrev pub rested : Bool → WorldState Config Node → WorldState Config Node
+  rested false w = w
+  rested true w = drained m setting drain_limit w
 
--- what is told of flat contents with these change sets, so many operators and these events
-abbrev pub told_with : List FlatState → TablesState FlatEdit → List ChangePlan → ℕ → List Event → Bool → Answer
-told_with devices tables [] operators events trace = devices_told trace (world_from devices tables no_plan operators events)
-told_with devices tables (plan ∷ plans) operators events trace = world_told trace (course_of plan) (world_from devices tables plan operators events)
+  -- the world that events lead to
+  abbrev pub led_to : List Event → Bool → WorldState Config Node → WorldState Config Node
+  led_to events drain w = rested drain (run m setting w events)
+
+-- the text and the status of a world
+abbrev pub world_told : {Config TheEdit Node : Type 0} → (Config → List ℕ) → Bool → Setting TheEdit → WorldState Config Node → Answer
+world_told shown trace setting w = record { status = world_status setting w; text = world_text shown trace setting w }
+
+-- what a world asks of a scenario, so that its events can come: devices that begin with valid configurations, change sets that are well
+-- formed and named by the events, and no more of them than a scenario may have
+pub record CanRun {Config TheEdit Node : Type 0} (m : Meaning Config TheEdit Node) (setting : Setting TheEdit) (running : List Config) (events : List Event) : Type 0 where
+  pub first : All (IsFirst m) running
+  pub edits : All m.edit_belongs setting.tables.edits
+  pub few_devices : length running ≤ 32
+  pub well_formed : All IsWellFormed setting.plans
+  pub few : length setting.plans ≤ 64
+  pub few_users : length setting.users ≤ 16
+  pub given : All (IsNumbered (length setting.plans)) events
+  pub few_events : length events ≤ 100000
+
+-- the world of flat contents that a scenario leads to
+abbrev pub world_of : List FlatState → List FlatEdit → Scenario → WorldState FlatState FlatNode
+world_of devices edits s = led_to flat_meaning (setting_of edits s) s.events s.drain (start (setting_of edits s) devices)
 
 -- YANG contents aren't replayed yet
 abbrev pub not_replayed : Fault
@@ -98,9 +103,13 @@ abbrev pub opened : List ℕ → Answer → Answer
 opened [] answer = answer
 opened (byte ∷ bytes) answer = not_empty (length (byte ∷ bytes))
 
+-- what is told of a world of flat contents, for this scenario
+abbrev pub flat_told : List FlatEdit → Scenario → WorldState FlatState FlatNode → Answer
+flat_told edits s w = world_told flat_text s.trace (setting_of edits s) w
+
 -- what is told of a scenario with these contents, over a journal
 abbrev pub told_by : List ℕ → Body → Scenario → Answer
-told_by image (Flat devices edits) s = opened image (told_with devices (tables_of edits s.selects) s.changes (length s.operators) s.events s.trace)
+told_by image (Flat devices edits) s = opened image (flat_told edits s (world_of devices edits s))
 told_by image (Yang modules schema devices) s = faulted not_replayed
 
 -- what is told of a scenario that was read
@@ -117,13 +126,9 @@ abbrev pub left_in : List ℕ → List Entry → Option (List Entry)
 left_in [] entries = Some entries
 left_in (byte ∷ bytes) entries = None
 
--- the entries that a world leaves
-abbrev pub entries_of_world : List FlatState → TablesState FlatEdit → List ChangePlan → ℕ → List Event → List Entry
-entries_of_world devices tables changes operators events = (world_from devices tables (plan_of changes) operators events).entries
-
--- the same of a scenario with these contents, of which flat ones alone are run
+-- the entries that a scenario with these contents leaves, of which flat ones alone are run
 abbrev pub entries_by : List ℕ → Body → Scenario → Option (List Entry)
-entries_by image (Flat devices edits) s = left_in image (entries_of_world devices (tables_of edits s.selects) s.changes (length s.operators) s.events)
+entries_by image (Flat devices edits) s = left_in image (world_of devices edits s).entries
 entries_by image (Yang modules schema devices) s = None
 
 abbrev pub replay_entries : List ℕ → Result Scenario Fault → Option (List Entry)
@@ -209,42 +214,87 @@ pub record LeavesSoFarOf (left : Option (List ℕ)) (image : List ℕ) : Type 0 
   pub held : IfSome left (λ told. told ≡ bytes)
   pub so_far : LeavesSoFar (flat_scenario_of bytes) image
 
--- devices of flat contents begin with valid configurations
-abbrev pub AreFirst : Body → Type 0
-AreFirst (Flat devices edits) = All (IsFirst flat_meaning) devices
-AreFirst (Yang modules schema devices) = Unit {0}
+-- ---- a run that a crash led astray
+
+-- the manager read another list of entries than it wrote. Only a disk that doesn't tell its bytes can give one
+pub record Strayed {Config Node : Type 0} (told_of : WorldState Config Node → Answer) (stored : Option (List ℕ)) (status : Status) (text : List ℕ) : Type 0 where
+  pub untold : IsSome stored → ⊥
+  pub last : WorldState Config Node
+  pub has : last.strayed ≡ true
+  pub tells : Tells (told_of last) status text
+
+-- it couldn't read its journal from a byte on, and the run was over
+pub record Unread (status : Status) (text : List ℕ) : Type 0 where
+  pub offset : ℕ
+  pub tells : Tells (damaged offset) status text
+
+-- one of both, where the events have a crash
+pub record IsAstray {Config Node : Type 0} (told_of : WorldState Config Node → Answer) (events : List Event) (stored : Option (List ℕ)) (status : Status) (text : List ℕ) : Type 0 where
+  pub crashed : AreCalm events → ⊥
+  pub tells : Strayed told_of stored status text ⊎ Unread status text
+
+-- the same of a scenario with these contents, and of one that was read
+abbrev pub IsAstrayBy : Body → Scenario → Option (List ℕ) → Status → List ℕ → Type 0
+IsAstrayBy (Flat devices edits) s stored status text = IsAstray (flat_told edits s) s.events stored status text
+IsAstrayBy (Yang modules schema devices) s stored status text = ⊥
+
+abbrev pub IsAstrayIn : Result Scenario Fault → Option (List ℕ) → Status → List ℕ → Type 0
+IsAstrayIn (Err fault) stored status text = ⊥
+IsAstrayIn (Ok s) stored status text = IsAstrayBy s.body s stored status text
+
+-- and of a command, which only a replay can be
+abbrev pub IsAstrayOf : Option Command → List ℕ → Option (List ℕ) → Status → List ℕ → Type 0
+IsAstrayOf (Some Replay) bytes stored status text = IsAstrayIn (flat_scenario_of bytes) stored status text
+IsAstrayOf (Some Check) bytes stored status text = ⊥
+IsAstrayOf (Some Journal) bytes stored status text = ⊥
+IsAstrayOf None bytes stored status text = ⊥
+
+-- ---- what is told over a journal's disk
+
+-- a status and a text are this answer, and the journal's disk tells these entries after, or what it told before
+pub record AsTold (answer : Answer) (left : Option (List Entry)) (stored after : Option (List ℕ)) (status : Status) (text : List ℕ) : Type 0 where
+  pub tells : Tells answer status text
+  pub stores : Stores left stored after
+
+-- the same of a command
+pub record AsSaid (command : Option Command) (bytes image : List ℕ) (stored after : Option (List ℕ)) (status : Status) (text : List ℕ) : Type 0 where
+  pub tells : IsTold command bytes image status text
+  pub stores : Stores (entries_left command bytes image) stored after
 
 -- a status and a text that answer the bytes of an input over a journal's disk, and what that tells after
 pub record TellsOver (command : Option Command) (bytes : List ℕ) (stored after : Option (List ℕ)) (status : Status) (text : List ℕ) : Type 0 where
   pub image : List ℕ
   pub kept : IfSome stored (λ told. told ≡ image)
-  pub tells : IsTold command bytes image status text
-  pub stores : Stores (entries_left command bytes image) stored after
+  pub goes : AsSaid command bytes image stored after status text ⊎ IsAstrayOf command bytes stored status text
 
 -- the same of replay, by the scenario that was read
 pub record TellsReplay (read : Result Scenario Fault) (stored after : Option (List ℕ)) (status : Status) (text : List ℕ) : Type 0 where
   pub image : List ℕ
   pub kept : IfSome stored (λ told. told ≡ image)
-  pub tells : Tells (replayed image read) status text
-  pub stores : Stores (replay_entries image read) stored after
+  pub goes : AsTold (replayed image read) (replay_entries image read) stored after status text ⊎ IsAstrayIn read stored status text
+
+-- the same of a run to a last world
+pub record TellsRun {Config Node : Type 0} (told_of : WorldState Config Node → Answer) (last : WorldState Config Node) (events : List Event) (stored after : Option (List ℕ)) (status : Status) (text : List ℕ) : Type 0 where
+  pub image : List ℕ
+  pub kept : IfSome stored (λ told. told ≡ image)
+  pub goes : AsTold (opened image (told_of last)) (left_in image last.entries) stored after status text ⊎ IsAstray told_of events stored status text
+
+-- and of one that began over an empty journal
+abbrev pub TellsLast : {Config Node : Type 0} → (WorldState Config Node → Answer) → WorldState Config Node → List Event → Option (List ℕ) → Option (List ℕ) → Status → List ℕ → Type 0
+TellsLast told_of last events stored after status text =
+    (Tells (told_of last) status text × IfSome after (ReadsAs last.entries)) ⊎ IsAstray told_of events stored status text
 
 -- what is told where the journal couldn't be opened: it isn't empty
 abbrev pub TellsUnopened : JournalFault → Status → List ℕ → Type 0
 TellsUnopened (NotEmpty size) status text = Tells (not_empty size) status text
 TellsUnopened _ status text = ⊥
 
--- the same of a run that is told so and leaves these entries
-pub record TellsRun (answer : Answer) (entries : List Entry) (stored after : Option (List ℕ)) (status : Status) (text : List ℕ) : Type 0 where
-  pub image : List ℕ
-  pub kept : IfSome stored (λ told. told ≡ image)
-  pub tells : Tells (opened image answer) status text
-  pub stores : Stores (left_in image entries) stored after
-
--- the world that a scenario of these devices and edits leads to is safe, and its devices begin with valid configurations
+-- the world that a scenario of these devices and edits leads to is safe, its devices begin with valid configurations, and what is
+-- reported of it is so: all of a change set or none, but for the devices that are told to differ
 pub record IsSafeRun (devices : List FlatState) (edits : List FlatEdit) (s : Scenario) : Type 0 where
   pub valid : All (IsFirst flat_meaning) devices
-  pub safe : IsSafe flat_meaning (tables_of edits s.selects) (course_of (plan_of s.changes)) devices (length s.operators) s.events
-      (world_from devices (tables_of edits s.selects) (plan_of s.changes) (length s.operators) s.events)
+  pub safe : IsSafe flat_meaning (setting_of edits s) devices s.events (world_of devices edits s)
+  pub reports : TellsAll (setting_of edits s) (world_of devices edits s)
 
 -- the same by the contents, of which flat ones alone are run
 abbrev pub RunsSafelyBy : Body → Scenario → Type 0
@@ -261,9 +311,10 @@ abbrev pub IsKnown : Bool → List ℕ → Result Scenario Fault → Type 0
 IsKnown built bytes (Err fault) = ToldOfBytes built bytes fault
 IsKnown built bytes (Ok s) = ScenarioKeeps s
 
--- a status and a text are the only ones that are told to a command, an input and a disk
-abbrev pub IsOnly : Option Command → List ℕ → List ℕ → Status → List ℕ → Type 0
-IsOnly command bytes image status text = (other : Status) (words : List ℕ) → IsTold command bytes image other words → (other ≡ status) × (words ≡ text)
+-- what is told to a command, an input and a disk is one answer
+abbrev pub IsOnly : Option Command → List ℕ → List ℕ → Type 0
+IsOnly command bytes image = (status other : Status) (text words : List ℕ) → IsTold command bytes image status text → IsTold command bytes image other words
+    → (other ≡ status) × (words ≡ text)
 
 -- what the input held, and what the journal's disk told before the program and tells after it
 pub record Streams : Type 0 where
@@ -272,15 +323,14 @@ pub record Streams : Type 0 where
   pub after : Option (List ℕ)
 
 -- a status and a text that answer some bytes of an input and of a disk, those that each told where it tells them, and no
--- others do; and what the disk tells after
+-- others do; and what the disk tells after. They are told of the scenario's own run but where a crash led it astray
 pub record Says (streams : Streams) (command : Option Command) (status : Status) (text : List ℕ) : Type 0 where
   pub bytes : List ℕ
   pub held : IfSome streams.left (λ told. told ≡ bytes)
   pub image : List ℕ
   pub kept : IfSome streams.stored (λ told. told ≡ image)
-  pub tells : IsTold command bytes image status text
-  pub stores : Stores (entries_left command bytes image) streams.stored streams.after
-  pub only : IsOnly command bytes image status text
+  pub goes : AsSaid command bytes image streams.stored streams.after status text ⊎ IsAstrayOf command bytes streams.stored status text
+  pub only : IsOnly command bytes image
   pub safe : RunsSafely (flat_scenario_of bytes)
   pub checked_known : (outcome : Result Scenario Fault) → ReadsBytes bytes outcome → IsKnown true bytes outcome
   pub replayed_known : IsKnown false bytes (flat_scenario_of bytes)

@@ -1,10 +1,9 @@
 -- The exit statuses (this project's own).
 use Rattle.std.specs.Prelude.{ℕ, List, [], ◌∷◌, Bool, true, false}
-use Rattle.nm_world.specs.declared.course.Course.{Course}
-use Rattle.nm_world.specs.Course.{is_submitted, is_decided}
-use Rattle.nm_world.specs.World.{WorldState}
-use Rattle.nm_report.specs.declared.report.DeviceReport.{DeviceReport}
-use Rattle.nm_report.specs.Report.{reports_of, differing, unsettled}
+use Rattle.nm_network.specs.declared.report.Pair.{Pair}
+use Rattle.nm_network.specs.declared.report.Report.{Report}
+use Rattle.nm_network.specs.Report.{report_of}
+use Rattle.nm_network.specs.World.{Setting, WorldState}
 use Rattle.nm_console.specs.declared.status.Status.{Status}
 use Rattle.nm_console.specs.declared.status.Status.TheVariants as status
 
@@ -34,10 +33,13 @@ is_whole status.NoMemory = false
 is_whole status.Unsettled = true
 
 -- unsettled devices come before those that differ
-abbrev pub status_for : List DeviceReport → List DeviceReport → Status
-status_for (report ∷ reports) differ = status.Unsettled
-status_for [] (report ∷ reports) = status.Differ
+abbrev pub status_for : List Pair → List Pair → Status
+status_for (pair ∷ pairs) differ = status.Unsettled
+status_for [] (pair ∷ pairs) = status.Differ
 status_for [] [] = status.Ok
 
-abbrev pub world_status : {Config Node : Type 0} → Course → WorldState Config Node → Status
-world_status course w = status_for (unsettled (is_submitted w.entries) (reports_of course w)) (differing (is_decided w.entries) (reports_of course w))
+abbrev pub report_status : Report → Status
+report_status report = status_for report.unsettled report.differ
+
+abbrev pub world_status : {Config TheEdit Node : Type 0} → Setting TheEdit → WorldState Config Node → Status
+world_status setting w = report_status (report_of setting w)

@@ -62,7 +62,8 @@ fn say_entries(alloc: Global, entries: &[Entry]) -> Result<Said, JournalStop>
     }
 }
 
-fn say_damaged(alloc: Global, offset: u64) -> Result<Said, JournalStop>
+/// The answer where a journal is damaged from a byte on.
+pub fn say_damaged(alloc: Global, offset: u64) -> Result<Said, JournalStop>
     ensures told { IfOk result (λ said. Tells (damaged offset) said.status said.text.items) }
     ensures no_disk_fault { IsErrOf result JournalStop.DiskFault → ⊥ }
 {

@@ -1,33 +1,35 @@
 //! The command `replay`.
 
-ghost use Rattle.std.specs.Prelude.{◌≡◌, [], None, Ok, IfOk, IfSome, IsSome, IsErrOf};
+ghost use Rattle.std.specs.Prelude.{◌≡◌, ◌<◌, ◌^◌, ◌*◌, ℕ, [], length, None, Ok, Err, false, IfOk, IfSome, IsSome, IsErrOf};
 ghost use Rattle.std.specs.List.{All};
 ghost use Rattle.nm_base.specs.Count.{Rose};
 ghost use Rattle.nm_disk.specs.Image.{AnyMoment, LeavesOnly};
 ghost use Rattle.nm_disk.specs.Keeps.{KeepsDisk};
 ghost use Rattle.nm_journal.specs.Fits.{Fits, ReadsAs};
 ghost use Rattle.nm_journal.specs.declared.fault.JournalFault.TheVariants.{DiskFault};
+ghost use Rattle.nm_manager.specs.declared.action.TurnFault.TheVariants as turn_fault;
+ghost use Rattle.nm_network.specs.Runs.{HasTime, IsBetween, IsNumbered};
+ghost use Rattle.nm_network.specs.World.{AreCalm, journal_of, start, with_state};
+ghost use Rattle.nm_proto.specs.Flat.{flat_text};
 ghost use Rattle.nm_proto.specs.FlatContent.{flat_meaning};
+ghost use Rattle.nm_refusals.specs.Kept.{ScenarioKeeps};
 ghost use Rattle.nm_scenario.specs.Scenario.{flat_scenario_of};
-ghost use Rattle.nm_world.specs.Journalled.{IsBetween};
-ghost use Rattle.nm_world.specs.World.{IsFirst};
-ghost use Rattle.nm_console.specs.Console.{AreFirst, LeavesSoFar, Tells, TellsReplay, TellsRun, TellsUnopened, course_of, devices_told, entries_of_world, faulted, no_plan, not_empty, not_replayed, told_with, world_from, world_told};
+ghost use Rattle.nm_console.specs.Console.{CanRun, LeavesSoFar, Tells, TellsLast, TellsReplay, TellsRun, TellsUnopened, faulted, led_to, not_empty, not_replayed, world_told};
 
-use crate::journal::JournalStop;
+use crate::journal::{JournalStop, say_damaged};
 use crate::refusal::write_not_empty;
 use crate::said::{Said, say_fault};
 use crate::status::{Status, status_for};
-use nm_base::token::token_of;
-use nm_base::{ChangeNo, DEFAULT_TIMEOUT, Label, MANAGER, NoMemory};
+use nm_base::{Label, NoMemory};
 use nm_disk::Disk;
 use nm_journal::{Journal, JournalFault};
-use nm_proto::{ChangePlan, Event, FlatConfig, FlatContent, Listed, Tables};
+use nm_manager::TurnFault;
+use nm_network::World;
+use nm_proto::{ChangePlan, Event, FlatConfig, FlatContent, Listed, Show, Tables};
 use nm_reading::Cause;
 use nm_refusals::read_flat_scenario;
-use nm_report::{differing, reports_of, unsettled, write_devices, write_world};
+use nm_report::write_world;
 use nm_scenario::{Body, Fault, ReadError, Scenario, ScenarioKind, Step};
-use nm_world::course::{is_decided, is_submitted};
-use nm_world::{Course, RunFault, World};
 use std::alloc::Global;
 
 /// The answer of `replay` to the bytes of a scenario, over a journal that is to be empty.
@@ -54,7 +56,7 @@ fn say_scenario<D: Disk>(
     scenario: Scenario,
     disk: &mut D,
 ) -> Result<Said, JournalStop>
-    requires { AreFirst scenario.body }
+    requires { ScenarioKeeps scenario }
     ensures told { IfOk result (λ said. TellsReplay (Ok scenario) (D.told disk.old) (D.told disk.new) said.status said.text.items) }
     ensures disk_fault { IsErrOf result JournalStop.DiskFault → Rose (D.faults disk.old) (D.faults disk.new) }
     ensures keeps { KeepsDisk D.told D.faults disk.old disk.new }
@@ -66,6 +68,7 @@ fn say_scenario<D: Disk>(
         operators,
         events,
         selects,
+        drain,
         trace,
     } = scenario;
     match body {
@@ -74,8 +77,9 @@ fn say_scenario<D: Disk>(
             devices,
             Tables::new(edits, selects),
             changes,
-            operators.len(),
+            operators,
             events.as_slice(),
+            drain,
             trace,
             disk,
         ),
@@ -108,22 +112,27 @@ fn say_flat<D: Disk>(
     devices: Listed<FlatConfig>,
     tables: Tables<FlatContent>,
     changes: Listed<ChangePlan>,
-    operators: usize,
+    users: Listed<Label>,
     events: &[Event],
+    drain: bool,
     trace: bool,
     disk: &mut D,
 ) -> Result<Said, JournalStop>
-    requires { All (IsFirst flat_meaning) devices }
-    ensures told { IfOk result (λ said. TellsRun (told_with devices tables changes operators events.now trace) (entries_of_world devices tables changes operators events.now) (D.told disk.old) (D.told disk.new) said.status said.text.items) }
+    requires { CanRun flat_meaning (record { tables = tables; plans = changes; users = users }) devices events.now }
+    ensures told { IfOk result (λ said. TellsRun (world_told flat_text trace (record { tables = tables; plans = changes; users = users }))
+        (led_to flat_meaning (record { tables = tables; plans = changes; users = users }) events.now drain (start (record { tables = tables; plans = changes; users = users }) devices))
+        events.now (D.told disk.old) (D.told disk.new) said.status said.text.items) }
     ensures disk_fault { IsErrOf result JournalStop.DiskFault → Rose (D.faults disk.old) (D.faults disk.new) }
     ensures keeps { KeepsDisk D.told D.faults disk.old disk.new }
-    ensures any_moment { IsSome (D.told disk.old) → LeavesOnly [] (D.may_leave disk.old)
-        → AnyMoment D.moment D.might_have_left disk.old disk.new (IsBetween [] (entries_of_world devices tables changes operators events.now)) }
+    ensures any_moment { IsSome (D.told disk.old) → LeavesOnly [] (D.may_leave disk.old) → AnyMoment D.moment D.might_have_left disk.old disk.new
+        (IsBetween [] (led_to flat_meaning (record { tables = tables; plans = changes; users = users }) events.now drain (start (record { tables = tables; plans = changes; users = users }) devices)).entries) }
 {
     match Journal::fresh(alloc, disk) {
-        Ok(journal) => say_run(
-            alloc, devices, tables, changes, operators, events, trace, journal, disk,
-        ),
+        Ok(journal) => {
+            let content = FlatContent::new(alloc);
+            let world = World::new(alloc, content, tables, devices, changes, users, journal)?;
+            say_run(alloc, world, events, drain, trace, disk)
+        }
         Err(fault) => say_unopened(alloc, &fault),
     }
 }
@@ -156,145 +165,72 @@ fn say_not_empty(alloc: Global, size: u64) -> Result<Said, JournalStop>
     }
 }
 
-// The answer of a world with an empty journal, told as a change set's where there is one.
-fn say_run<D: Disk>(
+// The answer of a world with an empty journal, once its events have come.
+fn say_run<C: Show + Drop, D: Disk>(
     alloc: Global,
-    devices: Listed<FlatConfig>,
-    tables: Tables<FlatContent>,
-    mut changes: Listed<ChangePlan>,
-    operators: usize,
+    world: World<C>,
     events: &[Event],
+    drain: bool,
     trace: bool,
-    journal: Journal,
     disk: &mut D,
 ) -> Result<Said, JournalStop>
-    requires first { All (IsFirst flat_meaning) devices }
-    requires empty { journal ≡ record { entries = []; failed = None } }
-    requires fits { Fits D.told D.may_leave journal disk.old }
-    ensures told { IfOk result (λ said. Tells (told_with devices tables changes operators events.now trace) said.status said.text.items) }
-    ensures stored { IfOk result (λ _. IfSome (D.told disk.new) (ReadsAs (entries_of_world devices tables changes operators events.now))) }
+    requires given { All (IsNumbered (length world.setting.plans)) events.now }
+    requires in_time { HasTime (2 ^ 32 * length events.now) world.state.devices }
+    requires numbered { length world.state.operators < 2 ^ 32 }
+    requires going { world.has_failed ≡ false }
+    requires whole { world.failed ≡ None }
+    requires straight { world.state.strayed ≡ false }
+    requires fits { Fits D.told D.may_leave (journal_of world) disk.old }
+    ensures told { IfOk result (λ said. TellsLast (world_told (C.shown world.content) trace world.setting) (led_to (C.Content.meaning world.content) world.setting events.now drain world.state)
+        events.now (D.told disk.old) (D.told disk.new) said.status said.text.items) }
     ensures disk_fault { IsErrOf result JournalStop.DiskFault → Rose (D.faults disk.old) (D.faults disk.new) }
     ensures keeps { KeepsDisk D.told D.faults disk.old disk.new }
-    ensures any_moment { IsSome (D.told disk.old)
-        → AnyMoment D.moment D.might_have_left disk.old disk.new (IsBetween [] (entries_of_world devices tables changes operators events.now)) }
+    ensures any_moment { IsSome (D.told disk.old) → AnyMoment D.moment D.might_have_left disk.old disk.new
+        (IsBetween world.state.entries (led_to (C.Content.meaning world.content) world.setting events.now drain world.state).entries) }
 {
-    match changes.take_first() {
-        None => {
-            let none = no_plan(alloc);
-            let world = world_of(
-                alloc, devices, tables, &none, operators, events, journal, disk,
-            )?;
-            Ok(say_devices(alloc, trace, &world)?)
-        }
-        Some(plan) => {
-            let world = world_of(
-                alloc, devices, tables, &plan, operators, events, journal, disk,
-            )?;
-            Ok(say_world(alloc, trace, &world)?)
-        }
+    match lead(world, events, drain, disk) {
+        Ok(last) => Ok(say_world(alloc, trace, &last)?),
+        Err(TurnFault::DiskFault) => Err(JournalStop::DiskFault),
+        Err(TurnFault::Damaged { offset }) => say_damaged(alloc, offset),
+        Err(TurnFault::NoMemory) => Err(JournalStop::NoMemory),
     }
 }
 
-// Without a change set nothing is planned.
-fn no_plan(alloc: Global) -> ChangePlan
-    ensures { result ≡ no_plan }
-{
-    ChangePlan {
-        timeout: DEFAULT_TIMEOUT,
-        edits: Listed::new(alloc),
-    }
-}
-
-// The course of change set 1.
-fn course_of(alloc: Global, plan: &ChangePlan) -> Result<Course, NoMemory>
-    ensures { IfOk result (λ course. course ≡ course_of plan.now) }
-{
-    let change = ChangeNo::new(1).unwrap();
-    Ok(Course {
-        change,
-        devices: plan.devices(),
-        timeout: plan.timeout,
-        user: Label::new(alloc, MANAGER)?,
-        token: token_of(alloc, change)?,
-    })
-}
-
-// The world that the events lead to, and its journal's disk.
-fn world_of<D: Disk>(
-    alloc: Global,
-    devices: Listed<FlatConfig>,
-    tables: Tables<FlatContent>,
-    plan: &ChangePlan,
-    operators: usize,
+// The world that events lead to, brought to rest where that is asked for.
+fn lead<C: Show + Drop, D: Disk>(
+    world: World<C>,
     events: &[Event],
-    journal: Journal,
+    drain: bool,
     disk: &mut D,
-) -> Result<World<FlatContent>, JournalStop>
-    requires first { All (IsFirst flat_meaning) devices }
-    requires empty { journal ≡ record { entries = []; failed = None } }
-    requires fits { Fits D.told D.may_leave journal disk.old }
-    ensures course { IfOk result (λ w. w.course ≡ course_of plan.now) }
-    ensures state { IfOk result (λ w. w.state ≡ world_from devices tables plan.now operators events.now) }
-    ensures stored { IfOk result (λ _. IfSome (D.told disk.new) (ReadsAs (world_from devices tables plan.now operators events.now).entries)) }
-    ensures disk_fault { IsErrOf result JournalStop.DiskFault → Rose (D.faults disk.old) (D.faults disk.new) }
+) -> Result<World<C>, TurnFault>
+    requires given { All (IsNumbered (length world.setting.plans)) events.now }
+    requires in_time { HasTime (2 ^ 32 * length events.now) world.state.devices }
+    requires numbered { length world.state.operators < 2 ^ 32 }
+    requires going { world.has_failed ≡ false }
+    requires whole { world.failed ≡ None }
+    requires straight { world.state.strayed ≡ false }
+    requires fits { Fits D.told D.may_leave (journal_of world) disk.old }
+    ensures done { IfOk result (λ last. last.state.strayed ≡ false → last ≡ with_state world (led_to (C.Content.meaning world.content) world.setting events.now drain world.state)) }
+    ensures others { IfOk result (λ last. last ≡ with_state world last.state) }
+    ensures straight { IsSome (D.told disk.old) → IfOk result (λ last. last.state.strayed ≡ false) }
+    ensures calm { AreCalm events.now → IfOk result (λ last. last.state.strayed ≡ false) }
+    ensures read { AreCalm events.now → (offset : ℕ) → result ≡ Err (turn_fault.Damaged offset) → ⊥ }
+    ensures stored { IfOk result (λ last. IfSome (D.told disk.new) (ReadsAs last.state.entries)) }
+    ensures disk_fault { result ≡ Err turn_fault.DiskFault → Rose (D.faults disk.old) (D.faults disk.new) }
     ensures keeps { KeepsDisk D.told D.faults disk.old disk.new }
-    ensures any_moment { IsSome (D.told disk.old)
-        → AnyMoment D.moment D.might_have_left disk.old disk.new (IsBetween [] (world_from devices tables plan.now operators events.now).entries) }
+    ensures any_moment { IsSome (D.told disk.old) → AnyMoment D.moment D.might_have_left disk.old disk.new
+        (IsBetween world.state.entries (led_to (C.Content.meaning world.content) world.setting events.now drain world.state).entries) }
 {
-    let content = FlatContent::new(alloc);
-    let course = course_of(alloc, plan)?;
-    let world = World::new(
-        alloc,
-        content,
-        tables,
-        devices,
-        course,
-        plan.edits.as_slice(),
-        operators,
-        journal,
-    )?;
-    match world.run(disk, events) {
-        Ok(world) => Ok(world),
-        Err(RunFault::DiskFault) => Err(JournalStop::DiskFault),
-        Err(RunFault::NoMemory) => Err(JournalStop::NoMemory),
-    }
+    let last = world.run(disk, events)?;
+    if drain { last.drain(disk) } else { Ok(last) }
 }
 
-// The text and the status of a world with a change set.
-fn say_world(alloc: Global, trace: bool, world: &World<FlatContent>) -> Result<Said, NoMemory>
-    ensures { IfOk result (λ said. Tells (world_told trace world.now.course world.now.state) said.status said.text.items) }
+// The text and the status of a world.
+fn say_world<C: Show + Drop>(alloc: Global, trace: bool, world: &World<C>) -> Result<Said, NoMemory>
+    ensures { IfOk result (λ said. Tells (world_told (C.shown world.now.content) trace world.now.setting world.now.state) said.status said.text.items) }
 {
-    let course = world.course();
-    let entries = world.entries();
-    let reports = reports_of(alloc, &course.token, world.links(), world.devices())?;
-    let differing = differing(alloc, is_decided(entries), reports.as_slice())?;
-    let unsettled = unsettled(alloc, is_submitted(entries), reports.as_slice())?;
-    let status = status_for(unsettled.as_slice(), differing.as_slice());
-    let text = write_world(
-        alloc,
-        world.content(),
-        trace,
-        world,
-        reports.as_slice(),
-        differing.as_slice(),
-        unsettled.as_slice(),
-    )?;
+    let report = world.report()?;
+    let status = status_for(report.unsettled.as_slice(), report.differ.as_slice());
+    let text = write_world(alloc, trace, world, &report)?;
     Ok(Said { status, text })
-}
-
-// The text of a world without a change set.
-fn say_devices(alloc: Global, trace: bool, world: &World<FlatContent>) -> Result<Said, NoMemory>
-    ensures { IfOk result (λ said. Tells (devices_told trace world.now.state) said.status said.text.items) }
-{
-    let text = write_devices(
-        alloc,
-        world.content(),
-        trace,
-        world.trail(),
-        world.devices(),
-    )?;
-    Ok(Said {
-        status: Status::Ok,
-        text,
-    })
 }

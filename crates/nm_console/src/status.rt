@@ -1,7 +1,7 @@
 ghost use Rattle.std.specs.Prelude.{◌≡◌, IsTrue};
 ghost use Rattle.nm_console.specs.Status.{is_whole, status_for};
 
-use nm_report::DeviceReport;
+use nm_network::Pair;
 
 /// How the program ended. Its number is the exit status.
 #[derive(Clone, Copy, Debug, PartialEq, Eq)]
@@ -50,8 +50,8 @@ impl Status {
     }
 }
 
-/// The status of a text that names these devices.
-pub fn status_for(unsettled: &[DeviceReport], differing: &[DeviceReport]) -> Status
+/// The status of a text that names these change sets and devices.
+pub fn status_for(unsettled: &[Pair], differing: &[Pair]) -> Status
     ensures value { result ≡ status_for unsettled.now differing.now }
     ensures whole { IsTrue (is_whole result) }
 {

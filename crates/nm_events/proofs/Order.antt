@@ -1,5 +1,5 @@
 -- The tables of events and requests are in order, so that each fault has a place.
-use Rattle.std.proofs.Common.{◌≡◌, ℕ, nat_lt, List, Bool, true, false, cond, codes, Option, Some, None, Ok, Err, refl}
+use Rattle.std.proofs.Common.{◌≡◌, ℕ, List, Bool, true, false, cond, codes, Option, Some, None, Ok, Err, refl}
 use Rattle.std.specs.Prelude.{◌||◌}
 use Rattle.std.specs.Str.{bytes_eq}
 use Rattle.serde_json.specs.Data.{Data}
@@ -10,15 +10,13 @@ use Rattle.nm_proto.specs.declared.kind.ScenarioKind.TheVariants.{NotBuilt, BadV
 use Rattle.nm_reading.specs.declared.fault.Cause.{Cause}
 use Rattle.nm_reading.specs.declared.fault.Step.{Step}
 use Rattle.nm_reading.specs.Reading.{plain}
-use Rattle.nm_form.specs.Form.{Form, arguments, done, ◌▹◌}
+use Rattle.nm_form.specs.Form.{Form}
 use Rattle.nm_form.specs.Exact.{IsWrong}
 use Rattle.nm_form.specs.Places.{IsThere, InOrder, IsPlace}
 use Rattle.nm_form.proofs.Placed.{placed}
-use Rattle.nm_form.proofs.InOrder.{in_order, number_in_order, text_in_order, leaf_in_order, list_in_order, object_in_order, arguments_in_order, word_in_order, built_in_order, no_word_in_order, no_line_in_order, where_in_order, no_more_named, member_in_order, no_more_numbered, argument_in_order, last_in_order}
-use Rattle.nm_proto.specs.declared.plan.Event.TheVariants.{Advance, Restart}
-use Rattle.nm_events.specs.declared.event.ReadEvent.TheVariants.{Other}
+use Rattle.nm_form.proofs.InOrder.{in_order, number_in_order, text_in_order, leaf_in_order, list_in_order, object_in_order, built_in_order, no_line_in_order, no_more_named, member_in_order, no_more_numbered, argument_in_order, last_in_order}
 use Rattle.nm_events.specs.declared.arguments.Counts.{Counts}
-use Rattle.nm_events.specs.Arguments.{device, operation_of, operation_said, operation, short, store_of, store_said, store}
+use Rattle.nm_events.specs.Arguments.{operation_of, operation_said, operation, store_of, store_said, store}
 use Rattle.nm_events.specs.Requests.{asked_edit, cancel_form, commit_form, request_form, selection}
 use Rattle.nm_events.specs.Events.{elementary_form, event_form, events_form}
 
@@ -89,18 +87,16 @@ elementary_in_order edit order c =
     (built_in_order _ _ _ _ (search arguments_order depth 12)
     (built_in_order _ _ _ _ (search arguments_order depth 12)
     (built_in_order _ _ _ _ (search arguments_order depth 12)
-    (no_word_in_order _ _ (no_word_in_order _ _
-    (word_in_order _ _ _
-    (where_in_order (λ whole. nat_lt 0 c.changes) (arguments 1 (device c ▹ short ▹ done) (λ device seconds. Other (Advance device seconds)))
-    (arguments_in_order _ _ _ (search arguments_order depth 12)))
-    (word_in_order _ _ _
-    (where_in_order (λ whole. nat_lt 0 c.changes) (arguments 1 (device c ▹ done) (λ device. Other (Restart device)))
-    (arguments_in_order _ _ _ (search arguments_order depth 12)))
-    (no_word_in_order _ _ (no_word_in_order _ _
+    (built_in_order _ _ _ _ (search arguments_order depth 12)
+    (built_in_order _ _ _ _ (search arguments_order depth 12)
+    (built_in_order _ _ _ _ (search arguments_order depth 12)
+    (built_in_order _ _ _ _ (search arguments_order depth 12)
+    (built_in_order _ _ _ _ (search arguments_order depth 12)
+    (built_in_order _ _ _ _ (search arguments_order depth 12)
     (built_in_order _ _ _ _ (argument_in_order _ _ (number_in_order _ _) (argument_in_order _ _ (number_in_order _ _)
     (argument_in_order _ _ (request_in_order edit order) (no_more_numbered _))))
     (built_in_order _ _ _ _ (search arguments_order depth 12)
-    (no_word_in_order _ _ (no_line_in_order _)))))))))))))
+    (built_in_order _ _ _ _ (search arguments_order depth 12) (no_line_in_order _)))))))))))))
 
 event_in_order : {E : Type 0} (edit : Form E) → InOrder edit → (c : Counts) → InOrder (event_form edit c)
 unfolding event_form

@@ -103,7 +103,7 @@ round_is Q c part event word says =
     let first : IsNumber 1 (min c.changes change_limit) (natural_in 1 part) says.1.0 = slot_number 1 (min c.changes change_limit) says.1.0 (at 1 part) says.1.1 in
     let second : IsNumber 1 turn_limit (natural_in 2 part) says.1.2.0 = slot_number 1 turn_limit says.1.2.0 (at 2 part) says.1.2.1 in
     let is : EventIs Q c part (Other (Round says.1.0 says.1.2.0)) = record {
-      keeps = (within_first c.changes change_limit says.1.0 first.within.0 first.within.1, second.within);
+      keeps = ((within_first c.changes change_limit says.1.0 first.within.0 first.within.1, second.within), refl);
       weighs = round_weighs c part says.1.2.0 word (three_items part says.0) first.tested second.tested second.is;
       edits = All-nil Q;
     } in

@@ -1,20 +1,16 @@
 -- What happens in a run, as a list that begins with the event's word (this project's own): a table of one line for each word. How
 -- an edit is written depends on the contents, so its form is given.
-use Rattle.std.specs.Prelude.{ℕ, ◌*◌, List, Bool, false, ◌&&◌, ◌==◌, nat_le, nat_lt, min, Option, Some, None, unwrap_or, codes, if◌then◌else◌}
+use Rattle.std.specs.Prelude.{ℕ, ◌*◌, List, Bool, false, ◌&&◌, ◌==◌, nat_le, min, Option, Some, None, unwrap_or, codes, if◌then◌else◌}
 use Rattle.serde_json.specs.Data.{Data}
-use Rattle.nm_proto.specs.declared.plan.Event.TheVariants.{Submit, Turn, Deliver, Answer, Advance, Restart, Leave, Round}
+use Rattle.nm_proto.specs.declared.plan.Event.TheVariants.{Submit, Turn, Deliver, Answer, Break, Lose, Advance, Restart, Forget, Crash, Renew, Leave, Round}
 use Rattle.nm_reading.specs.Words.{is_word, item_count, natural_in}
-use Rattle.nm_form.specs.Form.{Form, list, line, no_line, arguments, done, ◌▹◌, ◌or◌, built, unbuilt, unbuilt_where}
+use Rattle.nm_form.specs.Form.{Form, list, no_line, done, ◌▹◌, ◌or◌, built}
 use Rattle.nm_events.specs.declared.event.ReadEvent.{ReadEvent}
 use Rattle.nm_events.specs.declared.event.ReadEvent.TheVariants.{Other, Asked}
 use Rattle.nm_events.specs.declared.arguments.Counts.{Counts}
 use Rattle.nm_events.specs.Limits.{change_limit, event_limit, turn_limit}
 use Rattle.nm_events.specs.Arguments.{change, device, operator, short, turns}
 use Rattle.nm_events.specs.Requests.{request_form}
-
--- a form that isn't built in a scenario with change sets
-abbrev pub without_changes : {A : Type 0} → Counts → Form A → Form A
-without_changes c form = unbuilt_where (λ whole. nat_lt 0 c.changes) form
 
 -- an elementary event
 unfoldable pub elementary_form : {E : Type 0} → Form E → Counts → Form (ReadEvent E)
@@ -24,15 +20,15 @@ elementary_form edit c =
     or built (codes "deliver") (change c ▹ device c ▹ short ▹ done) (λ change device link. Other (Deliver change device link))
     or built (codes "answer") (change c ▹ device c ▹ short ▹ short ▹ done)
     (λ change device link number. Other (Answer change device link number))
-    or unbuilt (codes "break")
-    or unbuilt (codes "lose")
-    or line (codes "advance") (without_changes c (arguments 1 (device c ▹ short ▹ done) (λ device seconds. Other (Advance device seconds))))
-    or line (codes "restart") (without_changes c (arguments 1 (device c ▹ done) (λ device. Other (Restart device))))
-    or unbuilt (codes "forget")
-    or unbuilt (codes "crash")
+    or built (codes "break") (change c ▹ device c ▹ done) (λ change device. Other (Break change device))
+    or built (codes "lose") (change c ▹ device c ▹ short ▹ done) (λ change device link. Other (Lose change device link))
+    or built (codes "advance") (device c ▹ short ▹ done) (λ device seconds. Other (Advance device seconds))
+    or built (codes "restart") (device c ▹ done) (λ device. Other (Restart device))
+    or built (codes "forget") (change c ▹ done) (λ change. Other (Forget change))
+    or built (codes "crash") done (Other Crash)
     or built (codes "foreign") (operator c ▹ device c ▹ request_form edit ▹ done) Asked
     or built (codes "leave") (operator c ▹ device c ▹ done) (λ operator device. Other (Leave operator device))
-    or unbuilt (codes "renew")
+    or built (codes "renew") (change c ▹ device c ▹ done) (λ change device. Other (Renew change device))
     or no_line
 
 -- an event: a round, which stands for so many turns and what follows each of them, or an elementary event

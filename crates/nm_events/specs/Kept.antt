@@ -1,8 +1,12 @@
 -- What holds of each event that is read (this project's own): it names change sets, devices and operators that there are.
-use Rattle.std.specs.Prelude.{ℕ, ◌*◌, ◌≤◌, List}
+use Rattle.std.specs.Prelude.{◌≡◌, ℕ, ◌*◌, ◌≤◌, List, Bool, true, false}
 use Rattle.std.specs.List.{All, sum_by}
 use Rattle.nm_proto.specs.declared.plan.Event.{Event}
 use Rattle.nm_proto.specs.declared.plan.Event.TheVariants.{Submit, Turn, Deliver, Answer, Break, Lose, Advance, Restart, Forget, Crash, Renew, Foreign, Leave, Round}
+use Rattle.nm_proto.specs.declared.message.Request.{Request}
+use Rattle.nm_proto.specs.declared.message.Request.TheVariants.{OpenSession}
+use Rattle.nm_events.specs.declared.event.ReadRequest.{ReadRequest}
+use Rattle.nm_events.specs.declared.event.ReadRequest.TheVariants.{Open, Known, WithEdit, WithSelect}
 use Rattle.nm_events.specs.declared.event.ReadEvent.{ReadEvent}
 use Rattle.nm_events.specs.declared.event.ReadEvent.TheVariants.{Other, Asked}
 use Rattle.nm_events.specs.declared.arguments.Counts.{Counts}
@@ -29,10 +33,27 @@ EventKeeps c (Foreign operator device request) = IsWithin 1 c.operators operator
 EventKeeps c (Leave operator device) = IsWithin 1 c.operators operator × IsWithin 1 c.devices device
 EventKeeps c (Round change turns) = IsWithin 1 c.changes change × IsWithin 1 turn_limit turns
 
--- the same before edits have numbers
+-- in this event an operator asks a device
+abbrev pub is_asked : Event → Bool
+is_asked (Foreign operator device request) = true
+is_asked _ = false
+
+-- this request opens a session
+abbrev pub opens : Request → Bool
+opens (OpenSession user) = true
+opens _ = false
+
+-- a request opens a session only without saying for which user, which is then the operator's own
+abbrev pub OpensUnsaid : {E : Type 0} → ReadRequest E → Type 0
+OpensUnsaid Open = Unit {0}
+OpensUnsaid (Known request) = opens request ≡ false
+OpensUnsaid (WithEdit operation edit) = Unit {0}
+OpensUnsaid (WithSelect texts) = Unit {0}
+
+-- the same before edits have numbers; operators ask in no other events
 abbrev pub ReadKeeps : {E : Type 0} → Counts → ReadEvent E → Type 0
-ReadKeeps c (Other event) = EventKeeps c event
-ReadKeeps c (Asked operator device request) = IsWithin 1 c.operators operator × IsWithin 1 c.devices device
+ReadKeeps c (Other event) = EventKeeps c event × (is_asked event ≡ false)
+ReadKeeps c (Asked operator device request) = IsWithin 1 c.operators operator × IsWithin 1 c.devices device × OpensUnsaid request
 
 -- how many elementary events an event stands for: three for each turn of a round, else one
 abbrev pub weight : Event → ℕ

@@ -8,7 +8,7 @@ ghost use Rattle.nm_form.specs.Form.{◌▹◌, arguments, done};
 ghost use Rattle.nm_form.specs.Read.{read};
 ghost use Rattle.nm_events.specs.Arguments.{change, device, operator, short, turns};
 ghost use Rattle.nm_events.specs.Requests.{request_form};
-ghost use Rattle.nm_events.specs.Events.{elementary_form, event_form, event_weight, events_form, is_right_round, is_within, without_changes};
+ghost use Rattle.nm_events.specs.Events.{elementary_form, event_form, event_weight, events_form, is_right_round, is_within};
 ghost use Rattle.nm_events.specs.declared.event.ReadEvent.TheVariants.{Other, Asked};
 ghost use Rattle.nm_proto.specs.declared.plan.Event.TheVariants as event;
 
@@ -18,9 +18,8 @@ use crate::limits::{CHANGE_LIMIT, EVENT_LIMIT, TURN_LIMIT};
 use crate::requests::Requests;
 use nm_form::{ItemReader, Reader, Weigh, argument, no_word, read_weighed, takes};
 use nm_proto::{Event, Listed};
-use nm_reading::reader::fault_here;
+use nm_reading::ReadError;
 use nm_reading::words::{is_word, item_count, natural_in};
-use nm_reading::{ReadError, ScenarioKind};
 use serde_json::Value;
 use std::alloc::Global;
 
@@ -104,13 +103,36 @@ impl<'a, R: Reader> Events<'a, R> {
         }))
     }
 
-    fn advance(&self, alloc: Global, part: &Value) -> Result<ReadEvent<R::Out>, ReadError>
-        ensures { Gives result (read (without_changes self.now.counts.now (arguments 1 (device self.now.counts.now ▹ short ▹ done)
-            (λ device seconds. Other (event.Advance device seconds)))) (view part.now)) }
+    // The manager's side of a link ends.
+    fn break_link(&self, alloc: Global, part: &Value) -> Result<ReadEvent<R::Out>, ReadError>
+        ensures { Gives result (read (arguments 1 (change self.now.counts.now ▹ device self.now.counts.now ▹ done)
+            (λ change device. Other (event.Break change device))) (view part.now)) }
     {
-        if self.counts.changes > 0 {
-            return fault_here(alloc, ScenarioKind::NotBuilt);
-        }
+        takes(alloc, part, 3, 3)?;
+        let change = argument(alloc, part, 1, &self.change())?;
+        let device = argument(alloc, part, 2, &self.device())?;
+        Ok(ReadEvent::Other(Event::Break { change, device }))
+    }
+
+    fn lose(&self, alloc: Global, part: &Value) -> Result<ReadEvent<R::Out>, ReadError>
+        ensures { Gives result (read (arguments 1 (change self.now.counts.now ▹ device self.now.counts.now ▹ short ▹ done)
+            (λ change device link. Other (event.Lose change device link))) (view part.now)) }
+    {
+        takes(alloc, part, 4, 4)?;
+        let change = argument(alloc, part, 1, &self.change())?;
+        let device = argument(alloc, part, 2, &self.device())?;
+        let link = argument(alloc, part, 3, &Short)?;
+        Ok(ReadEvent::Other(Event::Lose {
+            change,
+            device,
+            link,
+        }))
+    }
+
+    fn advance(&self, alloc: Global, part: &Value) -> Result<ReadEvent<R::Out>, ReadError>
+        ensures { Gives result (read (arguments 1 (device self.now.counts.now ▹ short ▹ done)
+            (λ device seconds. Other (event.Advance device seconds))) (view part.now)) }
+    {
         takes(alloc, part, 3, 3)?;
         let device = argument(alloc, part, 1, &self.device())?;
         let seconds = argument(alloc, part, 2, &Short)?;
@@ -118,15 +140,26 @@ impl<'a, R: Reader> Events<'a, R> {
     }
 
     fn restart(&self, alloc: Global, part: &Value) -> Result<ReadEvent<R::Out>, ReadError>
-        ensures { Gives result (read (without_changes self.now.counts.now (arguments 1 (device self.now.counts.now ▹ done)
-            (λ device. Other (event.Restart device)))) (view part.now)) }
+        ensures { Gives result (read (arguments 1 (device self.now.counts.now ▹ done) (λ device. Other (event.Restart device))) (view part.now)) }
     {
-        if self.counts.changes > 0 {
-            return fault_here(alloc, ScenarioKind::NotBuilt);
-        }
         takes(alloc, part, 2, 2)?;
         let device = argument(alloc, part, 1, &self.device())?;
         Ok(ReadEvent::Other(Event::Restart { device }))
+    }
+
+    fn forget(&self, alloc: Global, part: &Value) -> Result<ReadEvent<R::Out>, ReadError>
+        ensures { Gives result (read (arguments 1 (change self.now.counts.now ▹ done) (λ change. Other (event.Forget change))) (view part.now)) }
+    {
+        takes(alloc, part, 2, 2)?;
+        let change = argument(alloc, part, 1, &self.change())?;
+        Ok(ReadEvent::Other(Event::Forget { change }))
+    }
+
+    fn crash(&self, alloc: Global, part: &Value) -> Result<ReadEvent<R::Out>, ReadError>
+        ensures { Gives result (read (arguments 1 done (Other event.Crash)) (view part.now)) }
+    {
+        takes(alloc, part, 1, 1)?;
+        Ok(ReadEvent::Other(Event::Crash))
     }
 
     fn foreign(&self, alloc: Global, part: &Value) -> Result<ReadEvent<R::Out>, ReadError>
@@ -152,6 +185,16 @@ impl<'a, R: Reader> Events<'a, R> {
         let operator = argument(alloc, part, 1, &self.operator())?;
         let device = argument(alloc, part, 2, &self.device())?;
         Ok(ReadEvent::Other(Event::Leave { operator, device }))
+    }
+
+    fn renew(&self, alloc: Global, part: &Value) -> Result<ReadEvent<R::Out>, ReadError>
+        ensures { Gives result (read (arguments 1 (change self.now.counts.now ▹ device self.now.counts.now ▹ done)
+            (λ change device. Other (event.Renew change device))) (view part.now)) }
+    {
+        takes(alloc, part, 3, 3)?;
+        let change = argument(alloc, part, 1, &self.change())?;
+        let device = argument(alloc, part, 2, &self.device())?;
+        Ok(ReadEvent::Other(Event::Renew { change, device }))
     }
 
     fn round(&self, alloc: Global, part: &Value) -> Result<ReadEvent<R::Out>, ReadError>
@@ -181,10 +224,10 @@ impl<'a, R: Reader> Events<'a, R> {
             return self.answer(alloc, part);
         }
         if is_word(part, "break") {
-            return fault_here(alloc, ScenarioKind::NotBuilt);
+            return self.break_link(alloc, part);
         }
         if is_word(part, "lose") {
-            return fault_here(alloc, ScenarioKind::NotBuilt);
+            return self.lose(alloc, part);
         }
         if is_word(part, "advance") {
             return self.advance(alloc, part);
@@ -193,10 +236,10 @@ impl<'a, R: Reader> Events<'a, R> {
             return self.restart(alloc, part);
         }
         if is_word(part, "forget") {
-            return fault_here(alloc, ScenarioKind::NotBuilt);
+            return self.forget(alloc, part);
         }
         if is_word(part, "crash") {
-            return fault_here(alloc, ScenarioKind::NotBuilt);
+            return self.crash(alloc, part);
         }
         if is_word(part, "foreign") {
             return self.foreign(alloc, part);
@@ -205,7 +248,7 @@ impl<'a, R: Reader> Events<'a, R> {
             return self.leave(alloc, part);
         }
         if is_word(part, "renew") {
-            return fault_here(alloc, ScenarioKind::NotBuilt);
+            return self.renew(alloc, part);
         }
         no_word(alloc, part)
     }

@@ -60,8 +60,6 @@ fn events_are_told(rt: HostRuntime) -> Result<(), Fail> {
         (r#"[["submit",1],["turn",1],["round",1,1]]"#, "read"),
         (r#"[["submit",2]]"#, "bad-value /0/1"),
         (r#"[["deliver",1,2]]"#, "bad-value /0"),
-        (r#"[["crash",1]]"#, "not-built /0"),
-        (r#"[["renew",1,1]]"#, "not-built /0"),
         (r#"[["foreign",1,2,["edit",{"edit":5}]]]"#, "read"),
         (
             r#"[["foreign",1,2,["edit",{"edit":0}]]]"#,
@@ -93,9 +91,43 @@ fn events_are_told(rt: HostRuntime) -> Result<(), Fail> {
             r#"[["foreign",1,1,["cancel-commit",{"persist":"a"}]]]"#,
             "unknown /0/3/1/persist",
         ),
-        (r#"[["advance",1,1]]"#, "not-built /0"),
         (r#"[["foreign",1,1,["commit",7]]]"#, "bad-value /0/3/1"),
         (r#"[["leave",1,3]]"#, "bad-value /0/2"),
+    ] {
+        let told = told(rt.alloc(), text)?;
+        assert_eq!(rt; told.as_slice(), want.as_bytes(), "{text}");
+    }
+    Ok(())
+}
+
+// What breaks links, moves clocks and ends managers, worked out by hand as before.
+#[test]
+fn disturbances_are_told(rt: HostRuntime) -> Result<(), Fail> {
+    for (text, want) in [
+        (r#"[["break",1,2]]"#, "read"),
+        (r#"[["break",2,1]]"#, "bad-value /0/1"),
+        (r#"[["break",1,3]]"#, "bad-value /0/2"),
+        (r#"[["break",1]]"#, "bad-value /0"),
+        (r#"[["lose",1,2,0],["lose",1,1,4294967295]]"#, "read"),
+        (r#"[["lose",1,3,1]]"#, "bad-value /0/2"),
+        (r#"[["lose",1,1,4294967296]]"#, "bad-value /0/3"),
+        (r#"[["lose",1,1]]"#, "bad-value /0"),
+        (r#"[["advance",2,0],["advance",1,4294967295]]"#, "read"),
+        (r#"[["advance",3,1]]"#, "bad-value /0/1"),
+        (r#"[["advance",1,4294967296]]"#, "bad-value /0/2"),
+        (r#"[["advance",1,1,1]]"#, "bad-value /0"),
+        (r#"[["restart",2]]"#, "read"),
+        (r#"[["restart",0]]"#, "bad-value /0/1"),
+        (r#"[["restart"]]"#, "bad-value /0"),
+        (r#"[["forget",1]]"#, "read"),
+        (r#"[["forget",2]]"#, "bad-value /0/1"),
+        (r#"[["forget",1,1]]"#, "bad-value /0"),
+        (r#"[["crash"]]"#, "read"),
+        (r#"[["crash",1]]"#, "bad-value /0"),
+        (r#"[["renew",1,2]]"#, "read"),
+        (r#"[["renew",0,1]]"#, "bad-value /0/1"),
+        (r#"[["renew",1,"1"]]"#, "bad-value /0/2"),
+        (r#"[["renew",1]]"#, "bad-value /0"),
     ] {
         let told = told(rt.alloc(), text)?;
         assert_eq!(rt; told.as_slice(), want.as_bytes(), "{text}");

@@ -1,12 +1,11 @@
 -- What is told of the change sets of flat contents.
-use Rattle.std.proofs.Common.{◌≡◌, ℕ, zero, suc, ◌+◌, ◌-◌, ◌^◌, List, [], ◌∷◌, ◌++◌, length, Bool, true, false, cond, min, Option, Some, None, option_and_then, unwrap_or, Result, Ok, Err, codes, refl, ap, sym, subst, ◌∙◌, arith, length-append}
-use Rattle.std.specs.Prelude.{if◌then◌else◌, ◌||◌, ◌&&◌, nat_le, slice_get}
+use Rattle.std.proofs.Common.{◌≡◌, ℕ, suc, ◌+◌, ◌-◌, ◌^◌, List, [], ◌∷◌, ◌++◌, length, Bool, true, false, cond, min, Option, Some, None, option_and_then, unwrap_or, Result, Ok, Err, codes, refl, ap, sym, subst, ◌∙◌, arith, length-append}
+use Rattle.std.specs.Prelude.{◌||◌, ◌&&◌, nat_le, slice_get}
 use Rattle.std.specs.Str.{bytes_eq}
 use Rattle.serde_json.specs.Data.{Data}
 use Rattle.serde_json.specs.Find.{get, at, as_str}
 use Rattle.nm_base.specs.Words.{default_timeout}
 use Rattle.nm_proto.specs.declared.message.DefaultOperation.TheVariants.{Merge}
-use Rattle.nm_proto.specs.Flat.{FlatState}
 use Rattle.nm_proto.specs.declared.kind.ScenarioKind.TheVariants as kind
 use Rattle.nm_reading.specs.declared.fault.Step.TheVariants.{Name, Item}
 use Rattle.nm_reading.specs.declared.fault.Fault.{Fault}
@@ -14,18 +13,19 @@ use Rattle.nm_reading.specs.Reading.{here, under, required_from, required, optio
 use Rattle.nm_events.specs.Limits.{change_limit, device_limit}
 use Rattle.nm_form.specs.Read.{read, told}
 use Rattle.nm_events.specs.Arguments.{operation_of, operation_said, operation}
+use Rattle.nm_scenario.specs.Flat.{flat_edit}
 use Rattle.nm_scenario.specs.declared.scenario.ReadChange.{ReadChange}
 use Rattle.nm_scenario.specs.declared.scenario.ReadEdit.{ReadEdit}
-use Rattle.nm_scenario.specs.Changes.{knows_change, knows_edit, device_of, last_device, device_within, edit_at, entry_at, entries_at, change_at, changes_read_at}
+use Rattle.nm_scenario.specs.Changes.{knows_change, knows_edit, device_of, last_device, device_within, entry_at, entries_at, change_at, changes_read_at}
 use Rattle.nm_refusals.specs.Roles as role
 use Rattle.nm_refusals.specs.Members as must
 use Rattle.nm_refusals.specs.Steps as step
 use Rattle.nm_refusals.specs.Steps.{number_in, device_of_item, lowest_at}
-use Rattle.nm_refusals.specs.Wrong.{says, is_unbuilt_operation, no_operation, unbuilt_operation, unbuilt_change}
+use Rattle.nm_refusals.specs.Wrong.{says, is_unbuilt_operation, no_operation, unbuilt_operation}
 use Rattle.nm_refusals.specs.Told.{Told}
 use Rattle.nm_refusals.proofs.Sound.{IsSound, is_read, then_so, by_told, both}
-use Rattle.nm_refusals.proofs.Parts.{wrong, under_so, object_is, object_so, required_so, optional_so, known_so, list_so, list_read, some_so, number_so, in_range_so}
-use Rattle.nm_refusals.proofs.Flats.{edit_so}
+use Rattle.nm_refusals.proofs.Parts.{wrong, under_so, object_is, object_so, required_so, optional_so, known_so, each_so, list_so, list_read, some_so, number_so, in_range_so}
+use Rattle.nm_refusals.proofs.Flats.{flat_edit_so}
 
 -- ---- the default operation
 
@@ -75,29 +75,28 @@ device_found low count (Some child) d e = device_number_is low count child d (un
 
 -- ---- an edit of a change set
 
-entry_so : (states : List FlatState) (before : List ReadEdit) (low : ℕ) (part : Data) → last_device before + 1 ≡ low → IsSound (Told (role.entry states low) part) (entry_at states before part)
+entry_so : (devices : ℕ) (before : List ReadEdit) (low : ℕ) (part : Data) → last_device before + 1 ≡ low → IsSound (Told (role.entry devices low) part) (entry_at devices before part)
 unfolding entry_at
-entry_so states before low part is =
-    then_so (object_at part) _ (object_so (role.entry states low) part refl)
-    (λ u o. then_so (required (codes "device") (device_within (last_device before + 1) (length states)) part) _
-    (subst (λ n. IsSound (Told (role.entry states low) part) (required (codes "device") (device_within n (length states)) part)) (sym is)
-    (required_so (role.entry states low) part (codes "device") (role.number low (min (length states) device_limit)) (device_within low (length states)) (object_is part u o) must.device_of step.device_of (λ child e. device_so low (length states) child)))
-    (λ d e. then_so (optional (codes "default") Merge (read operation) part) _ (optional_so (role.entry states low) part (codes "default") role.operation Merge (read operation) step.operation_of (λ child f. operation_so child))
-    (λ default f. then_so (required (codes "edit") (edit_at (slice_get states (d - 1))) part) _
-    (required_so (role.entry states low) part (codes "edit") (role.change_edit (slice_get states (d - 1))) (edit_at (slice_get states (d - 1))) (object_is part u o) must.edit_of
-    (step.edit_of d (device_found (last_device before + 1) (length states) (get (codes "device") part) d e)) (λ child g. edit_so (slice_get states (d - 1)) child))
-    (λ edit g. then_so (only_known knows_edit part) _ (known_so (role.entry states low) part (object_is part u o)) (λ k h. is_read _)))))
+entry_so devices before low part is =
+    then_so (object_at part) _ (object_so (role.entry devices low) part refl)
+    (λ u o. then_so (required (codes "device") (device_within (last_device before + 1) devices) part) _
+    (subst (λ n. IsSound (Told (role.entry devices low) part) (required (codes "device") (device_within n devices) part)) (sym is)
+    (required_so (role.entry devices low) part (codes "device") (role.number low (min devices device_limit)) (device_within low devices) (object_is part u o) must.device_of step.device_of (λ child e. device_so low devices child)))
+    (λ d e. then_so (optional (codes "default") Merge (read operation) part) _ (optional_so (role.entry devices low) part (codes "default") role.operation Merge (read operation) step.operation_of (λ child f. operation_so child))
+    (λ default f. then_so (required (codes "edit") (read flat_edit) part) _
+    (required_so (role.entry devices low) part (codes "edit") role.change_edit (read flat_edit) (object_is part u o) must.edit_of step.edit_of (λ child g. flat_edit_so child))
+    (λ edit g. then_so (only_known knows_edit part) _ (known_so (role.entry devices low) part (object_is part u o)) (λ k h. is_read _)))))
 
 -- the device of what was read
-entry_device : (states : List FlatState) (before : List ReadEdit) (part : Data) (x : ReadEdit) → entry_at states before part ≡ Ok x → number_in (codes "device") part ≡ Some x.device
+entry_device : (devices : ℕ) (before : List ReadEdit) (part : Data) (x : ReadEdit) → entry_at devices before part ≡ Ok x → number_in (codes "device") part ≡ Some x.device
 unfolding entry_at
-entry_device states before part x e =
+entry_device devices before part x e =
     let b = both (object_at part) _ x e in
-    let c = both (required (codes "device") (device_within (last_device before + 1) (length states)) part) _ x b.rest in
+    let c = both (required (codes "device") (device_within (last_device before + 1) devices) part) _ x b.rest in
     let d = both (optional (codes "default") Merge (read operation) part) _ x c.rest in
-    let f = both (required (codes "edit") (edit_at (slice_get states (c.value - 1))) part) _ x d.rest in
+    let f = both (required (codes "edit") (read flat_edit) part) _ x d.rest in
     let g = both (only_known knows_edit part) _ x f.rest in
-    let found : number_in (codes "device") part ≡ Some c.value = device_found (last_device before + 1) (length states) (get (codes "device") part) c.value c.first in
+    let found : number_in (codes "device") part ≡ Some c.value = device_found (last_device before + 1) devices (get (codes "device") part) c.value c.first in
     let same : record { device = c.value; default_operation = d.value; edit = f.value } ≡ x = cc in
     found ∙ ap Some (ap (λ r. r.device) same)
 
@@ -116,46 +115,34 @@ lowest_suc whole n part d there is =
     let next : n + 1 ≡ suc n = omega arith in
     ap (lowest_at whole) next ∙ ap (λ p. device_of_item p + 1) there ∙ ap (λ m. unwrap_or m 0 + 1) is
 
-listed_so : (states : List FlatState) (part : Data) → IsSound (Told (role.entries states) part) (list_at (2 ^ 64 - 1) (entry_at states) part)
-listed_so states part =
-    list_so (role.entries states) part (2 ^ 64 - 1) (λ before n. last_device before + 1 ≡ lowest_at part n) (entry_at states) refl refl refl
-    (λ before n child i there. under_so (role.entries states) part (Item n) (role.entry states (lowest_at part n)) child step.one_entry there (entry_at states before child) (entry_so states before (lowest_at part n) child i))
-    (λ before n child x i there e. ap (λ m. m + 1) (last_is before x) ∙ sym (lowest_suc part n child x.device there (entry_device states before child x e)))
+listed_so : (devices : ℕ) (part : Data) → IsSound (Told (role.entries devices) part) (list_at (2 ^ 64 - 1) (entry_at devices) part)
+listed_so devices part =
+    list_so (role.entries devices) part (2 ^ 64 - 1) (λ before n. last_device before + 1 ≡ lowest_at part n) (entry_at devices) refl refl refl
+    (λ before n child i there. under_so (role.entries devices) part (Item n) (role.entry devices (lowest_at part n)) child step.one_entry there (entry_at devices before child) (entry_so devices before (lowest_at part n) child i))
+    (λ before n child x i there e. ap (λ m. m + 1) (last_is before x) ∙ sym (lowest_suc part n child x.device there (entry_device devices before child x e)))
 
-entries_so : (states : List FlatState) (part : Data) → IsSound (Told (role.entries states) part) (entries_at states part)
+entries_so : (devices : ℕ) (part : Data) → IsSound (Told (role.entries devices) part) (entries_at devices part)
 unfolding entries_at
-entries_so states part =
-    then_so (list_at (2 ^ 64 - 1) (entry_at states) part) some_of (listed_so states part)
-    (λ xs e. some_so (role.entries states) part (2 ^ 64 - 1) xs refl (list_read part (2 ^ 64 - 1) (entry_at states) xs e))
+entries_so devices part =
+    then_so (list_at (2 ^ 64 - 1) (entry_at devices) part) some_of (listed_so devices part)
+    (λ xs e. some_so (role.entries devices) part (2 ^ 64 - 1) xs refl (list_read part (2 ^ 64 - 1) (entry_at devices) xs e))
 
 -- ---- change sets
 
 timeout_so : (part : Data) → IsSound (Told (role.number 1 (2 ^ 32 - 1)) part) (number_within 1 (2 ^ 32 - 1) part)
 timeout_so part = number_so part 1 (2 ^ 32 - 1)
 
-first_so : (states : List FlatState) (part : Data) → IsSound (Told (role.change states) part) (change_at states [] part)
+change_so : (devices : ℕ) (before : List ReadChange) (part : Data) → IsSound (Told (role.change devices) part) (change_at devices before part)
 unfolding change_at
-first_so states part =
-    then_so (object_at part) _ (object_so (role.change states) part refl)
+change_so devices before part =
+    then_so (object_at part) _ (object_so (role.change devices) part refl)
     (λ u o. then_so (optional (codes "timeout") default_timeout (number_within 1 (2 ^ 32 - 1)) part) _
-    (optional_so (role.change states) part (codes "timeout") (role.number 1 (2 ^ 32 - 1)) default_timeout (number_within 1 (2 ^ 32 - 1)) step.timeout (λ child e. timeout_so child))
-    (λ timeout e. then_so (required (codes "edits") (entries_at states) part) _
-    (required_so (role.change states) part (codes "edits") (role.entries states) (entries_at states) (object_is part u o) must.edits_of step.edits_of (λ child f. entries_so states child))
-    (λ edits f. then_so (only_known knows_change part) _ (known_so (role.change states) part (object_is part u o)) (λ k g. is_read _))))
+    (optional_so (role.change devices) part (codes "timeout") (role.number 1 (2 ^ 32 - 1)) default_timeout (number_within 1 (2 ^ 32 - 1)) step.timeout (λ child e. timeout_so child))
+    (λ timeout e. then_so (required (codes "edits") (entries_at devices) part) _
+    (required_so (role.change devices) part (codes "edits") (role.entries devices) (entries_at devices) (object_is part u o) must.edits_of step.edits_of (λ child f. entries_so devices child))
+    (λ edits f. then_so (only_known knows_change part) _ (known_so (role.change devices) part (object_is part u o)) (λ k g. is_read _))))
 
-later_so : (states : List FlatState) (other : ReadChange) (others : List ReadChange) (part : Data) → IsSound (Told role.later_change part) (change_at states (other ∷ others) part)
-unfolding change_at
-later_so states other others part = wrong kind.NotBuilt unbuilt_change
-
-one_so : (states : List FlatState) (whole : Data) (before : List ReadChange) (n : ℕ) (part : Data) → length before ≡ n → at n whole ≡ Some part → IsSound (Told (role.changes states) whole) (under (Item n) (change_at states before part))
-one_so states whole [] zero part i there = under_so (role.changes states) whole (Item 0) (role.change states) part step.first_change there (change_at states [] part) (first_so states part)
-one_so states whole [] (suc n) part i there = absurd (omega arith)
-one_so states whole (other ∷ others) zero part i there = absurd (omega arith)
-one_so states whole (other ∷ others) (suc n) part i there =
-    under_so (role.changes states) whole (Item (suc n)) role.later_change part step.more_changes there (change_at states (other ∷ others) part) (later_so states other others part)
-
-pub changes_so : (states : List FlatState) (part : Data) → IsSound (Told (role.changes states) part) (changes_read_at states part)
+pub changes_so : (devices : ℕ) (part : Data) → IsSound (Told (role.changes devices) part) (changes_read_at devices part)
 unfolding changes_read_at
-changes_so states part =
-    list_so (role.changes states) part change_limit (λ before n. length before ≡ n) (change_at states) refl refl refl (λ before n child i there. one_so states part before n child i there)
-    (λ before n child x i there e. omega (arith, length-append before (x ∷ []), i))
+changes_so devices part =
+    each_so (role.changes devices) part change_limit (change_at devices) refl refl (role.change devices) (λ n. step.one_change) (change_so devices)

@@ -1,13 +1,13 @@
 -- What is told of flat configurations and edits, and of data of modules.
 use Rattle.std.proofs.Common.{◌≡◌, ℕ, Bool, true, false, cond, Option, Some, None, Result, Ok, Err, refl, ap, ◌∙◌}
-use Rattle.std.specs.Prelude.{if◌then◌else◌, nat_lt, ◌&&◌, is_some}
+use Rattle.std.specs.Prelude.{nat_lt, ◌&&◌, is_some}
 use Rattle.std.specs.Ordering.{nat_cmp}
 use Rattle.std.specs.FinMap.{FinMap, insert, empty, len}
 use Rattle.std.proofs.lemmas.Bool.{ltb-true}
 use Rattle.serde_json.specs.Data.{Data, null, boolean, number, string, array, object, Members, no_members, member}
 use Rattle.serde_json.specs.Find.{as_object}
 use Rattle.nm_proto.specs.Content.{Refusal}
-use Rattle.nm_proto.specs.Flat.{FlatState, flat_violation}
+use Rattle.nm_proto.specs.Flat.{flat_violation}
 use Rattle.nm_tree.specs.Nodes.{SchemaTree}
 use Rattle.nm_config.specs.Rows.{Rows}
 use Rattle.nm_json.specs.declared.fault.Fault.{Fault as JsonPlace}
@@ -21,9 +21,8 @@ use Rattle.nm_reading.specs.Reading.{◌>>=◌, here, natural_of}
 use Rattle.nm_form.specs.Read.{read, told}
 use Rattle.nm_scenario.specs.Flat.{row_limit, node_limit, key_of, or_unread, member_count, cells_after, cells_at, is_change, all_members, flat_edit_of, flat_edit_said, flat_edit}
 use Rattle.nm_scenario.specs.Devices.{valid_only, running_at, rows_from, data_at}
-use Rattle.nm_scenario.specs.Changes.{goes_through, edit_at}
 use Rattle.nm_refusals.specs.Roles.{Role, running, cells, data_of, change_edit}
-use Rattle.nm_refusals.specs.Wrong.{Wrong, is_cell, are_all, unmarked, too_many_cells, too_many_nodes, no_cells, no_edit, no_data, too_many_rows, invalid, unbuilt_result}
+use Rattle.nm_refusals.specs.Wrong.{Wrong, is_cell, are_all, unmarked, too_many_cells, too_many_nodes, no_cells, no_edit, no_data, too_many_rows, invalid}
 use Rattle.nm_refusals.specs.Told.{Told}
 use Rattle.nm_refusals.proofs.Sound.{IsSound, is_read, then_so, by_test, by_told}
 use Rattle.nm_refusals.proofs.Parts.{wrong}
@@ -74,22 +73,15 @@ running_so part =
 
 -- ---- edits
 
-members_so : (state : Option FlatState) (part : Data) (members : Option Members) → as_object part ≡ members
-    → IsSound (Told (change_edit state) part) (told (flat_edit_of members))
-members_so state part None e = wrong kind.Content (no_edit (ap (are_all is_change) e))
-members_so state part (Some m) e =
+members_so : (part : Data) (members : Option Members) → as_object part ≡ members → IsSound (Told change_edit part) (told (flat_edit_of members))
+members_so part None e = wrong kind.Content (no_edit (ap (are_all is_change) e))
+members_so part (Some m) e =
     by_told (nat_lt node_limit (member_count m)) _ _ (λ many. wrong kind.TooMany (too_many_nodes m e (ltb-true node_limit (member_count m) many)))
     (λ few. by_told (all_members is_change m) _ _ (λ all. is_read _) (λ some. wrong kind.Content (no_edit (ap (are_all is_change) e ∙ some))))
 
-pub flat_edit_so : (state : Option FlatState) (part : Data) → IsSound (Told (change_edit state) part) (read flat_edit part)
+pub flat_edit_so : (part : Data) → IsSound (Told change_edit part) (read flat_edit part)
 unfolding flat_edit_said
-flat_edit_so state part = members_so state part (as_object part) refl
-
-pub edit_so : (state : Option FlatState) (part : Data) → IsSound (Told (change_edit state) part) (edit_at state part)
-unfolding edit_at
-edit_so state part =
-    then_so (read flat_edit part) (λ e. if goes_through state e then Ok e else here kind.NotBuilt) (flat_edit_so state part)
-    (λ e is. by_test (goes_through state e) (Ok e) (here kind.NotBuilt) (λ hold. is_read e) (λ fail. wrong kind.NotBuilt (unbuilt_result e is fail)))
+flat_edit_so part = members_so part (as_object part) refl
 
 -- ---- data
 

@@ -1,5 +1,6 @@
 -- What holds of events that are read, also when their edits have numbers.
-use Rattle.std.proofs.Common.{◌≡◌, ℕ, ◌+◌, List, [], ◌∷◌, length, Ok, refl, arith}
+use Rattle.std.proofs.Common.{◌≡◌, ℕ, zero, suc, ◌+◌, ◌-◌, ◌<◌, List, [], ◌∷◌, length, false, Some, Ok, refl, sym, subst, arith}
+use Rattle.std.specs.Prelude.{slice_get, unwrap_or}
 use Rattle.std.specs.List.{All, sum_by}
 use Rattle.std.proofs.lemmas.List.Elements.{All-nil, All-cons, All-head, All-tail}
 use Rattle.std.proofs.lemmas.List.Sums.{sum_by-append}
@@ -9,13 +10,20 @@ use Rattle.nm_form.specs.Kept.{Holds}
 use Rattle.nm_form.specs.Read.{read}
 use Rattle.nm_form.specs.Says.{Says}
 use Rattle.nm_form.proofs.Exact.{reads}
+use Rattle.nm_proto.specs.declared.message.Request.{Request}
+use Rattle.nm_proto.specs.declared.message.Request.TheVariants.{OpenSession, Lock, Unlock, PartialLock, PartialUnlock, Edit, Validate, Commit, CancelCommit, Discard, HasMark, GetConfig, Kill, CloseSession}
+use Rattle.nm_proto.specs.declared.plan.Event.{Event}
+use Rattle.nm_proto.specs.declared.plan.Event.TheVariants.{Submit, Turn, Deliver, Answer, Break, Lose, Advance, Restart, Forget, Crash, Renew, Foreign, Leave, Round}
 use Rattle.nm_events.specs.declared.arguments.Counts.{Counts}
+use Rattle.nm_events.specs.declared.event.ReadRequest.{ReadRequest}
+use Rattle.nm_events.specs.declared.event.ReadRequest.TheVariants.{Open, Known, WithEdit, WithSelect}
 use Rattle.nm_events.specs.declared.event.ReadEvent.{ReadEvent}
 use Rattle.nm_events.specs.declared.event.ReadEvent.TheVariants.{Other, Asked}
 use Rattle.nm_events.specs.Events.{events_form}
-use Rattle.nm_events.specs.Kept.{EventKeeps, ReadKeeps, EventsKeep, weight, read_weight}
-use Rattle.nm_events.specs.Numbered.{numbered_event, edit_of_event, select_of_event, events_from, edits_of_events}
+use Rattle.nm_events.specs.Kept.{IsWithin, EventKeeps, is_asked, opens, OpensUnsaid, ReadKeeps, EventsKeep, weight, read_weight}
+use Rattle.nm_events.specs.Numbered.{user_of, numbered_request, numbered_event, edit_of_event, select_of_event, events_from, edits_of_events}
 use Rattle.nm_events.proofs.Weights.{events_keep, edits_keep}
+use Rattle.nm_refusals.specs.Kept.{IsOwnOpening, OpensOwn}
 use Rattle.nm_refusals.proofs.Good.{IsGood}
 
 -- the events of a scenario, and what holds of the edits of operators
@@ -37,8 +45,8 @@ events_good edit Q holds c part = record {
 
 numbered_keeps : {E : Type 0} (c : Counts) (users : List (List ℕ)) (n s : ℕ) (event : ReadEvent E) → ReadKeeps c event
     → EventKeeps c (numbered_event users n s event)
-numbered_keeps c users n s (Other event) k = k
-numbered_keeps c users n s (Asked operator device request) k = k
+numbered_keeps c users n s (Other event) k = k.0
+numbered_keeps c users n s (Asked operator device request) k = (k.0, k.1)
 
 numbered_weight : {E : Type 0} (users : List (List ℕ)) (n s : ℕ) (event : ReadEvent E) → weight (numbered_event users n s event) ≡ read_weight event
 numbered_weight users n s (Other event) = refl
@@ -63,3 +71,65 @@ numbered_total users n s (e ∷ es) =
       sum_by-append weight (numbered_event users n s e ∷ []) (events_from users (n + length (edit_of_event e)) (s + length (select_of_event e)) es),
       sum_by-append read_weight (e ∷ []) es,
     )
+
+-- ---- the users of sessions
+
+there : (users : List (List ℕ)) (n : ℕ) → n < length users → slice_get users n ≡ Some (unwrap_or (slice_get users n) [])
+there [] n less = absurd (omega (arith, less))
+there (user ∷ users) zero less = refl
+there (user ∷ users) (suc n) less = there users n (omega (arith, less))
+
+-- a request that opens no session opens none of another user
+opens_none : (users : List (List ℕ)) (operator : ℕ) (request : Request) → opens request ≡ false → IsOwnOpening users operator request
+opens_none users operator (OpenSession user) silent = cc
+opens_none users operator (Lock store) silent = tt
+opens_none users operator (Unlock store) silent = tt
+opens_none users operator (PartialLock select) silent = tt
+opens_none users operator (PartialUnlock id) silent = tt
+opens_none users operator (Edit edit operation marks) silent = tt
+opens_none users operator Validate silent = tt
+opens_none users operator (Commit confirmed timeout persist id) silent = tt
+opens_none users operator (CancelCommit id) silent = tt
+opens_none users operator Discard silent = tt
+opens_none users operator (HasMark change) silent = tt
+opens_none users operator GetConfig silent = tt
+opens_none users operator (Kill session) silent = tt
+opens_none users operator CloseSession silent = tt
+
+request_opens : {E : Type 0} (users : List (List ℕ)) (operator n s : ℕ) (request : ReadRequest E) → IsWithin 1 (length users) operator
+    → OpensUnsaid request → IsOwnOpening users operator (numbered_request (user_of users operator) n s request)
+request_opens users operator n s Open within unsaid = there users (operator - 1) (omega (arith, within.0, within.1))
+request_opens users operator n s (Known request) within unsaid = opens_none users operator request unsaid
+request_opens users operator n s (WithEdit operation edit) within unsaid = tt
+request_opens users operator n s (WithSelect texts) within unsaid = tt
+
+-- nobody opens a session in an event without an operator's request
+unasked : (users : List (List ℕ)) (event : Event) → is_asked event ≡ false → OpensOwn users event
+unasked users (Submit change) silent = tt
+unasked users (Turn change) silent = tt
+unasked users (Deliver change device link) silent = tt
+unasked users (Answer change device link number) silent = tt
+unasked users (Break change device) silent = tt
+unasked users (Lose change device link) silent = tt
+unasked users (Advance device seconds) silent = tt
+unasked users (Restart device) silent = tt
+unasked users (Forget change) silent = tt
+unasked users Crash silent = tt
+unasked users (Renew change device) silent = tt
+unasked users (Foreign operator device request) silent = cc
+unasked users (Leave operator device) silent = tt
+unasked users (Round change turns) silent = tt
+
+numbered_opens : {E : Type 0} (c : Counts) (users : List (List ℕ)) (n s : ℕ) (event : ReadEvent E) → length users ≡ c.operators → ReadKeeps c event
+    → OpensOwn users (numbered_event users n s event)
+numbered_opens c users n s (Other event) are k = unasked users event k.1
+numbered_opens c users n s (Asked operator device request) are k =
+    request_opens users operator n s request (subst (λ m. IsWithin 1 m operator) (sym are) k.0) k.2
+
+pub numbered_own : {E : Type 0} (c : Counts) (users : List (List ℕ)) (n s : ℕ) (events : List (ReadEvent E)) → length users ≡ c.operators
+    → All (ReadKeeps c) events → All (OpensOwn users) (events_from users n s events)
+numbered_own c users n s [] are k = All-nil (OpensOwn users)
+numbered_own c users n s (e ∷ es) are k =
+    All-cons (OpensOwn users) (numbered_event users n s e) (events_from users (n + length (edit_of_event e)) (s + length (select_of_event e)) es)
+    (numbered_opens c users n s e are (All-head (ReadKeeps c) e es k))
+    (numbered_own c users (n + length (edit_of_event e)) (s + length (select_of_event e)) es are (All-tail (ReadKeeps c) e es k))

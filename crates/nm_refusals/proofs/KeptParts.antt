@@ -35,8 +35,8 @@ use Rattle.nm_scenario.specs.declared.scenario.ReadChange.{ReadChange}
 use Rattle.nm_scenario.specs.declared.scenario.ReadEdit.{ReadEdit}
 use Rattle.nm_scenario.specs.Flat.{row_limit, node_limit, key_of, or_unread, member_count, cells_after, cells_at, change_of, is_change, all_members, changes_after, flat_edit_of, flat_edit_said, flat_edit}
 use Rattle.nm_scenario.specs.Devices.{knows_device, valid_only, running_at, device_at, devices_at, rows_from, data_at, yang_device_at, yang_devices_at}
-use Rattle.nm_scenario.specs.Changes.{knows_change, knows_edit, device_of, last_device, device_within, goes_through, edit_at, entry_at, entries_at, change_at, changes_read_at, planned_from, plans_from, edits_of}
-use Rattle.nm_scenario.specs.Operators.{knows_operator, user_limit, user_of, user_at, operator_at, built_beside, operators_at}
+use Rattle.nm_scenario.specs.Changes.{knows_change, knows_edit, device_of, last_device, device_within, entry_at, entries_at, change_at, changes_read_at, planned_from, plans_from, edits_of}
+use Rattle.nm_scenario.specs.Operators.{knows_operator, user_limit, user_of, user_at, operator_at, operators_at}
 use Rattle.nm_refusals.specs.Wrong.{unmarked}
 use Rattle.nm_refusals.specs.Kept.{StateKeeps, EditKeeps, RowsKeep, Ascend, device_of_plan, ChangeKeeps, UserKeeps}
 use Rattle.nm_refusals.proofs.Parts.{Listed, list_read}
@@ -151,12 +151,6 @@ told_good Q (Err cause) q = no_good _
 flat_edit_good : (part : Data) → IsGood EditKeeps (read flat_edit part)
 flat_edit_good part = told_good EditKeeps (flat_edit_said part) (edit_kept part)
 
-edit_good : (state : Option FlatState) (part : Data) → IsGood EditKeeps (edit_at state part)
-unfolding edit_at
-edit_good state part =
-    then_good (read flat_edit part) _
-    (λ x e. test_good (goes_through state x) (Ok x) (here kind.NotBuilt) (λ hold. good EditKeeps x (let g : IsGood EditKeeps (read flat_edit part) = flat_edit_good part in g.so x e)) (λ fail. no_good _))
-
 -- ---- data
 
 tested_rows : (all rows : Rows) (b : Bool) → nat_lt row_limit (len all) ≡ b → cond b (Err TooManyRows) (Ok all) ≡ Ok rows → RowsKeep rows
@@ -211,18 +205,18 @@ pub record EntryKeeps (count last : ℕ) (entry : ReadEdit) : Type 0 where
   pub device : IsWithin (last + 1) count entry.device
   pub edit : EditKeeps entry.edit
 
-entry_good : (states : List FlatState) (before : List ReadEdit) (part : Data) → IsGood (EntryKeeps (length states) (last_device before)) (entry_at states before part)
+entry_good : (devices : ℕ) (before : List ReadEdit) (part : Data) → IsGood (EntryKeeps devices (last_device before)) (entry_at devices before part)
 unfolding entry_at
-entry_good states before part =
+entry_good devices before part =
     then_good (object_at part) _
-    (λ u o. then_good (required (codes "device") (device_within (last_device before + 1) (length states)) part) _
+    (λ u o. then_good (required (codes "device") (device_within (last_device before + 1) devices) part) _
     (λ d e. then_good (optional (codes "default") Merge (read operation) part) _
-    (λ default f. then_good (required (codes "edit") (edit_at (slice_get states (d - 1))) part) _
+    (λ default f. then_good (required (codes "edit") (read flat_edit) part) _
     (λ x g. then_good (only_known knows_edit part) _
-    (λ k h. let in_device : IsGood (IsWithin (last_device before + 1) (length states)) (required (codes "device") (device_within (last_device before + 1) (length states)) part) =
-    required_good (codes "device") (device_within (last_device before + 1) (length states)) part (device_within_good (last_device before + 1) (length states)) in
-    let in_edit : IsGood EditKeeps (required (codes "edit") (edit_at (slice_get states (d - 1))) part) = required_good (codes "edit") (edit_at (slice_get states (d - 1))) part (edit_good (slice_get states (d - 1))) in
-    good (EntryKeeps (length states) (last_device before)) _ (record { device = in_device.so d e; edit = in_edit.so x g }))))))
+    (λ k h. let in_device : IsGood (IsWithin (last_device before + 1) devices) (required (codes "device") (device_within (last_device before + 1) devices) part) =
+    required_good (codes "device") (device_within (last_device before + 1) devices) part (device_within_good (last_device before + 1) devices) in
+    let in_edit : IsGood EditKeeps (required (codes "edit") (read flat_edit) part) = required_good (codes "edit") (read flat_edit) part flat_edit_good in
+    good (EntryKeeps devices (last_device before)) _ (record { device = in_device.so d e; edit = in_edit.so x g }))))))
 
 abbrev device_in : ReadEdit → ℕ
 device_in entry = entry.device
@@ -252,22 +246,22 @@ pub record EntriesKeep (count : ℕ) (es : List ReadEdit) : Type 0 where
   pub ascending : Ascend 0 count (map device_in es)
   pub edits : All edit_in es
 
-entries_more : (states : List FlatState) (before : List ReadEdit) (part : Data) (x : ReadEdit) → EntriesKeep (length states) before → entry_at states before part ≡ Ok x → EntriesKeep (length states) (before ++ x ∷ [])
-entries_more states before part x k e =
-    let g : IsGood (EntryKeeps (length states) (last_device before)) (entry_at states before part) = entry_good states before part in
-    let is : EntryKeeps (length states) (last_device before) x = g.so x e in
+entries_more : (devices : ℕ) (before : List ReadEdit) (part : Data) (x : ReadEdit) → EntriesKeep devices before → entry_at devices before part ≡ Ok x → EntriesKeep devices (before ++ x ∷ [])
+entries_more devices before part x k e =
+    let g : IsGood (EntryKeeps devices (last_device before)) (entry_at devices before part) = entry_good devices before part in
+    let is : EntryKeeps devices (last_device before) x = g.so x e in
     record {
-      ascending = ascend_pushed 0 (length states) before x k.ascending (subst (λ n. IsWithin (n + 1) (length states) x.device) (sym (last_is before)) is.device);
+      ascending = ascend_pushed 0 devices before x k.ascending (subst (λ n. IsWithin (n + 1) devices x.device) (sym (last_is before)) is.device);
       edits = All-append edit_in before (x ∷ []) k.edits (All-cons edit_in x [] is.edit (All-nil edit_in));
     }
 
-entries_good : (states : List FlatState) (part : Data) → IsGood (λ es. EntriesKeep (length states) es × (1 ≤ length es)) (entries_at states part)
+entries_good : (devices : ℕ) (part : Data) → IsGood (λ es. EntriesKeep devices es × (1 ≤ length es)) (entries_at devices part)
 unfolding entries_at
-entries_good states part =
-    then_good (list_at (2 ^ 64 - 1) (entry_at states) part) some_of
-    (λ xs e. let g : IsGood (EntriesKeep (length states)) (list_at (2 ^ 64 - 1) (entry_at states) part) =
-    list_good (EntriesKeep (length states)) (2 ^ 64 - 1) (entry_at states) (λ before child x k f. entries_more states before child x k f) (record { ascending = tt; edits = All-nil edit_in }) part in
-    some_good (EntriesKeep (length states)) xs (g.so xs e))
+entries_good devices part =
+    then_good (list_at (2 ^ 64 - 1) (entry_at devices) part) some_of
+    (λ xs e. let g : IsGood (EntriesKeep devices) (list_at (2 ^ 64 - 1) (entry_at devices) part) =
+    list_good (EntriesKeep devices) (2 ^ 64 - 1) (entry_at devices) (λ before child x k f. entries_more devices before child x k f) (record { ascending = tt; edits = All-nil edit_in }) part in
+    some_good (EntriesKeep devices) xs (g.so xs e))
 
 -- a change set that was read, in a scenario of so many devices
 pub record ReadKeeps (count : ℕ) (change : ReadChange) : Type 0 where
@@ -275,25 +269,24 @@ pub record ReadKeeps (count : ℕ) (change : ReadChange) : Type 0 where
   pub entries : EntriesKeep count change.edits
   pub some : 1 ≤ length change.edits
 
-change_good : (states : List FlatState) (before : List ReadChange) (part : Data) → IsGood (ReadKeeps (length states)) (change_at states before part)
+change_good : (devices : ℕ) (before : List ReadChange) (part : Data) → IsGood (ReadKeeps devices) (change_at devices before part)
 unfolding change_at
-change_good states (other ∷ others) part = no_good _
-change_good states [] part =
+change_good devices before part =
     then_good (object_at part) _
     (λ u o. then_good (optional (codes "timeout") default_timeout (number_within 1 (2 ^ 32 - 1)) part) _
-    (λ timeout e. then_good (required (codes "edits") (entries_at states) part) _
+    (λ timeout e. then_good (required (codes "edits") (entries_at devices) part) _
     (λ edits f. then_good (only_known knows_change part) _
     (λ k g. let in_timeout : IsGood (IsWithin 1 (2 ^ 32 - 1)) (optional (codes "timeout") default_timeout (number_within 1 (2 ^ 32 - 1)) part) =
     optional_good (codes "timeout") default_timeout (number_within 1 (2 ^ 32 - 1)) part (omega arith, omega arith) timeout_good in
-    let in_edits : IsGood (λ es. EntriesKeep (length states) es × (1 ≤ length es)) (required (codes "edits") (entries_at states) part) = required_good (codes "edits") (entries_at states) part (entries_good states) in
-    let is : EntriesKeep (length states) edits × (1 ≤ length edits) = in_edits.so edits f in
-    good (ReadKeeps (length states)) (record { timeout = timeout; edits = edits }) (record { timeout = in_timeout.so timeout e; entries = is.0; some = is.1 })))))
+    let in_edits : IsGood (λ es. EntriesKeep devices es × (1 ≤ length es)) (required (codes "edits") (entries_at devices) part) = required_good (codes "edits") (entries_at devices) part (entries_good devices) in
+    let is : EntriesKeep devices edits × (1 ≤ length edits) = in_edits.so edits f in
+    good (ReadKeeps devices) (record { timeout = timeout; edits = edits }) (record { timeout = in_timeout.so timeout e; entries = is.0; some = is.1 })))))
 
-pub changes_read_good : (states : List FlatState) (part : Data) → IsGood (λ cs. All (ReadKeeps (length states)) cs × (length cs ≤ change_limit)) (changes_read_at states part)
+pub changes_read_good : (devices : ℕ) (part : Data) → IsGood (λ cs. All (ReadKeeps devices) cs × (length cs ≤ change_limit)) (changes_read_at devices part)
 unfolding changes_read_at
-changes_read_good states part =
-    let g : IsGood (All (ReadKeeps (length states))) (list_at change_limit (change_at states) part) = each_good (ReadKeeps (length states)) change_limit (change_at states) (change_good states) part in
-    record { so = λ cs e. (g.so cs e, let l : Listed part change_limit cs = list_read part change_limit (change_at states) cs e in l.within) }
+changes_read_good devices part =
+    let g : IsGood (All (ReadKeeps devices)) (list_at change_limit (change_at devices) part) = each_good (ReadKeeps devices) change_limit (change_at devices) (change_good devices) part in
+    record { so = λ cs e. (g.so cs e, let l : Listed part change_limit cs = list_read part change_limit (change_at devices) cs e in l.within) }
 
 -- ---- the plans of change sets, and their edits
 
@@ -351,9 +344,8 @@ operator_good before part =
     (λ script f. then_good (only_known knows_operator part) _
     (λ k g. good UserKeeps user (let in_user : IsGood UserKeeps (required (codes "user") user_at part) = required_good (codes "user") user_at part user_good in in_user.so user e)))))
 
-pub operators_good : (count : ℕ) (part : Data) → IsGood (λ users. All UserKeeps users × (length users ≤ operator_limit)) (operators_at count part)
+pub operators_good : (part : Data) → IsGood (λ users. All UserKeeps users × (length users ≤ operator_limit)) (operators_at part)
 unfolding operators_at
-operators_good count part =
-    then_good (built_beside count part) _
-    (λ u b. let g : IsGood (All UserKeeps) (list_at operator_limit operator_at part) = each_good UserKeeps operator_limit operator_at operator_good part in
-    record { so = λ users e. (g.so users e, let l : Listed part operator_limit users = list_read part operator_limit operator_at users e in l.within) })
+operators_good part =
+    let g : IsGood (All UserKeeps) (list_at operator_limit operator_at part) = each_good UserKeeps operator_limit operator_at operator_good part in
+    record { so = λ users e. (g.so users e, let l : Listed part operator_limit users = list_read part operator_limit operator_at users e in l.within) }

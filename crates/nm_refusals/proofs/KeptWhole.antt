@@ -13,7 +13,7 @@ use Rattle.nm_flaws.specs.declared.fault.Fault.{Fault as SchemaFault}
 use Rattle.nm_flaws.specs.declared.fault.Fault.TheVariants.{Flawed, TooLarge}
 use Rattle.nm_proto.specs.declared.kind.ScenarioKind.TheVariants as kind
 use Rattle.nm_reading.specs.declared.fault.Fault.{Fault}
-use Rattle.nm_reading.specs.Reading.{here, required, optional, object_at, number_within, only_known, empty_list_at, off_at, switch_at}
+use Rattle.nm_reading.specs.Reading.{here, required, optional, object_at, number_within, only_known, empty_list_at, switch_at}
 use Rattle.nm_events.specs.Limits.{change_limit, operator_limit}
 use Rattle.nm_form.specs.Form.{Form as PartForm, not_built}
 use Rattle.nm_form.specs.Read.{read}
@@ -41,7 +41,7 @@ use Rattle.nm_refusals.specs.Kept.{StateKeeps, EditKeeps, RowsKeep, ChangeKeeps,
 use Rattle.nm_refusals.proofs.Parts.{Listed, list_read}
 use Rattle.nm_refusals.proofs.Good.{IsGood, good, no_good, then_good, required_good, optional_good}
 use Rattle.nm_refusals.proofs.KeptParts.{ReadKeeps, DevicesKeep, devices_good, yang_devices_good, changes_read_good, plans_keep, plans_length, edits_keep, operators_good, flat_edits_hold}
-use Rattle.nm_refusals.proofs.KeptEvents.{EventsAre, no_events, events_good, numbered_all, numbered_total}
+use Rattle.nm_refusals.proofs.KeptEvents.{EventsAre, no_events, events_good, numbered_all, numbered_own, numbered_total}
 use Rattle.nm_refusals.proofs.Rests.{operators_read, count_required, count_optional}
 use Rattle.nm_refusals.proofs.Wholes.{devices_count, changes_count, yang_devices_count, no_items}
 
@@ -55,20 +55,20 @@ pub record RestKeeps {E : Type 0} (Q : E → Type 0) (c : Counts) (rest : Rest E
 rest_good : {E : Type 0} (edit : PartForm E) (Q : E → Type 0) → Holds edit Q → (whole : Data) → IsGood (RestKeeps Q (counts_of whole)) (rest_at edit whole)
 unfolding rest_at
 rest_good edit Q holds whole =
-    then_good (optional (codes "operators") [] (operators_at (count_in (codes "changes") whole)) whole) _
+    then_good (optional (codes "operators") [] operators_at whole) _
     (λ users e. then_good (optional (codes "faults") tt (empty_list_at (here kind.NotBuilt)) whole) _
     (λ faults f. then_good (optional (codes "events") [] (read (events_form edit (counts_of whole))) whole) _
-    (λ events g. then_good (optional (codes "drain") tt off_at whole) _
+    (λ events g. then_good (optional (codes "drain") false switch_at whole) _
     (λ drain h. then_good (optional (codes "trace") false switch_at whole) _
     (λ trace i. then_good (only_known knows_scenario whole) _
-    (λ k j. let in_users : IsGood (λ us. All UserKeeps us × (length us ≤ operator_limit)) (optional (codes "operators") [] (operators_at (count_in (codes "changes") whole)) whole) =
-    optional_good (codes "operators") [] (operators_at (count_in (codes "changes") whole)) whole (All-nil UserKeeps, omega arith) (operators_good (count_in (codes "changes") whole)) in
+    (λ k j. let in_users : IsGood (λ us. All UserKeeps us × (length us ≤ operator_limit)) (optional (codes "operators") [] operators_at whole) =
+    optional_good (codes "operators") [] operators_at whole (All-nil UserKeeps, omega arith) operators_good in
     let in_events : IsGood (EventsAre Q (counts_of whole)) (optional (codes "events") [] (read (events_form edit (counts_of whole))) whole) =
     optional_good (codes "events") [] (read (events_form edit (counts_of whole))) whole (no_events Q (counts_of whole)) (events_good edit Q holds (counts_of whole)) in
     let is : All UserKeeps users × (length users ≤ operator_limit) = in_users.so users e in
-    let are : length users ≡ count_in (codes "operators") whole = count_optional (codes "operators") (operators_at (count_in (codes "changes") whole)) whole users
-    (λ part xs l. let listed : Listed part operator_limit xs = operators_read (count_in (codes "changes") whole) part xs l in listed.count) e in
-    good (RestKeeps Q (counts_of whole)) (record { operators = users; events = events; trace = trace })
+    let are : length users ≡ count_in (codes "operators") whole = count_optional (codes "operators") operators_at whole users
+    (λ part xs l. let listed : Listed part operator_limit xs = operators_read part xs l in listed.count) e in
+    good (RestKeeps Q (counts_of whole)) (record { operators = users; events = events; drain = drain; trace = trace })
     (record { count = is.1; operators = is.0; operators_are = are; events = in_events.so events g })))))))
 
 abbrev counts : ℕ → ℕ → ℕ → Counts
@@ -95,6 +95,7 @@ flat_keeps c states changes rest are d k few r =
       event_count = omega (arith, kept.weigh, numbered_total rest.operators (length (edits_of changes)) 0 rest.events);
       events = subst (λ n. All (EventKeeps n) (events_from rest.operators (length (edits_of changes)) 0 rest.events)) are
           (numbered_all c rest.operators (length (edits_of changes)) 0 rest.events kept.keep);
+      openings = numbered_own c rest.operators (length (edits_of changes)) 0 rest.events r.operators_are kept.keep;
     }
 
 flat_good : (whole : Data) → IsGood ScenarioKeeps (flat_scenario_at whole)
@@ -102,18 +103,20 @@ unfolding flat_scenario_at
 flat_good whole =
     then_good (optional (codes "modules") tt (empty_list_at (here kind.BadValue)) whole) _
     (λ modules e. then_good (required (codes "devices") devices_at whole) _
-    (λ states f. then_good (optional (codes "changes") [] (changes_read_at states) whole) _
+    (λ states f. then_good (optional (codes "changes") [] (changes_read_at (count_in (codes "devices") whole)) whole) _
     (λ changes g. then_good (rest_at flat_edit whole) _
     (λ rest h. let in_states : IsGood (DevicesKeep StateKeeps) (required (codes "devices") devices_at whole) = required_good (codes "devices") devices_at whole devices_good in
-    let in_changes : IsGood (λ cs. All (ReadKeeps (length states)) cs × (length cs ≤ change_limit)) (optional (codes "changes") [] (changes_read_at states) whole) =
-    optional_good (codes "changes") [] (changes_read_at states) whole (All-nil (ReadKeeps (length states)), omega arith) (changes_read_good states) in
+    let there : length states ≡ count_in (codes "devices") whole = count_required (codes "devices") devices_at whole states devices_count f in
+    let in_changes : IsGood (λ cs. All (ReadKeeps (count_in (codes "devices") whole)) cs × (length cs ≤ change_limit)) (optional (codes "changes") [] (changes_read_at (count_in (codes "devices") whole)) whole) =
+    optional_good (codes "changes") [] (changes_read_at (count_in (codes "devices") whole)) whole (All-nil (ReadKeeps (count_in (codes "devices") whole)), omega arith) (changes_read_good (count_in (codes "devices") whole)) in
     let in_rest : IsGood (RestKeeps EditKeeps (counts_of whole)) (rest_at flat_edit whole) = rest_good flat_edit EditKeeps flat_edits_hold whole in
-    let is : All (ReadKeeps (length states)) changes × (length changes ≤ change_limit) = in_changes.so changes g in
+    let is : All (ReadKeeps (count_in (codes "devices") whole)) changes × (length changes ≤ change_limit) = in_changes.so changes g in
     let r : RestKeeps EditKeeps (counts_of whole) rest = in_rest.so rest h in
     let are : counts_of whole ≡ counts_in (flat_scenario states changes rest) = counts_are _ _ _ _ _ _
-    (sym (plans_length 0 changes ∙ count_optional (codes "changes") (changes_read_at states) whole changes (changes_count states) g))
-    (sym (count_required (codes "devices") devices_at whole states devices_count f)) (sym r.operators_are) in
-    good ScenarioKeeps (flat_scenario states changes rest) (flat_keeps (counts_of whole) states changes rest are (in_states.so states f) is.0 is.1 r)))))
+    (sym (plans_length 0 changes ∙ count_optional (codes "changes") (changes_read_at (count_in (codes "devices") whole)) whole changes (changes_count (count_in (codes "devices") whole)) g))
+    (sym there) (sym r.operators_are) in
+    good ScenarioKeeps (flat_scenario states changes rest)
+    (flat_keeps (counts_of whole) states changes rest are (in_states.so states f) (subst (λ n. All (ReadKeeps n) changes) (sym there) is.0) is.1 r)))))
 
 -- ---- YANG contents
 
@@ -134,6 +137,7 @@ yang_keeps c texts tree devices rest are few d r =
       operators = r.operators;
       event_count = omega (arith, kept.weigh, numbered_total rest.operators 0 0 rest.events);
       events = subst (λ n. All (EventKeeps n) (events_from rest.operators 0 0 rest.events)) are (numbered_all c rest.operators 0 0 rest.events kept.keep);
+      openings = numbered_own c rest.operators 0 0 rest.events r.operators_are kept.keep;
     }
 
 yang_good : (tree : SchemaTree) (texts : List (List ℕ)) (whole : Data) → length texts ≤ module_limit → IsGood ScenarioKeeps (yang_rest_at tree texts whole)

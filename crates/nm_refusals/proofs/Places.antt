@@ -100,7 +100,7 @@ own (wrong.no_object a b) = refl
 own (wrong.no_list a b) = refl
 own (wrong.no_item a b) = refl
 own (wrong.no_number a) = refl
-own (wrong.no_switch a b) = refl
+own (wrong.no_switch a) = refl
 own (wrong.no_form a) = refl
 own (wrong.no_text a) = refl
 own (wrong.no_operation a b) = refl
@@ -116,12 +116,8 @@ own (wrong.no_edit a) = refl
 own (wrong.no_data k path a) = refl
 own (wrong.invalid found refusal a b) = refl
 own (wrong.unbuilt_form a) = refl
-own wrong.unbuilt_change = refl
 own (wrong.unbuilt_operation a) = refl
-own (wrong.unbuilt_result edit a b) = refl
-own (wrong.unbuilt_beside a b) = refl
 own (wrong.unbuilt_list a) = refl
-own (wrong.unbuilt_on a) = refl
 
 -- what lacks a member one step further in
 below_lacks : (part child : Data) (step : Step) (place : List Step) → stepped step part ≡ Some child → LacksMember child place → LacksMember part (step ∷ place)

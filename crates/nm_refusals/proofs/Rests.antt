@@ -1,14 +1,14 @@
 -- What is told of operators, and of what both contents have.
-use Rattle.std.proofs.Common.{◌≡◌, ℕ, List, [], ◌∷◌, length, Bool, true, false, Option, Some, None, Result, Ok, Err, codes, refl, ap, sym, ◌∙◌}
-use Rattle.std.specs.Prelude.{if◌then◌else◌, ◌&&◌, ◌==◌, nat_le, not}
+use Rattle.std.proofs.Common.{◌≡◌, ℕ, List, [], ◌∷◌, length, Bool, false, Option, Some, None, Result, Ok, Err, codes, refl, ap, sym, ◌∙◌}
+use Rattle.std.specs.Prelude.{if◌then◌else◌, ◌&&◌, nat_le, not}
 use Rattle.std.specs.Str.{bytes_eq}
-use Rattle.serde_json.specs.Data.{Data, null, boolean, number, string, array, object}
+use Rattle.serde_json.specs.Data.{Data}
 use Rattle.serde_json.specs.Find.{get, as_bool, as_str}
 use Rattle.nm_base.specs.Words.{manager}
 use Rattle.nm_proto.specs.declared.kind.ScenarioKind.TheVariants as kind
 use Rattle.nm_reading.specs.declared.fault.Step.TheVariants.{Name}
 use Rattle.nm_reading.specs.declared.fault.Fault.{Fault}
-use Rattle.nm_reading.specs.Reading.{here, under, required_from, required, optional_from, optional, object_at, only_known, count_of, some_of, empty_list_at, off_of, off_at, switch_of, switch_at}
+use Rattle.nm_reading.specs.Reading.{here, under, required_from, required, optional_from, optional, object_at, only_known, some_of, empty_list_at, switch_of, switch_at}
 use Rattle.nm_reading.specs.Words.{item_count}
 use Rattle.nm_events.specs.Limits.{operator_limit}
 use Rattle.nm_form.specs.Form.{Form}
@@ -16,7 +16,7 @@ use Rattle.nm_form.specs.Read.{read}
 use Rattle.nm_form.specs.Exact.{IsFirstOf}
 use Rattle.nm_events.specs.declared.arguments.Counts.{Counts}
 use Rattle.nm_events.specs.Events.{events_form}
-use Rattle.nm_scenario.specs.Operators.{user_limit, knows_operator, user_of, user_at, operator_at, built_beside, operators_at}
+use Rattle.nm_scenario.specs.Operators.{user_limit, knows_operator, user_of, user_at, operator_at, operators_at}
 use Rattle.nm_scenario.specs.Scenario.{knows_scenario, rest_at}
 use Rattle.nm_refusals.specs.Roles as role
 use Rattle.nm_refusals.specs.Roles.{Frame}
@@ -24,7 +24,7 @@ use Rattle.nm_refusals.specs.Members as must
 use Rattle.nm_refusals.specs.Steps as step
 use Rattle.nm_scenario.specs.Counts.{items_of, count_in, counts_of}
 use Rattle.nm_refusals.specs.Steps.{edits_in}
-use Rattle.nm_refusals.specs.Wrong.{is_user, no_list, no_user, no_switch, unbuilt_beside, unbuilt_on}
+use Rattle.nm_refusals.specs.Wrong.{is_user, no_user, no_switch}
 use Rattle.nm_refusals.specs.Told.{Told, OfEvents}
 use Rattle.nm_refusals.proofs.Sound.{IsSound, is_read, then_so, by_test, both}
 use Rattle.nm_refusals.proofs.Parts.{wrong, IsObject, object_is, object_so, required_so, optional_so, known_so, each_so, Listed, list_read, nothing_so}
@@ -53,38 +53,18 @@ operator_so before part =
     (optional_so role.operator part (codes "script") role.nothing tt (empty_list_at (here kind.NotBuilt)) step.script (λ child f. nothing_so child))
     (λ script f. then_so (only_known knows_operator part) _ (known_so role.operator part (object_is part u o)) (λ k g. is_read user))))
 
-beside_so : (count : ℕ) (part : Data) → (count == 0) ≡ false → IsSound (Told (role.operators count) part) (empty_list_at (here kind.NotBuilt) part)
-unfolding empty_list_at
-beside_so count (array items) is = by_test (count_of items == 0) (Ok tt) (here kind.NotBuilt) (λ hold. is_read tt) (λ fail. wrong kind.NotBuilt (unbuilt_beside is fail))
-beside_so count null is = wrong kind.BadValue (no_list refl refl)
-beside_so count (boolean b) is = wrong kind.BadValue (no_list refl refl)
-beside_so count (number n) is = wrong kind.BadValue (no_list refl refl)
-beside_so count (string text) is = wrong kind.BadValue (no_list refl refl)
-beside_so count (object m) is = wrong kind.BadValue (no_list refl refl)
-
-operators_so : (count : ℕ) (part : Data) → IsSound (Told (role.operators count) part) (operators_at count part)
+operators_so : (part : Data) → IsSound (Told role.operators part) (operators_at part)
 unfolding operators_at
-operators_so count part =
-    then_so (built_beside count part) _ (by_test (count == 0) (Ok tt) (empty_list_at (here kind.NotBuilt) part) (λ hold. is_read tt) (λ fail. beside_so count part fail))
-    (λ u e. each_so (role.operators count) part operator_limit operator_at refl refl role.operator (λ n. step.one_operator) operator_so)
+operators_so part = each_so role.operators part operator_limit operator_at refl refl role.operator (λ n. step.one_operator) operator_so
 
-pub operators_read : (count : ℕ) (part : Data) (users : List (List ℕ)) → operators_at count part ≡ Ok users → Listed part operator_limit users
+pub operators_read : (part : Data) (users : List (List ℕ)) → operators_at part ≡ Ok users → Listed part operator_limit users
 unfolding operators_at
-operators_read count part users e = let b = both (built_beside count part) _ users e in list_read part operator_limit operator_at users b.rest
+operators_read part users e = list_read part operator_limit operator_at users e
 
 -- ---- switches
 
-off_or : (part : Data) (on : Option Bool) → as_bool part ≡ on → IsSound (Told role.off part) (off_of on)
-off_or part None e = wrong kind.BadValue (no_switch refl e)
-off_or part (Some true) e = wrong kind.NotBuilt (unbuilt_on e)
-off_or part (Some false) e = is_read tt
-
-off_so : (part : Data) → IsSound (Told role.off part) (off_at part)
-unfolding off_at
-off_so part = off_or part (as_bool part) refl
-
 switch_or : (part : Data) (on : Option Bool) → as_bool part ≡ on → IsSound (Told role.switch part) (switch_of on)
-switch_or part None e = wrong kind.BadValue (no_switch refl e)
+switch_or part None e = wrong kind.BadValue (no_switch e)
 switch_or part (Some on) e = is_read on
 
 switch_so : (part : Data) → IsSound (Told role.switch part) (switch_at part)
@@ -129,13 +109,13 @@ pub rest_so : {E : Type 0} (built : Bool) (frame : Frame) (edit : Form E)
     → (whole : Data) → IsObject whole → IsSound (Told (role.scenario built frame) whole) (rest_at edit whole)
 unfolding rest_at
 rest_so built frame edit so whole o =
-    then_so (optional (codes "operators") [] (operators_at (count_in (codes "changes") whole)) whole) _
-    (optional_so (role.scenario built frame) whole (codes "operators") (role.operators (count_in (codes "changes") whole)) [] (operators_at (count_in (codes "changes") whole)) step.all_operators (λ child e. operators_so (count_in (codes "changes") whole) child))
+    then_so (optional (codes "operators") [] operators_at whole) _
+    (optional_so (role.scenario built frame) whole (codes "operators") role.operators [] operators_at step.all_operators (λ child e. operators_so child))
     (λ users e. then_so (optional (codes "faults") tt (empty_list_at (here kind.NotBuilt)) whole) _
     (optional_so (role.scenario built frame) whole (codes "faults") role.nothing tt (empty_list_at (here kind.NotBuilt)) step.faults (λ child f. nothing_so child))
     (λ faults f. then_so (optional (codes "events") [] (read (events_form edit (counts_of whole))) whole) _
     (optional_so (role.scenario built frame) whole (codes "events") (role.events (edits_in frame) (counts_of whole)) [] (read (events_form edit (counts_of whole))) step.all_events
     (λ child g. events_so (edits_in frame) edit so (counts_of whole) child))
-    (λ events g. then_so (optional (codes "drain") tt off_at whole) _ (optional_so (role.scenario built frame) whole (codes "drain") role.off tt off_at step.drain (λ child h. off_so child))
+    (λ events g. then_so (optional (codes "drain") false switch_at whole) _ (optional_so (role.scenario built frame) whole (codes "drain") role.switch false switch_at step.drain (λ child h. switch_so child))
     (λ drain h. then_so (optional (codes "trace") false switch_at whole) _ (optional_so (role.scenario built frame) whole (codes "trace") role.switch false switch_at step.trace (λ child i. switch_so child))
     (λ trace i. then_so (only_known knows_scenario whole) _ (known_so (role.scenario built frame) whole o) (λ k j. is_read _))))))

@@ -34,7 +34,7 @@ use Rattle.nm_refusals.specs.Roles as role
 use Rattle.nm_refusals.specs.Roles.{Frame, unread, flat, yang, with_tree, cells, data_of}
 use Rattle.nm_refusals.specs.Members as must
 use Rattle.nm_refusals.specs.Steps as step
-use Rattle.nm_scenario.specs.Counts.{items_of}
+use Rattle.nm_scenario.specs.Counts.{items_of, count_in}
 use Rattle.nm_refusals.specs.Wrong.{says, unbuilt_form}
 use Rattle.nm_refusals.specs.Told.{Told, Gives, IsFrame, in_part, in_module, ToldOfWhole, too_long, not_json, in_whole, ToldOfBytes}
 use Rattle.nm_refusals.proofs.Sound.{IsSound, is_read, is_told, then_so, by_test, both}
@@ -49,9 +49,9 @@ pub devices_count : (part : Data) (states : List FlatState) → devices_at part 
 unfolding devices_at
 devices_count part states e = let b = both (list_at device_limit device_at part) some_of states e in some_count part device_limit b.value states (list_read part device_limit device_at b.value b.first) b.rest
 
-pub changes_count : (states : List FlatState) (part : Data) (changes : List ReadChange) → changes_read_at states part ≡ Ok changes → length changes ≡ item_count part
+pub changes_count : (devices : ℕ) (part : Data) (changes : List ReadChange) → changes_read_at devices part ≡ Ok changes → length changes ≡ item_count part
 unfolding changes_read_at
-changes_count states part changes e = let l : Listed part change_limit changes = list_read part change_limit (change_at states) changes e in l.count
+changes_count devices part changes e = let l : Listed part change_limit changes = list_read part change_limit (change_at devices) changes e in l.count
 
 flat_so : (built : Bool) (whole : Data) → IsObject whole → IsSound (Told (role.scenario built flat) whole) (flat_scenario_at whole)
 unfolding flat_scenario_at
@@ -60,8 +60,9 @@ flat_so built whole o =
     (optional_so (role.scenario built flat) whole (codes "modules") role.no_modules tt (empty_list_at (here kind.BadValue)) step.no_modules (λ child e. no_modules_so child))
     (λ modules e. then_so (required (codes "devices") devices_at whole) _
     (required_so (role.scenario built flat) whole (codes "devices") (role.devices cells) devices_at o must.all_devices step.flat_devices (λ child f. devices_so child))
-    (λ states f. then_so (optional (codes "changes") [] (changes_read_at states) whole) _
-    (optional_so (role.scenario built flat) whole (codes "changes") (role.changes states) [] (changes_read_at states) (step.all_changes states f) (λ child g. changes_so states child))
+    (λ states f. then_so (optional (codes "changes") [] (changes_read_at (count_in (codes "devices") whole)) whole) _
+    (optional_so (role.scenario built flat) whole (codes "changes") (role.changes (count_in (codes "devices") whole)) [] (changes_read_at (count_in (codes "devices") whole))
+    step.all_changes (λ child g. changes_so (count_in (codes "devices") whole) child))
     (λ changes g. then_so (rest_at flat_edit whole) _ (rest_so built flat flat_edit (λ counts part fault is. is) whole o)
     (λ rest h. is_read _))))
 

@@ -1,9 +1,13 @@
 -- What holds of every scenario that was read (this project's own): no count is outside its limits, and no number of a change set, a
--- device, an operator or a turn.
-use Rattle.std.specs.Prelude.{◌≡◌, ℕ, ◌-◌, ◌*◌, ◌^◌, ◌≤◌, ◌<◌, List, [], ◌∷◌, length, map, true, Some, None}
+-- device, an operator or a turn; and operators open sessions of their own users.
+use Rattle.std.specs.Prelude.{◌≡◌, ℕ, ◌-◌, ◌*◌, ◌^◌, ◌≤◌, ◌<◌, List, [], ◌∷◌, length, map, slice_get, true, Some, None}
 use Rattle.std.specs.List.{All, sum_by}
 use Rattle.std.specs.FinMap.{empty, len}
 use Rattle.nm_proto.specs.declared.flat.FlatEdit.{FlatEdit}
+use Rattle.nm_proto.specs.declared.message.Request.{Request}
+use Rattle.nm_proto.specs.declared.message.Request.TheVariants.{OpenSession}
+use Rattle.nm_proto.specs.declared.plan.Event.{Event}
+use Rattle.nm_proto.specs.declared.plan.Event.TheVariants.{Foreign}
 use Rattle.nm_proto.specs.declared.plan.ChangePlan.{ChangePlan}
 use Rattle.nm_proto.specs.declared.plan.PlannedEdit.{PlannedEdit}
 use Rattle.nm_proto.specs.Flat.{FlatState, flat_violation}
@@ -63,6 +67,16 @@ pub record ChangeKeeps (devices : ℕ) (change : ChangePlan) : Type 0 where
 abbrev pub UserKeeps : List ℕ → Type 0
 UserKeeps name = is_user (Some name) ≡ true
 
+-- a request of an operator, of those with these users, opens a session of that operator's user alone
+abbrev pub IsOwnOpening : List (List ℕ) → ℕ → Request → Type 0
+IsOwnOpening users operator (OpenSession user) = slice_get users (operator - 1) ≡ Some user
+IsOwnOpening users operator _ = Unit {0}
+
+-- so does an event, if an operator asks in it
+abbrev pub OpensOwn : List (List ℕ) → Event → Type 0
+OpensOwn users (Foreign operator device request) = IsOwnOpening users operator request
+OpensOwn users _ = Unit {0}
+
 -- how many change sets, devices and operators there are
 abbrev pub counts_in : Scenario → Counts
 counts_in scenario =
@@ -77,3 +91,4 @@ pub record ScenarioKeeps (scenario : Scenario) : Type 0 where
   pub operators : All UserKeeps scenario.operators
   pub event_count : sum_by weight scenario.events ≤ event_limit
   pub events : All (EventKeeps (counts_in scenario)) scenario.events
+  pub openings : All (OpensOwn scenario.operators) scenario.events

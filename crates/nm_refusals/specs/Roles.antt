@@ -1,6 +1,5 @@
 -- What stands where in a scenario (this project's own): the role of each part.
-use Rattle.std.specs.Prelude.{ℕ, List, Bool, Option}
-use Rattle.nm_proto.specs.Flat.{FlatState}
+use Rattle.std.specs.Prelude.{ℕ, Bool}
 use Rattle.nm_tree.specs.Nodes.{SchemaTree}
 use Rattle.nm_events.specs.declared.arguments.Counts.{Counts}
 
@@ -32,19 +31,16 @@ pub data Role : Type 0 where
   devices : Contents → Role
   device : Contents → Role
   running : Contents → Role
-  -- the change sets of a scenario with these running configurations
-  changes : List FlatState → Role
-  change : List FlatState → Role
-  -- a change set after the first
-  later_change : Role
-  entries : List FlatState → Role
-  -- an edit of a change set, of a device of this number or above
-  entry : List FlatState → ℕ → Role
-  -- the edit of a device that has this running configuration
-  change_edit : Option FlatState → Role
+  -- the change sets of a scenario of so many devices
+  changes : ℕ → Role
+  change : ℕ → Role
+  entries : ℕ → Role
+  -- an edit of a change set, with its device: of so many, and of this number or above
+  entry : ℕ → ℕ → Role
+  -- what it changes
+  change_edit : Role
   operation : Role
-  -- the operators beside so many change sets
-  operators : ℕ → Role
+  operators : Role
   operator : Role
   user : Role
   -- the events, which have a table of their own
@@ -55,6 +51,4 @@ pub data Role : Type 0 where
   no_modules : Role
   -- a list that isn't built but where it is empty
   nothing : Role
-  -- a switch that is built in its position off alone
-  off : Role
   switch : Role

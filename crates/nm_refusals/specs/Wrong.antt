@@ -8,7 +8,6 @@ use Rattle.serde_json.specs.Find.{as_bool, as_str, as_array, as_object}
 use Rattle.nm_base.specs.Words.{manager}
 use Rattle.nm_yang.specs.Module.{reading}
 use Rattle.nm_yang.specs.declared.fault.Fault.{Fault as TextFault}
-use Rattle.nm_proto.specs.declared.flat.FlatEdit.{FlatEdit}
 use Rattle.nm_proto.specs.Content.{Refusal}
 use Rattle.nm_proto.specs.Flat.{FlatState, flat_violation}
 use Rattle.nm_tree.specs.Nodes.{SchemaTree}
@@ -19,12 +18,10 @@ use Rattle.nm_proto.specs.declared.kind.ScenarioKind.{ScenarioKind}
 use Rattle.nm_proto.specs.declared.kind.ScenarioKind.TheVariants as kind
 use Rattle.nm_reading.specs.Reading.{natural_of}
 use Rattle.nm_reading.specs.Words.{item_count}
-use Rattle.nm_form.specs.Read.{read}
 use Rattle.nm_events.specs.Limits.{device_limit, change_limit, operator_limit}
 use Rattle.nm_events.specs.Events.{is_within}
-use Rattle.nm_scenario.specs.Flat.{row_limit, node_limit, key_of, member_count, cells_at, is_change, all_members, flat_edit}
+use Rattle.nm_scenario.specs.Flat.{row_limit, node_limit, key_of, member_count, cells_at, is_change, all_members}
 use Rattle.nm_scenario.specs.Head.{module_limit}
-use Rattle.nm_scenario.specs.Changes.{goes_through}
 use Rattle.nm_scenario.specs.Operators.{user_limit}
 use Rattle.nm_refusals.specs.Roles.{cells, data_of, Role}
 use Rattle.nm_refusals.specs.Roles as role
@@ -35,8 +32,8 @@ use Rattle.nm_refusals.specs.Roles as role
 abbrev pub is_object_role : Role → Bool
 is_object_role (role.scenario built frame) = true
 is_object_role (role.device contents) = true
-is_object_role (role.change states) = true
-is_object_role (role.entry states low) = true
+is_object_role (role.change devices) = true
+is_object_role (role.entry devices low) = true
 is_object_role role.operator = true
 is_object_role _ = false
 
@@ -44,9 +41,9 @@ is_object_role _ = false
 abbrev pub is_list_role : Role → Bool
 is_list_role role.modules = true
 is_list_role (role.devices contents) = true
-is_list_role (role.changes states) = true
-is_list_role (role.entries states) = true
-is_list_role (role.operators count) = true
+is_list_role (role.changes devices) = true
+is_list_role (role.entries devices) = true
+is_list_role role.operators = true
 is_list_role role.no_modules = true
 is_list_role role.nothing = true
 is_list_role _ = false
@@ -54,23 +51,17 @@ is_list_role _ = false
 -- the roles of lists that have an item
 abbrev pub needs_item : Role → Bool
 needs_item (role.devices contents) = true
-needs_item (role.entries states) = true
+needs_item (role.entries devices) = true
 needs_item _ = false
 
 -- how many items a list of a role may have. Events are counted otherwise
 abbrev pub limit_of : Role → Option ℕ
 limit_of role.modules = Some module_limit
 limit_of (role.devices contents) = Some device_limit
-limit_of (role.changes states) = Some change_limit
-limit_of (role.entries states) = Some (2 ^ 64 - 1)
-limit_of (role.operators count) = Some operator_limit
+limit_of (role.changes devices) = Some change_limit
+limit_of (role.entries devices) = Some (2 ^ 64 - 1)
+limit_of role.operators = Some operator_limit
 limit_of _ = None
-
--- the roles of switches
-abbrev pub is_switch_role : Role → Bool
-is_switch_role role.off = true
-is_switch_role role.switch = true
-is_switch_role _ = false
 
 -- ---- texts
 
@@ -114,7 +105,7 @@ pub data Wrong : Role → ScenarioKind → Data → Type 0 where
   no_list : {r : Role} {part : Data} → is_list_role r ≡ true → as_array part ≡ None → Wrong r kind.BadValue part
   no_item : {r : Role} {part : Data} → needs_item r ≡ true → item_count part ≡ 0 → Wrong r kind.BadValue part
   no_number : {part : Data} {low high : ℕ} → is_within low high (natural_of part) ≡ false → Wrong (role.number low high) kind.BadValue part
-  no_switch : {r : Role} {part : Data} → is_switch_role r ≡ true → as_bool part ≡ None → Wrong r kind.BadValue part
+  no_switch : {part : Data} → as_bool part ≡ None → Wrong role.switch kind.BadValue part
   no_form : {part : Data} {built : Bool} → is_form part ≡ false → Wrong (role.form built) kind.BadValue part
   no_text : {part : Data} → as_str part ≡ None → Wrong role.module_text kind.BadValue part
   no_operation : {part : Data} → says part (codes "merge") ≡ false → is_unbuilt_operation part ≡ false → Wrong role.operation kind.BadValue part
@@ -123,21 +114,17 @@ pub data Wrong : Role → ScenarioKind → Data → Type 0 where
   -- too many
   too_many_items : {r : Role} {part : Data} (limit : ℕ) → limit_of r ≡ Some limit → limit < item_count part → Wrong r kind.TooMany part
   too_many_cells : {part : Data} (members : Members) → as_object part ≡ Some members → row_limit < member_count members → Wrong (role.running cells) kind.TooMany part
-  too_many_nodes : {part : Data} {state : Option FlatState} (members : Members) → as_object part ≡ Some members → node_limit < member_count members → Wrong (role.change_edit state) kind.TooMany part
+  too_many_nodes : {part : Data} (members : Members) → as_object part ≡ Some members → node_limit < member_count members → Wrong role.change_edit kind.TooMany part
   too_many_rows : {part : Data} {tree : SchemaTree} → config_read tree part ≡ Err TooManyRows → Wrong (role.running (data_of tree)) kind.TooMany part
   -- texts of modules that can't be read (RFC 7950 section 6)
   no_module : {part : Data} (text : List ℕ) (fault : TextFault) → as_str part ≡ Some text → reading text ≡ Err fault → Wrong role.module_text kind.Yang part
   -- configurations and edits that can't be read
   no_cells : {part : Data} → are_all is_cell (as_object part) ≡ false → Wrong (role.running cells) kind.Content part
-  no_edit : {part : Data} {state : Option FlatState} → are_all is_change (as_object part) ≡ false → Wrong (role.change_edit state) kind.Content part
+  no_edit : {part : Data} → are_all is_change (as_object part) ≡ false → Wrong role.change_edit kind.Content part
   no_data : {part : Data} {tree : SchemaTree} (k : JsonKind) (path : List ℕ) → config_read tree part ≡ Err (Bad k path) → Wrong (role.running (data_of tree)) kind.Content part
   -- configurations that aren't valid
   invalid : {part : Data} (found : FinMap nat_cmp ℕ) (refusal : Refusal) → cells_at part ≡ Ok found → flat_violation (unmarked found) ≡ Some refusal → Wrong (role.running cells) kind.Invalid part
   -- what isn't built
   unbuilt_form : {part : Data} → says part (codes "yang") ≡ true → Wrong (role.form false) kind.NotBuilt part
-  unbuilt_change : {part : Data} → Wrong role.later_change kind.NotBuilt part
   unbuilt_operation : {part : Data} → is_unbuilt_operation part ≡ true → Wrong role.operation kind.NotBuilt part
-  unbuilt_result : {part : Data} {running : Option FlatState} (edit : FlatEdit) → read flat_edit part ≡ Ok edit → goes_through running edit ≡ false → Wrong (role.change_edit running) kind.NotBuilt part
-  unbuilt_beside : {part : Data} {count : ℕ} → (count == 0) ≡ false → (item_count part == 0) ≡ false → Wrong (role.operators count) kind.NotBuilt part
   unbuilt_list : {part : Data} → (item_count part == 0) ≡ false → Wrong role.nothing kind.NotBuilt part
-  unbuilt_on : {part : Data} → as_bool part ≡ Some true → Wrong role.off kind.NotBuilt part

@@ -1,4 +1,3 @@
-pub mod Report
 pub mod Trace
 pub mod Text
 pub mod Check

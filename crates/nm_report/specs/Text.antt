@@ -1,19 +1,24 @@
 -- The texts of the program (this project's own): each line ends with one newline.
 use Rattle.std.specs.Prelude.{ℕ, ◌+◌, List, [], ◌∷◌, ◌++◌, Bool, true, false, Option, Some, None, map, codes, decimal, if◌then◌else◌}
 use Rattle.std.specs.List.{flat_map}
+use Rattle.nm_base.specs.Mask.{mask_contains}
+use Rattle.nm_base.specs.Token.{token_of}
+use Rattle.nm_proto.specs.declared.journal.Entry.{Entry}
+use Rattle.nm_proto.specs.declared.journal.Verdict.{Verdict}
+use Rattle.nm_proto.specs.declared.plan.ChangePlan.{ChangePlan}
+use Rattle.nm_proto.specs.Plan.{devices_in}
+use Rattle.nm_history.specs.declared.event.Noted.{Noted}
 use Rattle.nm_history.specs.declared.outcome.Outcome.{Outcome}
 use Rattle.nm_history.specs.declared.outcome.Outcome.TheVariants.{Never, Pending, Confirmed, Undone}
-use Rattle.nm_world.specs.declared.course.Course.{Course}
-use Rattle.nm_proto.specs.declared.journal.Entry.{Entry}
-use Rattle.nm_report.specs.declared.report.DeviceReport.{DeviceReport}
-use Rattle.nm_proto.specs.declared.journal.Verdict.{Verdict}
-use Rattle.nm_recovery.specs.Recovery.{is_started, verdict_in, is_ended_in}
-use Rattle.nm_world.specs.Course.{is_submitted, is_decided}
-use Rattle.nm_world.specs.World.{WorldState}
+use Rattle.nm_history.specs.Outcome.{outcome_of}
 use Rattle.nm_history.specs.History.{RecordedState}
-use Rattle.nm_world.specs.declared.happened.Passed.{Passed}
+use Rattle.nm_recovery.specs.Recovery.{is_started, verdict_in, is_ended_in}
+use Rattle.nm_network.specs.declared.happened.Passed.{Passed}
+use Rattle.nm_network.specs.declared.report.Pair.{Pair}
+use Rattle.nm_network.specs.declared.report.Report.{Report}
+use Rattle.nm_network.specs.World.{Setting, WorldState}
+use Rattle.nm_network.specs.Report.{report_of}
 use Rattle.nm_report.specs.Trace.{trace_text, verdict_text}
-use Rattle.nm_report.specs.Report.{reports_of, differing, unsettled}
 
 abbrev pub heading : List ℕ
 heading = codes "netm 1\n"
@@ -30,9 +35,6 @@ running_lines shown device (config ∷ configs) = running_line device (shown con
 -- the running configurations of devices with their histories
 abbrev pub running_of : {Config Node : Type 0} → List (RecordedState Config Node) → List Config
 running_of devices = map (λ r. r.device.stores.running) devices
-
-abbrev pub clean : List ℕ
-clean = codes "differ none\nunsettled none\n"
 
 -- ---- a change set
 
@@ -62,38 +64,51 @@ change_line change entries = codes "change " ++ decimal change ++ codes " " ++ s
 abbrev pub pair_text : ℕ → ℕ → List ℕ
 pair_text change device = codes " " ++ decimal change ++ codes " " ++ decimal device
 
-abbrev pub outcome_line : ℕ → DeviceReport → List ℕ
-outcome_line change report = codes "outcome" ++ pair_text change report.device ++ codes " " ++ outcome_word report.outcome ++ codes "\n"
+-- the outcome of a change set at a device
+abbrev pub outcome_line : ℕ → ℕ → Outcome → List ℕ
+outcome_line change device outcome = codes "outcome" ++ pair_text change device ++ codes " " ++ outcome_word outcome ++ codes "\n"
 
-abbrev pub outcome_lines : ℕ → List DeviceReport → List ℕ
-outcome_lines change reports = flat_map (outcome_line change) reports
+-- the same where the device is one of the change set, read from its history
+unfoldable pub outcome_text : ℕ → ℕ → ℕ → List Noted → List ℕ
+outcome_text change members device history =
+    if mask_contains members device then outcome_line change device (outcome_of (token_of change) history) else []
 
-abbrev pub pair_line : List ℕ → ℕ → DeviceReport → List ℕ
-pair_line word change report = word ++ pair_text change report.device ++ codes "\n"
+module _ {Config Node : Type 0} where
+  -- the same of devices from a number on
+  abbrev pub outcome_texts : ℕ → ℕ → ℕ → List (RecordedState Config Node) → List ℕ
+  outcome_texts change members device [] = []
+  outcome_texts change members device (r ∷ rs) = outcome_text change members device r.history ++ outcome_texts change members (device + 1) rs
 
--- a line for each pair, or the word `none`
-abbrev pub pair_lines : List ℕ → ℕ → List DeviceReport → List ℕ
-pair_lines word change [] = word ++ codes " none\n"
-pair_lines word change (report ∷ reports) = flat_map (pair_line word change) (report ∷ reports)
+  -- a change set of these devices: what the journal says of it, and its outcomes
+  unfoldable pub change_text : List (RecordedState Config Node) → List Entry → ℕ → ℕ → List ℕ
+  change_text devices entries change members = change_line change entries ++ outcome_texts change members 1 devices
+
+  -- change sets from a number on
+  abbrev pub change_texts : List (RecordedState Config Node) → List Entry → ℕ → List ChangePlan → List ℕ
+  change_texts devices entries change [] = []
+  change_texts devices entries change (plan ∷ plans) =
+      change_text devices entries change (devices_in plan.edits) ++ change_texts devices entries (change + 1) plans
+
+-- ---- the whole
 
 -- the beginning of a text: what came of each event, where that is asked for
 unfoldable pub start_text : Bool → List Passed → List ℕ
 start_text trace trail = heading ++ trace_text trace trail
 
--- what stands before the running configurations: then what the journal says of the change set, and its outcomes
-abbrev pub head_text : Bool → List Passed → ℕ → List Entry → List DeviceReport → List ℕ
-head_text trace trail change entries reports = start_text trace trail ++ change_line change entries ++ outcome_lines change reports
+abbrev pub pair_line : List ℕ → Pair → List ℕ
+pair_line word pair = word ++ pair_text pair.change pair.device ++ codes "\n"
+
+-- a line for each pair, or the word `none`
+unfoldable pub pair_lines : List ℕ → List Pair → List ℕ
+pair_lines word [] = word ++ codes " none\n"
+pair_lines word (pair ∷ pairs) = flat_map (pair_line word) (pair ∷ pairs)
 
 -- the devices that differ and those that aren't settled
-abbrev pub pairs_text : ℕ → List DeviceReport → List DeviceReport → List ℕ
-pairs_text change differ unsettled = pair_lines (codes "differ") change differ ++ pair_lines (codes "unsettled") change unsettled
+abbrev pub report_text : Report → List ℕ
+report_text report = pair_lines (codes "differ") report.differ ++ pair_lines (codes "unsettled") report.unsettled
 
--- the text of a world with a change set
-abbrev pub world_text : {Config Node : Type 0} → (Config → List ℕ) → Bool → Course → WorldState Config Node → List ℕ
-world_text shown trace course w =
-    head_text trace w.trail course.change w.entries (reports_of course w) ++ running_lines shown 1 (running_of w.devices)
-    ++ pairs_text course.change (differing (is_decided w.entries) (reports_of course w)) (unsettled (is_submitted w.entries) (reports_of course w))
-
--- the text of devices without a change set, and of what came of each event
-abbrev pub devices_text : {Config Node : Type 0} → (Config → List ℕ) → Bool → List Passed → List (RecordedState Config Node) → List ℕ
-devices_text shown trace trail devices = start_text trace trail ++ running_lines shown 1 (running_of devices) ++ clean
+-- the text of a world: what came of each event, each change set, the running configurations, and what is reported
+abbrev pub world_text : {Config TheEdit Node : Type 0} → (Config → List ℕ) → Bool → Setting TheEdit → WorldState Config Node → List ℕ
+world_text shown trace setting w =
+    start_text trace w.trail ++ change_texts w.devices w.entries 1 setting.plans
+    ++ running_lines shown 1 (running_of w.devices) ++ report_text (report_of setting w)

@@ -13,9 +13,9 @@ use Rattle.nm_proto.specs.declared.journal.AbortCause.{AbortCause}
 use Rattle.nm_proto.specs.declared.journal.AbortCause.TheVariants.{Refused, Broken, Forgotten, Lapsed}
 use Rattle.nm_proto.specs.declared.journal.Verdict.{Verdict}
 use Rattle.nm_proto.specs.declared.journal.Verdict.TheVariants as verdict
-use Rattle.nm_world.specs.declared.happened.Happened.{Happened}
-use Rattle.nm_world.specs.declared.happened.Happened.TheVariants as happened
-use Rattle.nm_world.specs.declared.happened.Passed.{Passed}
+use Rattle.nm_network.specs.declared.happened.Happened.{Happened}
+use Rattle.nm_network.specs.declared.happened.Happened.TheVariants as happened
+use Rattle.nm_network.specs.declared.happened.Passed.{Passed}
 
 abbrev pub store_word : Store → List ℕ
 store_word Running = codes "running"
@@ -76,6 +76,10 @@ undone_text false = []
 abbrev pub sent_text : ℕ → ℕ → Request → List ℕ
 sent_text device link request = codes "sent " ++ decimal device ++ codes " " ++ decimal link ++ codes " " ++ request_text request
 
+-- a word, and whether a pending commit was undone
+abbrev pub ended_so : List ℕ → Bool → List ℕ
+ended_so word undone = word ++ undone_text undone
+
 abbrev pub happened_text : Happened → List ℕ
 happened_text happened.Idle = codes "idle"
 happened_text happened.Started = codes "started"
@@ -84,9 +88,13 @@ happened_text (happened.Decided what) = codes "decided " ++ verdict_text what
 happened_text happened.Ended = codes "ended"
 happened_text (happened.Replied reply undone) = codes "reply " ++ reply_text reply ++ undone_text undone
 happened_text happened.Handled = codes "handled"
-happened_text (happened.Left undone) = codes "left" ++ undone_text undone
+happened_text happened.Broken = codes "broken"
+happened_text (happened.Lost undone) = ended_so (codes "lost") undone
+happened_text (happened.Left undone) = ended_so (codes "left") undone
 happened_text (happened.Now clock undone) = codes "now " ++ decimal clock ++ undone_text undone
-happened_text (happened.Restarted undone) = codes "restarted" ++ undone_text undone
+happened_text (happened.Restarted undone) = ended_so (codes "restarted") undone
+happened_text happened.Forgot = codes "forgot"
+happened_text happened.Crashed = codes "crashed"
 
 abbrev pub trace_line : ℕ → Happened → List ℕ
 trace_line number what = decimal number ++ codes " " ++ happened_text what ++ codes "\n"

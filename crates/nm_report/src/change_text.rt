@@ -1,17 +1,19 @@
-ghost use Rattle.std.specs.Prelude.{◌≡◌, ◌++◌, IfOk, OnOk, All};
-ghost use Rattle.nm_world.specs.World.{IsSoundDevice};
+ghost use Rattle.std.specs.Prelude.{◌≡◌, ◌≤◌, ◌<◌, ◌+◌, ◌++◌, length, IfOk, OnOk};
 ghost use Rattle.std.specs.List.{flat_map};
+ghost use Rattle.nm_base.specs.Token.{token_of};
+ghost use Rattle.nm_proto.specs.Plan.{devices_in};
 ghost use Rattle.nm_recovery.specs.Recovery.{is_started, verdict_in, is_ended_in};
-ghost use Rattle.nm_report.specs.Text.{decided_text, ended_text, state_text, change_line, pair_text, outcome_line, outcome_lines, pair_line, pair_lines, outcome_word, start_text, head_text, pairs_text, running_lines, running_of, devices_text};
+ghost use Rattle.nm_network.specs.Report.{report_of};
+ghost use Rattle.nm_report.specs.Text.{decided_text, ended_text, state_text, change_line, change_text, change_texts, pair_text, outcome_line, outcome_text, outcome_texts, pair_line, pair_lines, outcome_word, report_text, start_text, running_lines, running_of, world_text};
 
-use crate::report::DeviceReport;
 use crate::text::{HEADING, put, write_devices_running};
 use crate::trace::{write_trace, write_verdict};
-use nm_base::{ChangeNo, NoMemory, write_decimal};
-use nm_history::{Outcome, Recorded};
-use nm_proto::{Entry, Show, Verdict};
+use nm_base::token::token_of;
+use nm_base::{ChangeNo, DeviceMask, DeviceNo, Label, NoMemory, write_decimal};
+use nm_history::{Noted, Outcome, Recorded, outcome_of};
+use nm_network::{Pair, Passed, Report, World};
+use nm_proto::{ChangePlan, Content, Entry, Show, Verdict};
 use nm_recovery::{is_ended_in, is_started, verdict_in};
-use nm_world::{Passed, World};
 use std::alloc::Global;
 
 /// The line of a change set, with what the journal says of it.
@@ -51,13 +53,13 @@ fn ended_word(ended: bool) -> &'static str
     if ended { " ended" } else { "" }
 }
 
-fn write_pair(out: &mut Vec<u8>, change: ChangeNo, device: u64) -> Result<(), NoMemory>
+fn write_pair(out: &mut Vec<u8>, change: ChangeNo, device: DeviceNo) -> Result<(), NoMemory>
     ensures { OnOk result (out.new.items ≡ out.old.items ++ pair_text change device) }
 {
     put(out, " ")?;
     write_decimal(u64::from(change.get()), out)?;
     put(out, " ")?;
-    write_decimal(device, out)?;
+    write_decimal(u64::from(device.get()), out)?;
     Ok(())
 }
 
@@ -72,157 +74,170 @@ fn word_of(outcome: Outcome) -> &'static str
     }
 }
 
-fn write_outcome(out: &mut Vec<u8>, change: ChangeNo, report: &DeviceReport) -> Result<(), NoMemory>
-    ensures { OnOk result (out.new.items ≡ out.old.items ++ outcome_line change report.now) }
+fn write_outcome(
+    out: &mut Vec<u8>,
+    change: ChangeNo,
+    device: DeviceNo,
+    outcome: Outcome,
+) -> Result<(), NoMemory>
+    ensures { OnOk result (out.new.items ≡ out.old.items ++ outcome_line change device outcome) }
 {
     put(out, "outcome")?;
-    write_pair(out, change, report.device)?;
+    write_pair(out, change, device)?;
     put(out, " ")?;
-    put(out, word_of(report.outcome))?;
+    put(out, word_of(outcome))?;
     put(out, "\n")
 }
 
-/// A line for each device of a change set, with the outcome there.
-pub fn write_outcomes(
+// The outcome at the device of a number, where it is one of the change set.
+#[tactic(auto, unfolding(crate::specs::Text::outcome_text))]
+fn write_if_member(
     out: &mut Vec<u8>,
     change: ChangeNo,
-    reports: &[DeviceReport],
+    members: DeviceMask,
+    number: usize,
+    token: &Label,
+    history: &[Noted],
 ) -> Result<(), NoMemory>
-    ensures { OnOk result (out.new.items ≡ out.old.items ++ outcome_lines change reports.now) }
+    requires low { 1 ≤ number }
+    requires high { number ≤ 32 }
+    requires token { token.now ≡ token_of change }
+    ensures { OnOk result (out.new.items ≡ out.old.items ++ outcome_text change members.0 number history.now) }
 {
-    for report in reports {
-        write_outcome(out, change, report)?;
+    match DeviceNo::new(number as u8) {
+        Some(device) if members.contains(device) => {
+            write_outcome(out, change, device, outcome_of(token, history))
+        }
+        _ => Ok(()),
+    }
+}
+
+// A line for each device of a change set, with the outcome there.
+fn write_outcomes<C: Content>(
+    out: &mut Vec<u8>,
+    change: ChangeNo,
+    members: DeviceMask,
+    token: &Label,
+    devices: &[Recorded<C>],
+) -> Result<(), NoMemory>
+    requires few { length devices.now ≤ 32 }
+    requires token { token.now ≡ token_of change }
+    ensures { OnOk result (out.new.items ≡ out.old.items ++ outcome_texts change members.0 1 devices.now) }
+{
+    for (place, device) in devices.iter().enumerate() {
+        write_if_member(out, change, members, place + 1, token, device.history())?;
     }
     Ok(())
 }
 
-fn write_pair_line(
+// What the journal says of a change set, and its outcomes.
+#[tactic(auto, unfolding(crate::specs::Text::change_text))]
+fn write_change_text<C: Content>(
+    alloc: Global,
     out: &mut Vec<u8>,
-    word: &str,
     change: ChangeNo,
-    report: &DeviceReport,
+    plan: &ChangePlan,
+    devices: &[Recorded<C>],
+    entries: &[Entry],
 ) -> Result<(), NoMemory>
-    ensures { OnOk result (out.new.items ≡ out.old.items ++ pair_line word.now change report.now) }
+    requires few { length devices.now ≤ 32 }
+    ensures { OnOk result (out.new.items ≡ out.old.items ++ change_text devices.now entries.now change (devices_in plan.now.edits)) }
+{
+    let token = token_of(alloc, change)?;
+    write_change(out, change, entries)?;
+    write_outcomes(out, change, plan.devices(), &token, devices)
+}
+
+// The number of the change set at a place.
+fn change_in(place: usize) -> ChangeNo
+    requires few { place < 64 }
+    ensures { result ≡ place + 1 }
+{
+    ChangeNo::new(place as u32 + 1).unwrap()
+}
+
+// All change sets.
+fn write_change_sets<C: Content>(
+    alloc: Global,
+    out: &mut Vec<u8>,
+    plans: &[ChangePlan],
+    devices: &[Recorded<C>],
+    entries: &[Entry],
+) -> Result<(), NoMemory>
+    requires few { length plans.now ≤ 64 }
+    requires few_devices { length devices.now ≤ 32 }
+    ensures { OnOk result (out.new.items ≡ out.old.items ++ change_texts devices.now entries.now 1 plans.now) }
+{
+    for (place, plan) in plans.iter().enumerate() {
+        write_change_text(alloc, out, change_in(place), plan, devices, entries)?;
+    }
+    Ok(())
+}
+
+fn write_pair_line(out: &mut Vec<u8>, word: &str, pair: Pair) -> Result<(), NoMemory>
+    ensures { OnOk result (out.new.items ≡ out.old.items ++ pair_line word.now pair) }
 {
     put(out, word)?;
-    write_pair(out, change, report.device)?;
+    write_pair(out, pair.change, pair.device)?;
     put(out, "\n")
 }
 
-fn write_some_pairs(
-    out: &mut Vec<u8>,
-    word: &str,
-    change: ChangeNo,
-    reports: &[DeviceReport],
-) -> Result<(), NoMemory>
-    ensures { OnOk result (out.new.items ≡ out.old.items ++ flat_map (pair_line word.now change) reports.now) }
+fn write_some_pairs(out: &mut Vec<u8>, word: &str, pairs: &[Pair]) -> Result<(), NoMemory>
+    ensures { OnOk result (out.new.items ≡ out.old.items ++ flat_map (pair_line word.now) pairs.now) }
 {
-    for report in reports {
-        write_pair_line(out, word, change, report)?;
+    for pair in pairs {
+        write_pair_line(out, word, *pair)?;
     }
     Ok(())
 }
 
-/// A line for each of these devices of a change set, or the word and `none`.
-pub fn write_pairs(
-    out: &mut Vec<u8>,
-    word: &str,
-    change: ChangeNo,
-    reports: &[DeviceReport],
-) -> Result<(), NoMemory>
-    ensures { OnOk result (out.new.items ≡ out.old.items ++ pair_lines word.now change reports.now) }
+// A line for each of these pairs, or the word and `none`.
+#[tactic(auto, unfolding(crate::specs::Text::pair_lines))]
+fn write_pairs(out: &mut Vec<u8>, word: &str, pairs: &[Pair]) -> Result<(), NoMemory>
+    ensures { OnOk result (out.new.items ≡ out.old.items ++ pair_lines word.now pairs.now) }
 {
-    match reports {
+    match pairs {
         [] => {
             put(out, word)?;
             put(out, " none\n")
         }
-        _ => write_some_pairs(out, word, change, reports),
+        _ => write_some_pairs(out, word, pairs),
     }
 }
 
-// Appends the beginning of a text.
+// The devices that differ and those that aren't settled.
+fn write_report(out: &mut Vec<u8>, report: &Report) -> Result<(), NoMemory>
+    ensures { OnOk result (out.new.items ≡ out.old.items ++ report_text report.now) }
+{
+    write_pairs(out, "differ", report.differ.as_slice())?;
+    write_pairs(out, "unsettled", report.unsettled.as_slice())
+}
+
+// The beginning of a text.
 #[tactic(auto, unfolding(crate::specs::Text::start_text))]
-fn put_start(out: &mut Vec<u8>, trace: bool, trail: &[Passed]) -> Result<(), NoMemory>
+fn write_start(out: &mut Vec<u8>, trace: bool, trail: &[Passed]) -> Result<(), NoMemory>
     ensures { OnOk result (out.new.items ≡ out.old.items ++ start_text trace trail.now) }
 {
     put(out, HEADING)?;
     write_trace(out, trace, trail)
 }
 
-// Appends what stands before the running configurations.
-fn put_head(
-    out: &mut Vec<u8>,
-    trace: bool,
-    trail: &[Passed],
-    change: ChangeNo,
-    entries: &[Entry],
-    reports: &[DeviceReport],
-) -> Result<(), NoMemory>
-    ensures { OnOk result (out.new.items ≡ out.old.items ++ head_text trace trail.now change entries.now reports.now) }
-{
-    put_start(out, trace, trail)?;
-    write_change(out, change, entries)?;
-    write_outcomes(out, change, reports)
-}
-
-// Appends the devices that differ and those that aren't settled.
-fn put_pairs(
-    out: &mut Vec<u8>,
-    change: ChangeNo,
-    differing: &[DeviceReport],
-    unsettled: &[DeviceReport],
-) -> Result<(), NoMemory>
-    ensures { OnOk result (out.new.items ≡ out.old.items ++ pairs_text change differing.now unsettled.now) }
-{
-    write_pairs(out, "differ", change, differing)?;
-    write_pairs(out, "unsettled", change, unsettled)
-}
-
-/// The text of a world with a change set: what came of each event where that is asked for, the outcomes, the running
-/// configurations, and the devices that these lists name.
+/// The text of a world and of what is reported of it: what came of each event where that is asked for, each change set with
+/// its outcomes, the running configurations, and the devices that the report names.
 pub fn write_world<C: Show + Drop>(
     alloc: Global,
-    content: &C,
     trace: bool,
     world: &World<C>,
-    reports: &[DeviceReport],
-    differing: &[DeviceReport],
-    unsettled: &[DeviceReport],
+    report: &Report,
 ) -> Result<Vec<u8>, NoMemory>
-    requires { All (IsSoundDevice (C.Content.meaning content.now)) world.now.state.devices }
-    ensures { IfOk result (λ text. text.items ≡ head_text trace world.now.state.trail world.now.course.change world.now.state.entries reports.now
-        ++ running_lines (C.shown content.now) 1 (running_of world.now.state.devices) ++ pairs_text world.now.course.change differing.now unsettled.now) }
-{
-    let change = world.course().change;
-    let mut text = Vec::new(alloc);
-    put_head(
-        &mut text,
-        trace,
-        world.trail(),
-        change,
-        world.entries(),
-        reports,
-    )?;
-    write_devices_running(&mut text, content, world.devices())?;
-    put_pairs(&mut text, change, differing, unsettled)?;
-    Ok(text)
-}
-
-/// The text of a world without a change set.
-pub fn write_devices<C: Show>(
-    alloc: Global,
-    content: &C,
-    trace: bool,
-    trail: &[Passed],
-    devices: &[Recorded<C>],
-) -> Result<Vec<u8>, NoMemory>
-    requires { All (IsSoundDevice (C.Content.meaning content.now)) devices.now }
-    ensures { IfOk result (λ text. text.items ≡ devices_text (C.shown content.now) trace trail.now devices.now) }
+    requires { report.now ≡ report_of world.now.setting world.now.state }
+    ensures { IfOk result (λ text. text.items ≡ world_text (C.shown world.now.content) trace world.now.setting world.now.state) }
 {
     let mut text = Vec::new(alloc);
-    put_start(&mut text, trace, trail)?;
-    write_devices_running(&mut text, content, devices)?;
-    put(&mut text, "differ none\nunsettled none\n")?;
+    let out = &mut text;
+    write_start(out, trace, world.trail())?;
+    write_change_sets(alloc, out, world.plans(), world.devices(), world.entries())?;
+    write_devices_running(out, world.content(), world.devices())?;
+    write_report(out, report)?;
     Ok(text)
 }

@@ -1,19 +1,17 @@
 //! What is reported of a world, and its text; the texts of a check and of a journal.
 //!
-//! Stands on `nm_world` and `nm_recovery`. The layer above relies on each text as an equation with a definition in
+//! Stands on `nm_network` and `nm_recovery`. The layer above relies on each text as an equation with a definition in
 //! `specs/Text.antt`, `specs/Check.antt` or `specs/Journal.antt`.
 #![tactic(auto)]
 
 pub mod change_text;
 pub mod check;
 pub mod journal_text;
-pub mod report;
 #[cfg(test)]
 mod tests;
 pub mod text;
 pub mod trace;
 
-pub use change_text::{write_devices, write_world};
+pub use change_text::write_world;
 pub use check::write_check;
 pub use journal_text::write_journal;
-pub use report::{DeviceReport, differing, reports_of, unsettled};

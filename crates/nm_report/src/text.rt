@@ -1,5 +1,5 @@
-ghost use Rattle.std.specs.Prelude.{◌≡◌, ◌++◌, OnOk, All};
-ghost use Rattle.nm_world.specs.World.{IsSoundDevice};
+ghost use Rattle.std.specs.Prelude.{◌≡◌, ◌++◌, OnOk};
+ghost use Rattle.nm_network.specs.World.{AreSound};
 ghost use Rattle.nm_report.specs.Text.{running_line, running_lines, running_of};
 
 use nm_base::{NoMemory, write_decimal};
@@ -40,7 +40,7 @@ pub fn write_devices_running<C: Show>(
     content: &C,
     devices: &[Recorded<C>],
 ) -> Result<(), NoMemory>
-    requires { All (IsSoundDevice (C.Content.meaning content.now)) devices.now }
+    requires { AreSound (C.Content.meaning content.now) devices.now }
     ensures { OnOk result (out.new.items ≡ out.old.items ++ running_lines (C.shown content.now) 1 (running_of devices.now)) }
 {
     for (place, device) in devices.iter().enumerate() {

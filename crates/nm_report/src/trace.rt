@@ -1,12 +1,12 @@
 //! What came of each event, as text.
 
 ghost use Rattle.std.specs.Prelude.{◌≡◌, ◌++◌, OnOk, decimal, codes};
-ghost use Rattle.nm_report.specs.Trace.{store_word, store_text, request_text, session_text, path_text, truth_text, error_text, reply_text, refused_text, cause_text, verdict_text, undone_text, sent_text, happened_text, trace_line, trace_lines, trace_text};
+ghost use Rattle.nm_report.specs.Trace.{store_word, store_text, request_text, session_text, path_text, truth_text, error_text, reply_text, refused_text, cause_text, verdict_text, undone_text, ended_so, sent_text, happened_text, trace_line, trace_lines, trace_text};
 
 use crate::text::put;
 use nm_base::{DeviceNo, Label, NoMemory, Tag, write_decimal};
+use nm_network::{Happened, Passed};
 use nm_proto::{AbortCause, Reply, Request, Store, Verdict};
-use nm_world::{Happened, Passed};
 
 fn store_word(store: Store) -> &'static str
     ensures { result.now ≡ store_word store }
@@ -176,6 +176,21 @@ fn write_now(out: &mut Vec<u8>, clock: u64, undone: bool) -> Result<(), NoMemory
     put(out, undone_word(undone))
 }
 
+// A word, and whether a pending commit was undone.
+fn write_ended(out: &mut Vec<u8>, word: &str, undone: bool) -> Result<(), NoMemory>
+    ensures { OnOk result (out.new.items ≡ out.old.items ++ ended_so word.now undone) }
+{
+    put(out, word)?;
+    put(out, undone_word(undone))
+}
+
+fn write_decided(out: &mut Vec<u8>, verdict: &Verdict) -> Result<(), NoMemory>
+    ensures { OnOk result (out.new.items ≡ out.old.items ++ codes "decided " ++ verdict_text verdict.now) }
+{
+    put(out, "decided ")?;
+    write_verdict(out, verdict)
+}
+
 fn write_happened(out: &mut Vec<u8>, what: &Happened) -> Result<(), NoMemory>
     ensures { OnOk result (out.new.items ≡ out.old.items ++ happened_text what.now) }
 {
@@ -187,22 +202,17 @@ fn write_happened(out: &mut Vec<u8>, what: &Happened) -> Result<(), NoMemory>
             link,
             request,
         } => write_sent(out, *device, *link, request),
-        Happened::Decided(verdict) => {
-            put(out, "decided ")?;
-            write_verdict(out, verdict)
-        }
+        Happened::Decided(verdict) => write_decided(out, verdict),
         Happened::Ended => put(out, "ended"),
         Happened::Replied { reply, undone } => write_replied(out, reply, *undone),
         Happened::Handled => put(out, "handled"),
-        Happened::Left { undone } => {
-            put(out, "left")?;
-            put(out, undone_word(*undone))
-        }
+        Happened::Broken => put(out, "broken"),
+        Happened::Lost { undone } => write_ended(out, "lost", *undone),
+        Happened::Left { undone } => write_ended(out, "left", *undone),
         Happened::Now { clock, undone } => write_now(out, *clock, *undone),
-        Happened::Restarted { undone } => {
-            put(out, "restarted")?;
-            put(out, undone_word(*undone))
-        }
+        Happened::Restarted { undone } => write_ended(out, "restarted", *undone),
+        Happened::Forgot => put(out, "forgot"),
+        Happened::Crashed => put(out, "crashed"),
     }
 }
 

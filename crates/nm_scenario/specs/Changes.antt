@@ -1,20 +1,16 @@
 -- The change sets of a scenario of flat contents: for each a timeout (RFC 6241 section 8.4) and edits, at most one for each
 -- device, ascending (this project's own).
-use Rattle.std.specs.Prelude.{ℕ, ◌+◌, ◌-◌, ◌^◌, List, [], ◌∷◌, Bool, false, ◌||◌, min, length, map, slice_get, Option, Some, None, is_none, Result, Ok, Err, codes, if◌then◌else◌}
+use Rattle.std.specs.Prelude.{ℕ, ◌+◌, ◌-◌, ◌^◌, List, [], ◌∷◌, Bool, ◌||◌, min, length, map, slice_get, Option, Some, None, Result, Ok, codes}
 use Rattle.std.specs.Str.{bytes_eq}
 use Rattle.std.specs.List.{flat_map}
 use Rattle.serde_json.specs.Data.{Data}
 use Rattle.nm_base.specs.Words.{default_timeout}
 use Rattle.nm_proto.specs.declared.message.DefaultOperation.TheVariants.{Merge}
-use Rattle.nm_proto.specs.declared.message.Marks.{Marks}
 use Rattle.nm_proto.specs.declared.flat.FlatEdit.{FlatEdit}
 use Rattle.nm_proto.specs.declared.plan.ChangePlan.{ChangePlan}
 use Rattle.nm_proto.specs.declared.plan.PlannedEdit.{PlannedEdit}
-use Rattle.nm_proto.specs.Content.{Refusal}
-use Rattle.nm_proto.specs.Flat.{FlatState, flat_edited, flat_violation}
-use Rattle.nm_proto.specs.declared.kind.ScenarioKind.TheVariants.{NotBuilt}
 use Rattle.nm_reading.specs.declared.fault.Fault.{Fault}
-use Rattle.nm_reading.specs.Reading.{◌>>=◌, here, required, optional, object_at, only_known, list_at, natural_of, in_range, number_within, some_of}
+use Rattle.nm_reading.specs.Reading.{◌>>=◌, required, optional, object_at, only_known, list_at, natural_of, in_range, number_within, some_of}
 use Rattle.nm_events.specs.Limits.{change_limit, device_limit}
 use Rattle.nm_form.specs.Read.{read}
 use Rattle.nm_events.specs.Arguments.{operation as default_operation}
@@ -40,52 +36,33 @@ last_device edits = device_of (slice_get edits (length edits - 1))
 unfoldable pub device_within : ℕ → ℕ → Data → Result ℕ Fault
 device_within low count part = in_range low (min count device_limit) (natural_of part)
 
--- the edit of a change set with its mark is applied to the running configuration and gives a valid one
-abbrev pub result_is_valid : Result FlatState Refusal → Bool
-result_is_valid (Ok config) = is_none (flat_violation config)
-result_is_valid (Err refusal) = false
-
-abbrev pub own_mark : Marks
-own_mark = record { add = 1; remove = record { 0 = 0 } }
-
-abbrev pub goes_through : Option FlatState → FlatEdit → Bool
-goes_through None edit = false
-goes_through (Some running) edit = result_is_valid (flat_edited running edit.changes Merge (Some own_mark))
-
--- an edit of a device with this running configuration
-unfoldable pub edit_at : Option FlatState → Data → Result FlatEdit Fault
-edit_at running part = do
-  edit ← read flat_edit part
-  if goes_through running edit then Ok edit else here NotBuilt
-
 -- one edit of a change set, its device above those before it
-unfoldable pub entry_at : List FlatState → List ReadEdit → Data → Result ReadEdit Fault
+unfoldable pub entry_at : ℕ → List ReadEdit → Data → Result ReadEdit Fault
 entry_at devices before part = do
   whole ← object_at part
-  device ← required (codes "device") (device_within (last_device before + 1) (length devices)) part
+  device ← required (codes "device") (device_within (last_device before + 1) devices) part
   operation ← optional (codes "default") Merge (read default_operation) part
-  edit ← required (codes "edit") (edit_at (slice_get devices (device - 1))) part
+  edit ← required (codes "edit") (read flat_edit) part
   known ← only_known knows_edit part
   Ok (record { device = device; default_operation = operation; edit = edit })
 
 -- the edits of a change set, one or more
-unfoldable pub entries_at : List FlatState → Data → Result (List ReadEdit) Fault
+unfoldable pub entries_at : ℕ → Data → Result (List ReadEdit) Fault
 entries_at devices part = do
   edits ← list_at (2 ^ 64 - 1) (entry_at devices) part
   some_of edits
 
--- one change set is built
-unfoldable pub change_at : List FlatState → List ReadChange → Data → Result ReadChange Fault
-change_at devices (other ∷ others) part = here NotBuilt
-change_at devices [] part = do
+-- a change set, whatever stands before it
+unfoldable pub change_at : ℕ → List ReadChange → Data → Result ReadChange Fault
+change_at devices before part = do
   whole ← object_at part
   timeout ← optional (codes "timeout") default_timeout (number_within 1 (2 ^ 32 - 1)) part
   edits ← required (codes "edits") (entries_at devices) part
   known ← only_known knows_change part
   Ok (record { timeout = timeout; edits = edits })
 
--- the change sets
-unfoldable pub changes_read_at : List FlatState → Data → Result (List ReadChange) Fault
+-- the change sets of a scenario of so many devices
+unfoldable pub changes_read_at : ℕ → Data → Result (List ReadChange) Fault
 changes_read_at devices part = list_at change_limit (change_at devices) part
 
 -- ---- numbers

@@ -1,5 +1,5 @@
 -- The operators of a scenario: each has a user and a script (this project's own).
-use Rattle.std.specs.Prelude.{ℕ, List, Bool, ◌&&◌, ◌||◌, ◌==◌, nat_le, length, Option, Some, None, Result, Ok, codes, if◌then◌else◌}
+use Rattle.std.specs.Prelude.{ℕ, List, Bool, ◌&&◌, ◌||◌, nat_le, length, Option, Some, None, Result, Ok, codes, if◌then◌else◌}
 use Rattle.std.specs.Str.{bytes_eq}
 use Rattle.serde_json.specs.Data.{Data}
 use Rattle.serde_json.specs.Find.{as_str}
@@ -33,12 +33,6 @@ operator_at before part = do
   known ← only_known knows_operator part
   Ok user
 
--- operators beside change sets aren't built
-abbrev pub built_beside : ℕ → Data → Result (Unit {0}) Fault
-built_beside changes part = if changes == 0 then Ok tt else empty_list_at (here NotBuilt) part
-
--- the users of the operators, in a scenario of so many change sets
-unfoldable pub operators_at : ℕ → Data → Result (List (List ℕ)) Fault
-operators_at changes part = do
-  built ← built_beside changes part
-  list_at operator_limit operator_at part
+-- the users of the operators
+unfoldable pub operators_at : Data → Result (List (List ℕ)) Fault
+operators_at part = list_at operator_limit operator_at part

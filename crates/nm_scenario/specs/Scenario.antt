@@ -16,7 +16,7 @@ use Rattle.nm_reading.specs.declared.fault.Step.TheVariants.{Name, Item}
 use Rattle.nm_reading.specs.declared.fault.Fault.{Fault}
 use Rattle.nm_reading.specs.declared.fault.ReadError.{ReadError}
 use Rattle.nm_reading.specs.declared.fault.ReadError.TheVariants as error
-use Rattle.nm_reading.specs.Reading.{◌>>=◌, here, there, under, required, optional, only_known, empty_list_at, off_at, switch_at}
+use Rattle.nm_reading.specs.Reading.{◌>>=◌, here, there, under, required, optional, only_known, empty_list_at, switch_at}
 use Rattle.nm_form.specs.Form.{Form, not_built}
 use Rattle.nm_form.specs.Read.{read as form_read}
 use Rattle.nm_events.specs.Events.{events_form}
@@ -46,27 +46,27 @@ knows_scenario name = bytes_eq name (codes "netm") || bytes_eq name (codes "cont
 -- the members after the change sets, of a scenario whose edits are written so
 unfoldable pub rest_at : {E : Type 0} → Form E → Data → Result (Rest E) Fault
 rest_at edit part = do
-  operators ← optional (codes "operators") [] (operators_at (count_in (codes "changes") part)) part
+  operators ← optional (codes "operators") [] operators_at part
   faults ← optional (codes "faults") tt (empty_list_at (here kind.NotBuilt)) part
   events ← optional (codes "events") [] (form_read (events_form edit (counts_of part))) part
-  drain ← optional (codes "drain") tt off_at part
+  drain ← optional (codes "drain") false switch_at part
   trace ← optional (codes "trace") false switch_at part
   known ← only_known knows_scenario part
-  Ok (record { operators = operators; events = events; trace = trace })
+  Ok (record { operators = operators; events = events; drain = drain; trace = trace })
 
 -- ---- flat contents
 
 -- the scenario of what was read: the edits of the events come after those of the change sets
 abbrev pub flat_scenario : List FlatState → List ReadChange → Rest FlatEdit → Scenario
 flat_scenario devices changes rest =
-    record { body = Flat devices (edits_of changes ++ edits_of_events rest.events); changes = plans_from 0 changes; operators = rest.operators; events = events_from rest.operators (length (edits_of changes)) 0 rest.events; selects = selects_of_events rest.events; trace = rest.trace }
+    record { body = Flat devices (edits_of changes ++ edits_of_events rest.events); changes = plans_from 0 changes; operators = rest.operators; events = events_from rest.operators (length (edits_of changes)) 0 rest.events; selects = selects_of_events rest.events; drain = rest.drain; trace = rest.trace }
 
 -- a scenario of flat contents, after its head
 unfoldable pub flat_scenario_at : Data → Result Scenario Fault
 flat_scenario_at part = do
   modules ← optional (codes "modules") tt (empty_list_at (here kind.BadValue)) part
   devices ← required (codes "devices") devices_at part
-  changes ← optional (codes "changes") [] (changes_read_at devices) part
+  changes ← optional (codes "changes") [] (changes_read_at (count_in (codes "devices") part)) part
   rest ← rest_at flat_edit part
   Ok (flat_scenario devices changes rest)
 
@@ -89,7 +89,7 @@ tree_from (Err (TooLarge m place)) = at_module m
 -- the scenario of what was read. No edit has been, so none has a number
 abbrev pub yang_scenario : List (List ℕ) → SchemaTree → List Rows → Rest (Unit {0}) → Scenario
 yang_scenario texts tree devices rest =
-    record { body = Yang texts tree devices; changes = []; operators = rest.operators; events = events_from rest.operators 0 0 rest.events; selects = selects_of_events rest.events; trace = rest.trace }
+    record { body = Yang texts tree devices; changes = []; operators = rest.operators; events = events_from rest.operators 0 0 rest.events; selects = selects_of_events rest.events; drain = rest.drain; trace = rest.trace }
 
 -- a scenario of YANG contents, after its head, by the tree of its modules
 unfoldable pub yang_rest_at : SchemaTree → List (List ℕ) → Data → Result Scenario Fault

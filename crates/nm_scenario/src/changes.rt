@@ -1,20 +1,15 @@
-ghost use Rattle.std.specs.Prelude.{◌≡◌, ◌+◌, ◌-◌, ◌^◌, ◌≤◌, min, length, slice_get, option_copied, IfOk, Some, is_none};
-ghost use Rattle.nm_proto.specs.Flat.{flat_violation};
-ghost use Rattle.serde_json.specs.View.{view};
-ghost use Rattle.nm_reading.specs.Reading.{Gives, number_within};
+ghost use Rattle.std.specs.Prelude.{◌≡◌, ◌-◌, ◌^◌, ◌≤◌, min};
+ghost use Rattle.nm_reading.specs.Reading.{number_within};
 ghost use Rattle.nm_events.specs.Limits.{device_limit};
-ghost use Rattle.nm_scenario.specs.Changes.{knows_change, knows_edit, last_device, device_within, goes_through, own_mark, edit_at, entry_at, entries_at, change_at, changes_read_at};
+ghost use Rattle.nm_scenario.specs.Changes.{knows_change, knows_edit, last_device, device_within, entry_at, entries_at, change_at, changes_read_at};
 
 use crate::flat::FlatEdits;
 use crate::scenario::{ReadChange, ReadEdit};
-use nm_base::{ChangeMask, ChangeNo, DEFAULT_TIMEOUT, DeviceNo, NoMemory};
+use nm_base::{DEFAULT_TIMEOUT, DeviceNo};
 use nm_events::Operation;
 use nm_events::limits::{CHANGE_LIMIT, DEVICE_LIMIT};
 use nm_form::ByForm;
-use nm_proto::{
-    ApplyFault, CheckFault, Content, DefaultOperation, FlatConfig, FlatContent, FlatEdit, Listed,
-    Marks,
-};
+use nm_proto::{DefaultOperation, Listed};
 use nm_reading::reader::{
     ItemReader, Names, Reader, fault_here, optional_member, read_list, read_object,
     read_only_known, required_member,
@@ -32,72 +27,6 @@ impl Names for EditNames {
 
     fn knows(&self, name: &str) -> bool {
         name == "device" || name == "default" || name == "edit"
-    }
-}
-
-/// The member `edit`: changes that the device with this running configuration takes.
-#[derive(Drop)]
-struct EditOf<'a> {
-    running: Option<&'a FlatConfig>,
-}
-
-impl<'a> Reader for EditOf<'a> {
-    type Out = FlatEdit;
-
-    ghost reads = { λ r. edit_at (option_copied r.running) };
-
-    #[tactic(auto, unfolding(crate::specs::Changes::edit_at))]
-    fn read(&self, alloc: Global, part: &Value) -> Result<FlatEdit, ReadError> {
-        let edit = ByForm { reader: &FlatEdits }.read(alloc, part)?;
-        if goes_through(alloc, self.running, &edit)? {
-            return Ok(edit);
-        }
-        fault_here(alloc, ScenarioKind::NotBuilt)
-    }
-}
-
-// Whether the edit with the mark of change set 1 is applied and gives a valid configuration.
-fn goes_through(
-    alloc: Global,
-    running: Option<&FlatConfig>,
-    edit: &FlatEdit,
-) -> Result<bool, NoMemory>
-    ensures { IfOk result (λ b. b ≡ goes_through (option_copied running.entry) edit.now) }
-{
-    match running {
-        None => Ok(false),
-        Some(config) => gives_valid(alloc, config, edit),
-    }
-}
-
-fn gives_valid(alloc: Global, config: &FlatConfig, edit: &FlatEdit) -> Result<bool, NoMemory>
-    ensures { IfOk result (λ b. b ≡ goes_through (Some config.now) edit.now) }
-{
-    let content = FlatContent::new(alloc);
-    match content.apply(config, edit, DefaultOperation::Merge, Some(own_mark())) {
-        Ok(after) => is_valid(&content, &after),
-        Err(ApplyFault::Refused { .. }) => Ok(false),
-        Err(ApplyFault::NoMemory) => Err(NoMemory),
-    }
-}
-
-fn is_valid(content: &FlatContent, config: &FlatConfig) -> Result<bool, NoMemory>
-    ensures { IfOk result (λ b. b ≡ is_none (flat_violation config.now)) }
-{
-    match content.check(config) {
-        Ok(()) => Ok(true),
-        Err(CheckFault::Violation { .. }) => Ok(false),
-        Err(CheckFault::NoMemory) => Err(NoMemory),
-    }
-}
-
-// What an edit of change set 1 does to the marks.
-fn own_mark() -> Marks
-    ensures { result ≡ own_mark }
-{
-    Marks {
-        add: ChangeNo::new(1).unwrap(),
-        remove: ChangeMask(0),
     }
 }
 
@@ -146,16 +75,16 @@ fn last_device(before: &Listed<ReadEdit>) -> u64
     }
 }
 
-/// One edit of a change set.
+/// One edit of a change set, in a scenario of so many devices.
 #[derive(Drop)]
-struct Entry<'a> {
-    devices: &'a Listed<FlatConfig>,
+struct Entry {
+    devices: usize,
 }
 
-impl<'a> ItemReader for Entry<'a> {
+impl ItemReader for Entry {
     type Out = ReadEdit;
 
-    ghost reads = { λ r. entry_at r.devices.now };
+    ghost reads = { λ r. entry_at r.devices };
 
     #[tactic(auto, unfolding(crate::specs::Changes::entry_at))]
     fn read(
@@ -171,7 +100,7 @@ impl<'a> ItemReader for Entry<'a> {
             "device",
             &DeviceWithin {
                 low: last_device(before) + 1,
-                count: self.devices.len(),
+                count: self.devices,
             },
         )?;
         let default_operation = optional_member(
@@ -181,14 +110,7 @@ impl<'a> ItemReader for Entry<'a> {
             DefaultOperation::Merge,
             &ByForm { reader: &Operation },
         )?;
-        let edit = required_member(
-            alloc,
-            part,
-            "edit",
-            &EditOf {
-                running: self.devices.get(usize::from(device.get()) - 1),
-            },
-        )?;
+        let edit = required_member(alloc, part, "edit", &ByForm { reader: &FlatEdits })?;
         read_only_known(alloc, part, &EditNames)?;
         Ok(ReadEdit {
             device,
@@ -200,14 +122,14 @@ impl<'a> ItemReader for Entry<'a> {
 
 /// The member `edits` of a change set.
 #[derive(Drop)]
-struct Edits<'a> {
-    devices: &'a Listed<FlatConfig>,
+struct Edits {
+    devices: usize,
 }
 
-impl<'a> Reader for Edits<'a> {
+impl Reader for Edits {
     type Out = Listed<ReadEdit>;
 
-    ghost reads = { λ r. entries_at r.devices.now };
+    ghost reads = { λ r. entries_at r.devices };
 
     #[tactic(auto, unfolding(crate::specs::Changes::entries_at))]
     fn read(&self, alloc: Global, part: &Value) -> Result<Listed<ReadEdit>, ReadError> {
@@ -250,25 +172,22 @@ impl Reader for Timeout {
 
 /// One element of the member `changes`.
 #[derive(Drop)]
-struct Change<'a> {
-    devices: &'a Listed<FlatConfig>,
+struct Change {
+    devices: usize,
 }
 
-impl<'a> ItemReader for Change<'a> {
+impl ItemReader for Change {
     type Out = ReadChange;
 
-    ghost reads = { λ r. change_at r.devices.now };
+    ghost reads = { λ r. change_at r.devices };
 
     #[tactic(auto, unfolding(crate::specs::Changes::change_at))]
     fn read(
         &self,
         alloc: Global,
-        before: &Listed<ReadChange>,
+        _before: &Listed<ReadChange>,
         part: &Value,
     ) -> Result<ReadChange, ReadError> {
-        if before.len() > 0 {
-            return fault_here(alloc, ScenarioKind::NotBuilt);
-        }
         read_object(alloc, part)?;
         let timeout = optional_member(alloc, part, "timeout", DEFAULT_TIMEOUT, &Timeout)?;
         let edits = Edits {
@@ -280,16 +199,16 @@ impl<'a> ItemReader for Change<'a> {
     }
 }
 
-/// The member `changes`.
+/// The member `changes`, in a scenario of so many devices.
 #[derive(Drop)]
-pub struct Changes<'a> {
-    pub devices: &'a Listed<FlatConfig>,
+pub struct Changes {
+    pub devices: usize,
 }
 
-impl<'a> Reader for Changes<'a> {
+impl Reader for Changes {
     type Out = Listed<ReadChange>;
 
-    ghost reads = { λ r. changes_read_at r.devices.now };
+    ghost reads = { λ r. changes_read_at r.devices };
 
     #[tactic(auto, unfolding(crate::specs::Changes::changes_read_at))]
     fn read(&self, alloc: Global, part: &Value) -> Result<Listed<ReadChange>, ReadError> {

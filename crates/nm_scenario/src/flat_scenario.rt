@@ -10,7 +10,7 @@ use crate::changes::Changes;
 use crate::devices::Devices;
 use crate::flat::FlatEdits;
 use crate::numbering::{Numbered, with_numbers};
-use crate::rest::{Rest, read_rest};
+use crate::rest::{Rest, count_in, read_rest};
 use crate::scenario::{Body, ReadChange, Scenario};
 use nm_base::NoMemory;
 use nm_events::with_event_numbers;
@@ -32,7 +32,9 @@ pub fn read_flat(alloc: Global, whole: &Value) -> Result<Scenario, ReadError>
     };
     optional_member(alloc, whole, "modules", (), &none)?;
     let devices = required_member(alloc, whole, "devices", &Devices)?;
-    let reader = Changes { devices: &devices };
+    let reader = Changes {
+        devices: count_in(whole, "devices"),
+    };
     let changes = optional_member(alloc, whole, "changes", Listed::new(alloc), &reader)?;
     let rest = read_rest(alloc, whole, &FlatEdits)?;
     Ok(put_together(alloc, devices, changes, rest)?)
@@ -52,6 +54,7 @@ fn put_together(
     let Rest {
         operators,
         events,
+        drain,
         trace,
     } = rest;
     let mut selects = Listed::new(alloc);
@@ -62,6 +65,7 @@ fn put_together(
         operators,
         events,
         selects,
+        drain,
         trace,
     })
 }

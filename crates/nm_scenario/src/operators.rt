@@ -1,7 +1,6 @@
-ghost use Rattle.std.specs.Prelude.{◌≡◌, Some};
-ghost use Rattle.serde_json.specs.View.{view};
+ghost use Rattle.std.specs.Prelude.{Some};
 ghost use Rattle.nm_reading.specs.Reading.{Gives};
-ghost use Rattle.nm_scenario.specs.Operators.{knows_operator, user_of, user_at, operator_at, built_beside, operators_at};
+ghost use Rattle.nm_scenario.specs.Operators.{knows_operator, user_of, user_at, operator_at, operators_at};
 
 use nm_base::{Label, MANAGER};
 use nm_events::limits::OPERATOR_LIMIT;
@@ -87,35 +86,17 @@ impl ItemReader for Operator {
     }
 }
 
-/// The member `operators`, in a scenario of so many change sets.
+/// The member `operators`.
 #[derive(Drop)]
-pub struct Operators {
-    pub changes: usize,
-}
+pub struct Operators;
 
 impl Reader for Operators {
     type Out = Listed<Label>;
 
-    ghost reads = { λ r. operators_at r.changes };
+    ghost reads = { λ _. operators_at };
 
     #[tactic(auto, unfolding(crate::specs::Operators::operators_at))]
     fn read(&self, alloc: Global, part: &Value) -> Result<Listed<Label>, ReadError> {
-        self.none_beside(alloc, part)?;
         read_list(alloc, part, OPERATOR_LIMIT, &Operator)
-    }
-}
-
-impl Operators {
-    // No operators beside change sets.
-    fn none_beside(&self, alloc: Global, part: &Value) -> Result<(), ReadError>
-        ensures { Gives result (built_beside self.now.changes (view part.now)) }
-    {
-        if self.changes == 0 {
-            return Ok(());
-        }
-        let none = EmptyList {
-            otherwise: ScenarioKind::NotBuilt,
-        };
-        none.read(alloc, part)
     }
 }

@@ -12,7 +12,7 @@ use nm_events::{Counts, Events, ReadEvent};
 use nm_form::{ByForm, Reader};
 use nm_proto::Listed;
 use nm_reading::reader::{Names, optional_member, read_only_known};
-use nm_reading::values::{EmptyList, Off, Switch};
+use nm_reading::values::{EmptyList, Switch};
 use nm_reading::words::item_count;
 use nm_reading::{ReadError, ScenarioKind};
 use serde_json::Value;
@@ -23,6 +23,7 @@ use std::alloc::Global;
 pub struct Rest<E> {
     pub operators: Listed<Label>,
     pub events: Listed<ReadEvent<E>>,
+    pub drain: bool,
     pub trace: bool,
 }
 
@@ -47,8 +48,8 @@ impl Names for ScenarioNames {
     }
 }
 
-// How many items a member has.
-fn count_in(whole: &Value, name: &str) -> usize
+/// How many items a member has.
+pub fn count_in(whole: &Value, name: &str) -> usize
     ensures { result ≡ count_in name.now (view whole.now) }
 {
     match whole.get(name) {
@@ -78,11 +79,7 @@ pub fn read_rest<R: Reader>(
     ensures { Gives result (rest_at (R.form edits.now) (view whole.now)) }
 {
     let counts = counts_of(whole);
-    let none = Listed::new(alloc);
-    let reader = Operators {
-        changes: counts.changes,
-    };
-    let operators = optional_member(alloc, whole, "operators", none, &reader)?;
+    let operators = optional_member(alloc, whole, "operators", Listed::new(alloc), &Operators)?;
     let faults = EmptyList {
         otherwise: ScenarioKind::NotBuilt,
     };
@@ -93,12 +90,13 @@ pub fn read_rest<R: Reader>(
     };
     let reader = ByForm { reader: &events };
     let events = optional_member(alloc, whole, "events", Listed::new(alloc), &reader)?;
-    optional_member(alloc, whole, "drain", (), &Off)?;
+    let drain = optional_member(alloc, whole, "drain", false, &Switch)?;
     let trace = optional_member(alloc, whole, "trace", false, &Switch)?;
     read_only_known(alloc, whole, &ScenarioNames)?;
     Ok(Rest {
         operators,
         events,
+        drain,
         trace,
     })
 }

@@ -18,6 +18,8 @@ pub struct Scenario {
     pub events: Listed<Event>,
     /// The texts that the partial locks of the events select, numbered from 0 by `SelectNo`.
     pub selects: Listed<Listed<Label>>,
+    /// Whether the world is brought to rest at the end.
+    pub drain: bool,
     /// Whether each event is told.
     pub trace: bool,
 }

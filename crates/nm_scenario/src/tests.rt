@@ -28,7 +28,7 @@ fn fault_text(alloc: Global, fault: &Fault) -> Result<Vec<u8>, Fail> {
 
 // A fault of each part, in the order in which they are looked at. The faults of a whole program's input stand in the tests
 // of the crate `netm`.
-static CASES: [Case; 16] = [
+static CASES: [Case; 19] = [
     Case("{", "not-json /", "not-json /"),
     Case("[]", "bad-value /", "bad-value /"),
     Case("{}", "missing /netm", "missing /netm"),
@@ -63,9 +63,24 @@ static CASES: [Case; 16] = [
         "bad-value /operators/0/user",
     ),
     Case(
-        r#"{"netm":1,"contents":"flat","devices":[{"running":{}}],"events":[["crash"]]}"#,
-        "not-built /events/0",
-        "not-built /events/0",
+        r#"{"netm":1,"contents":"flat","devices":[{"running":{}}],"changes":[{"edits":[{"device":2}]}]}"#,
+        "bad-value /changes/0/edits/0/device",
+        "bad-value /changes/0/edits/0/device",
+    ),
+    Case(
+        r#"{"netm":1,"contents":"flat","devices":[{"running":{}}],"faults":[7]}"#,
+        "not-built /faults",
+        "not-built /faults",
+    ),
+    Case(
+        r#"{"netm":1,"contents":"flat","devices":[{"running":{}}],"events":[["crash",1]]}"#,
+        "bad-value /events/0",
+        "bad-value /events/0",
+    ),
+    Case(
+        r#"{"netm":1,"contents":"flat","devices":[{"running":{}}],"drain":1}"#,
+        "bad-value /drain",
+        "bad-value /drain",
     ),
     Case(
         r#"{"netm":1,"contents":"flat","devices":[{"running":{}}]}"#,
@@ -111,22 +126,46 @@ fn faults_are_told(rt: HostRuntime) -> Result<(), Fail> {
 }
 
 const CHANGED: &str =
-    r#"{"netm":1,"contents":"flat","devices":[{"running":{"7":1}},{"running":{}}],"changes":[{"timeout":5,"edits":[{"device":1,"edit":{"7":2}},{"device":2,"edit":{"9":null}}]}]}"#;
+    r#"{"netm":1,"contents":"flat","devices":[{"running":{"7":1}},{"running":{}}],"changes":[{"timeout":5,"edits":[{"device":1,"edit":{"7":2}},{"device":2,"edit":{"9":null}}]},{"edits":[{"device":2,"edit":{"7":1000001}}]}],"operators":[{"user":"ann"}],"events":[["advance",1,1],["restart",2]],"drain":true}"#;
 
-// The second edit of the only change set has the number 1.
+// The plan of a change set's edit of device 2.
+fn planned(number: u32) -> Option<PlannedEdit> {
+    Some(PlannedEdit {
+        device: DeviceNo::new(2)?,
+        edit: EditNo(number),
+        default_operation: DefaultOperation::Merge,
+    })
+}
+
+// The second edit of the first change set has the number 1, and that of the second the next one, though no device takes it.
+// Operators and what happens to devices may stand beside change sets.
 #[test]
 fn change_sets_are_read(rt: HostRuntime) -> Result<(), Fail> {
     let Ok(scenario) = read_flat_scenario(rt.alloc(), CHANGED.as_bytes()) else {
         return Err(Fail::new("refused"));
     };
-    let plan = scenario.changes.get(0).ok_or("change set")?;
-    assert_eq!(rt; plan.timeout, 5);
-    let planned = PlannedEdit {
-        device: DeviceNo::new(2).ok_or("device 2")?,
-        edit: EditNo(1),
-        default_operation: DefaultOperation::Merge,
+    let first = scenario.changes.get(0).ok_or("change set 1")?;
+    assert_eq!(rt; first.timeout, 5);
+    assert_eq!(rt; first.edits.get(1).copied(), planned(1));
+    let second = scenario.changes.get(1).ok_or("change set 2")?;
+    assert_eq!(rt; second.timeout, 600);
+    assert_eq!(rt; second.edits.get(0).copied(), planned(2));
+    assert_eq!(rt; scenario.operators.len(), 1);
+    assert_eq!(rt; scenario.events.len(), 2);
+    Ok(())
+}
+
+// A world is brought to rest where that is asked for.
+#[test]
+fn drain_is_read(rt: HostRuntime) -> Result<(), Fail> {
+    let Ok(asked) = read_flat_scenario(rt.alloc(), CHANGED.as_bytes()) else {
+        return Err(Fail::new("refused"));
     };
-    assert_eq!(rt; plan.edits.get(1).copied(), Some(planned));
+    assert!(rt; asked.drain && !asked.trace);
+    let Ok(unasked) = read_flat_scenario(rt.alloc(), OPERATED.as_bytes()) else {
+        return Err(Fail::new("refused"));
+    };
+    assert!(rt; !unasked.drain);
     Ok(())
 }
 

@@ -161,6 +161,7 @@ fn put_together(
     let Rest {
         operators,
         events,
+        drain,
         trace,
     } = rest;
     let mut selects = Listed::new(alloc);
@@ -175,6 +176,7 @@ fn put_together(
         operators,
         events,
         selects,
+        drain,
         trace,
     })
 }

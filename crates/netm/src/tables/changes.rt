@@ -158,22 +158,22 @@ static SETS: [Row; 40] = [
     Row(
         "two sets",
         r#"[{"edits":[{"device":1,"edit":{}}]},{"edits":[{"device":1,"edit":{}}]}]"#,
-        "scenario not-built /changes/1",
+        "2",
     ),
     Row(
         "a bad second set",
         r#"[{"edits":[{"device":1,"edit":{}}]},7]"#,
-        "scenario not-built /changes/1",
+        "scenario bad-value /changes/1",
     ),
     Row(
         "an empty second set",
         r#"[{"edits":[{"device":1,"edit":{}}]},{}]"#,
-        "scenario not-built /changes/1",
+        "scenario missing /changes/1/edits",
     ),
     Row(
         "three sets",
         r#"[{"edits":[{"device":1,"edit":{}}]},7,7]"#,
-        "scenario not-built /changes/1",
+        "scenario bad-value /changes/1",
     ),
     Row(
         "a bad first set of two",
@@ -398,20 +398,16 @@ static VALUES: [Row; 24] = [
     Row("the greatest valid value", r#"{"7":1000000}"#, ""),
     Row("a removal", r#"{"7":null}"#, ""),
     Row("a removal of what isn't there", r#"{"8":null}"#, ""),
-    Row(
-        "an invalid value",
-        r#"{"7":1000001}"#,
-        "scenario not-built /changes/0/edits/0/edit",
-    ),
+    Row("an invalid value", r#"{"7":1000001}"#, ""),
     Row(
         "an invalid value of another cell",
         r#"{"8":18446744073709551615}"#,
-        "scenario not-built /changes/0/edits/0/edit",
+        "",
     ),
     Row(
-        "not-built before others",
+        "another member beside an invalid value",
         r#"{"7":1000001},"a":1"#,
-        "scenario not-built /changes/0/edits/0/edit",
+        "scenario unknown /changes/0/edits/0/a",
     ),
     Row(
         "a number above",
@@ -454,7 +450,7 @@ static VALUES: [Row; 24] = [
         "scenario content /changes/0/edits/0/edit",
     ),
     Row(
-        "content before what isn't built",
+        "content beside an invalid value",
         r#"{"7":1000001,"x":1}"#,
         "scenario content /changes/0/edits/0/edit",
     ),
@@ -474,7 +470,7 @@ static VALUES: [Row; 24] = [
     Row(
         "an invalid second edit",
         r#"{}},{"device":2,"edit":{"9":1000001}"#,
-        "scenario not-built /changes/0/edits/1/edit",
+        "",
     ),
     Row("the last value stands", r#"{"7":true,"7":null}"#, ""),
 ];

@@ -357,77 +357,75 @@ fn arguments(rt: HostRuntime) -> Result<(), Fail> {
     all_answer(rt.alloc(), &EVENTS, &ARGUMENTS)
 }
 
-// Events that aren't built are told before their number of items and their arguments.
-static UNBUILT: [Row; 19] = [
-    Row("break", r#"["break",1,1]"#, "scenario not-built /events/0"),
+// Events of links, timers, restarts and the manager.
+static LATER: [Row; 24] = [
+    Row("break", r#"["break",1,1]"#, "1"),
     Row(
         "break alone",
         r#"["break"]"#,
-        "scenario not-built /events/0",
+        "scenario bad-value /events/0",
     ),
     Row(
         "break with bad arguments",
         r#"["break",9,-1]"#,
-        "scenario not-built /events/0",
+        "scenario bad-value /events/0/1",
     ),
-    Row("lose", r#"["lose",1,1,1]"#, "scenario not-built /events/0"),
     Row(
-        "lose with bad arguments",
+        "break at a device above",
+        r#"["break",1,3]"#,
+        "scenario bad-value /events/0/2",
+    ),
+    Row("lose", r#"["lose",1,1,1]"#, "1"),
+    Row(
+        "lose with one more",
         r#"["lose",null,{},[],7]"#,
-        "scenario not-built /events/0",
+        "scenario bad-value /events/0",
     ),
     Row(
-        "advance",
-        r#"["advance",1,600]"#,
-        "scenario not-built /events/0",
+        "lose a link above",
+        r#"["lose",1,2,4294967296]"#,
+        "scenario bad-value /events/0/3",
     ),
+    Row("advance", r#"["advance",1,600]"#, "1"),
     Row(
         "advance below",
         r#"["advance",1,-1]"#,
-        "scenario not-built /events/0",
+        "scenario bad-value /events/0/2",
     ),
     Row(
         "advance above",
         r#"["advance",1,4294967296]"#,
-        "scenario not-built /events/0",
+        "scenario bad-value /events/0/2",
     ),
     Row(
         "advance alone",
         r#"["advance"]"#,
-        "scenario not-built /events/0",
+        "scenario bad-value /events/0",
     ),
+    Row("restart", r#"["restart",1]"#, "1"),
     Row(
-        "restart",
-        r#"["restart",1]"#,
-        "scenario not-built /events/0",
-    ),
-    Row(
-        "restart with bad arguments",
+        "restart with one more",
         r#"["restart",0,0]"#,
-        "scenario not-built /events/0",
+        "scenario bad-value /events/0",
     ),
-    Row("forget", r#"["forget",1]"#, "scenario not-built /events/0"),
+    Row("forget", r#"["forget",1]"#, "1"),
     Row(
-        "forget with bad arguments",
+        "forget above",
         r#"["forget",65]"#,
-        "scenario not-built /events/0",
+        "scenario bad-value /events/0/1",
     ),
-    Row("crash", r#"["crash"]"#, "scenario not-built /events/0"),
+    Row("crash", r#"["crash"]"#, "1"),
     Row(
         "crash with one",
         r#"["crash",1]"#,
-        "scenario not-built /events/0",
+        "scenario bad-value /events/0",
     ),
     Row(
         "another case of crash",
         r#"["Crash"]"#,
         "scenario bad-value /events/0/0",
     ),
-    Row(
-        "crash as the second",
-        r#"["turn",1],["crash"]"#,
-        "scenario not-built /events/1",
-    ),
+    Row("crash as the second", r#"["turn",1],["crash"]"#, "2"),
     Row(
         "a bad event before crash",
         r#"["turn"],["crash"]"#,
@@ -436,11 +434,22 @@ static UNBUILT: [Row; 19] = [
     Row(
         "crash before a bad event",
         r#"["crash"],["turn"]"#,
-        "scenario not-built /events/0",
+        "scenario bad-value /events/1",
+    ),
+    Row("renew", r#"["renew",1,1]"#, "1"),
+    Row(
+        "renew another change set",
+        r#"["renew",2,1]"#,
+        "scenario bad-value /events/0/1",
+    ),
+    Row(
+        "renew alone",
+        r#"["renew",1]"#,
+        "scenario bad-value /events/0",
     ),
 ];
 
 #[test]
-fn unbuilt(rt: HostRuntime) -> Result<(), Fail> {
-    all_answer(rt.alloc(), &EVENTS, &UNBUILT)
+fn later(rt: HostRuntime) -> Result<(), Fail> {
+    all_answer(rt.alloc(), &EVENTS, &LATER)
 }

@@ -402,7 +402,7 @@ static LISTS: [Number; 9] = [
         r#","edits":[{"device":1,"edit":{}}]}"#,
         64,
         "]}",
-        "scenario not-built /changes/1",
+        "device 1 rows 0\nchanges 64 operators 0 events 0",
     ),
     Number(
         "65 change sets",

@@ -113,7 +113,11 @@ static FORMS: [Row; 40] = [
         r#","events":"crash""#,
         "scenario bad-value /events",
     ),
-    Row("drain", r#","drain":true"#, "scenario not-built /drain"),
+    Row(
+        "drain",
+        r#","drain":true"#,
+        "changes 0 operators 0 events 0",
+    ),
     Row(
         "no drain",
         r#","drain":false"#,
@@ -251,9 +255,9 @@ static ORDERS: [Row; 29] = [
         "scenario bad-value /events/0",
     ),
     Row(
-        "drain before trace",
+        "trace beside drain",
         r#","trace":7,"drain":true"#,
-        "scenario not-built /drain",
+        "scenario bad-value /trace",
     ),
     Row(
         "a bad drain before trace",
@@ -266,14 +270,14 @@ static ORDERS: [Row; 29] = [
         "scenario bad-value /trace",
     ),
     Row(
-        "drain before others",
-        r#","a":1,"drain":true"#,
-        "scenario not-built /drain",
+        "a bad drain before others",
+        r#","a":1,"drain":1"#,
+        "scenario bad-value /drain",
     ),
     Row(
         "an event before others",
-        r#","a":1,"events":[["crash"]]"#,
-        "scenario not-built /events/0",
+        r#","a":1,"events":[["crush"]]"#,
+        "scenario bad-value /events/0/0",
     ),
     Row("another name", r#","a":1"#, "scenario unknown /a"),
     Row(

@@ -155,32 +155,28 @@ static BESIDE: Frame = Frame {
     command: "check",
     open: r#"{"netm":1,"contents":"flat","devices":[{"running":{}}],"changes":[{"edits":[{"device":1,"edit":{"7":2}}]}],"operators":"#,
     close: "}",
-    head: "netm check 1\ndevice 1 rows 0\nchanges 1 operators 0 events 0\n",
-    tail: "",
+    head: "netm check 1\ndevice 1 rows 0\nchanges 1 operators ",
+    tail: " events 0\n",
 };
 
-// Operators beside a change set aren't built, whatever they are.
+// Operators beside a change set.
 static BESIDE_CHANGES: [Row; 6] = [
-    Row("none", "[]", ""),
-    Row(
-        "one",
-        r#"[{"user":"ann"}]"#,
-        "scenario not-built /operators",
-    ),
+    Row("none", "[]", "0"),
+    Row("one", r#"[{"user":"ann"}]"#, "1"),
     Row(
         "one that is a number",
         "[7]",
-        "scenario not-built /operators",
+        "scenario bad-value /operators/0",
     ),
     Row(
         "one without a user",
         "[{}]",
-        "scenario not-built /operators",
+        "scenario missing /operators/0/user",
     ),
     Row(
         "17",
         "[1,2,3,4,5,6,7,8,9,10,11,12,13,14,15,16,17]",
-        "scenario not-built /operators",
+        "scenario too-many /operators",
     ),
     Row("no list", "{}", "scenario bad-value /operators"),
 ];

@@ -69,7 +69,7 @@ static WHOLES: [Row; 16] = [
     Row(
         "drain",
         r#"{"netm":1,"contents":"flat","devices":[{"running":{}}],"drain":true}"#,
-        "scenario not-built /drain",
+        "running 1 {\"marks\":[]}\n",
     ),
     Row(
         "another member",

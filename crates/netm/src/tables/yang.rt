@@ -82,11 +82,7 @@ static AFTER_DEVICES: [Row; 37] = [
         r#","events":[["submit",1]]"#,
         "scenario bad-value /events/0/1",
     ),
-    Row(
-        "crash",
-        r#","events":[["crash"]]"#,
-        "scenario not-built /events/0",
-    ),
+    Row("crash", r#","events":[["crash"]]"#, "1 events 1"),
     Row(
         "kill",
         r#","events":[["foreign",1,1,["kill",1]]]"#,
@@ -153,9 +149,9 @@ static AFTER_DEVICES: [Row; 37] = [
         "scenario bad-value /events/0",
     ),
     Row(
-        "drain",
+        "drain and a bad trace",
         r#","drain":true,"trace":7"#,
-        "scenario not-built /drain",
+        "scenario bad-value /trace",
     ),
     Row("drain 0", r#","drain":0"#, "scenario bad-value /drain"),
     Row("trace 1", r#","trace":1"#, "scenario bad-value /trace"),

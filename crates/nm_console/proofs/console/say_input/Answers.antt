@@ -1,4 +1,4 @@
-use Rattle.std.proofs.Common.{List, ℕ, subst, Some}
+use Rattle.std.proofs.Common.{subst, Some}
 use Rattle.nm_console.specs.Console.{TellsOver}
 use Rattle.nm_console.proofs.Crashes.{not_read}
 use Rattle.nm_console.proofs.Saying.{bytes_say}

@@ -4,11 +4,7 @@ use Rattle.nm_reading.specs.declared.fault.ReadError.TheVariants.{Bad}
 use Rattle.nm_scenario.specs.Scenario.{flat_scenario_of}
 use Rattle.nm_console.specs.Console.{TellsReplay}
 use Rattle.nm_console.proofs.Replays.{fault_replays}
-use Rattle.nm_console.proofs.Valid.{devices_valid}
 use Rattle.nm_console.proofs.replay.replay_bytes.Goals as goal
-
-pub say_scenario-requires : goal.say_scenario-requires
-say_scenario-requires g c = devices_valid c.args.bytes.now c.in-Ok.scenario c.in-Ok.ensures.read
 
 pub returns-in-Ok-say_fault-clause-told : goal.returns-in-Ok-say_fault-clause-told
 returns-in-Ok-say_fault-clause-told g c =

@@ -1,13 +1,29 @@
-use Rattle.std.proofs.Common.{◌≡◌, Err, ap}
-use Rattle.nm_journal.specs.declared.fault.JournalFault.TheVariants.{NotEmpty}
+use Rattle.std.proofs.Common.{◌∙◌, Err, IfOk, ap, subst}
+use Rattle.nm_network.specs.Runs.{IsBetween}
+use Rattle.nm_network.specs.World.{Whole}
+use Rattle.nm_disk.specs.Image.{AnyMoment}
+use Rattle.nm_proto.specs.Flat.{flat_text}
+use Rattle.nm_proto.specs.FlatContent.{flat_meaning}
+use Rattle.nm_console.specs.Console.{TellsLast, led_to, world_told}
+use Rattle.nm_console.proofs.Crashes.{run_so}
 use Rattle.nm_console.proofs.Replays.{run_told, unopened_told}
 use Rattle.nm_console.proofs.replay.say_flat.Goals as goal
 
-pub returns-in-Ok-clause-told : goal.returns-in-Ok-clause-told
-returns-in-Ok-clause-told g c =
-    run_told _ _ (g.D.Disk.told c.args.disk.now) (g.D.Disk.told c.say_run.new.disk) c.say_run.result c.in-Ok.ensures.empty c.say_run.ensures.told c.say_run.ensures.stored
+pub returns-in_ok-world-in-Ok-clause-told : goal.returns-in_ok-world-in-Ok-clause-told
+returns-in_ok-world-in-Ok-clause-told g c =
+    let mid = g.D.Disk.told c.fresh.new.disk in
+    let after = g.D.Disk.told c.say_run.new.disk in
+    run_told _ _ c.args.events.now (g.D.Disk.told c.args.disk.now) after mid c.say_run.result c.in-Ok.ensures.empty (λ there. c.fresh.ensures.keeps.tells ∙ there)
+    (subst (λ (w : Whole _ _ _ _). IfOk c.say_run.result (λ said. TellsLast (world_told flat_text c.args.trace w.setting) (led_to flat_meaning w.setting c.args.events.now c.args.drain w.state) c.args.events.now mid after said.status said.text.items))
+    c.in_ok-world-in-Ok.ensures.begun c.say_run.ensures.told)
+
+pub returns-in_ok-world-in-Ok-clause-any_moment : goal.returns-in_ok-world-in-Ok-clause-any_moment
+returns-in_ok-world-in-Ok-clause-any_moment g c = λ there empty.
+    run_so g.D.Disk.told g.D.Disk.may_leave g.D.Disk.moment g.D.Disk.might_have_left c.args.disk.now c.fresh.new.disk c.say_run.new.disk _ (c.fresh.ensures.any_moment_empty there empty)
+    (subst (λ (w : Whole _ _ _ _). AnyMoment g.D.Disk.moment g.D.Disk.might_have_left c.fresh.new.disk c.say_run.new.disk (IsBetween w.state.entries (led_to flat_meaning w.setting c.args.events.now c.args.drain w.state).entries))
+    c.in_ok-world-in-Ok.ensures.begun (c.say_run.ensures.any_moment (c.fresh.ensures.keeps.tells ∙ there)))
 
 pub returns-in-Err-clause-told : goal.returns-in-Err-clause-told
 returns-in-Err-clause-told g c =
-    unopened_told _ _ (g.D.Disk.told c.args.disk.now) (g.D.Disk.told c.fresh.new.disk) c.in-Err.fault c.say_unopened.result
+    unopened_told _ _ c.args.events.now (g.D.Disk.told c.args.disk.now) (g.D.Disk.told c.fresh.new.disk) c.in-Err.fault c.say_unopened.result
     (λ size is. c.in-Err.ensures.not_empty size (ap Err is)) c.say_unopened.ensures.told

@@ -1,8 +1,8 @@
-use Rattle.std.proofs.Common.{◌≡◌, ◌++◌, drop}
-use Rattle.std.specs.List.{flat_map}
-use Rattle.nm_report.specs.Text.{outcome_line}
+use Rattle.std.proofs.Common.{◌≡◌, ◌++◌, ◌+◌, drop}
+use Rattle.nm_report.specs.Text.{outcome_texts}
 use Rattle.nm_report.proofs.change_text.write_outcomes.Given as goal
 
 -- the lines so far and those that are left make all
-abbrev pub invariant-loop-report : goal.invariant-loop-report
-invariant-loop-report l = l.out.items ++ flat_map (outcome_line l.change) (drop l.report-index l.reports) ≡ l.initial.out.items ++ flat_map (outcome_line l.change) l.initial.reports
+abbrev pub invariant-loop-place : goal.invariant-loop-place
+invariant-loop-place g l = l.out.items ++ outcome_texts l.change l.members.0 (l.place + 1) (drop l.place l.devices)
+    ≡ l.initial.out.items ++ outcome_texts l.change l.members.0 1 l.initial.devices

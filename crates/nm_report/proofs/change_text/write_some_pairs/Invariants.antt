@@ -4,5 +4,5 @@ use Rattle.nm_report.specs.Text.{pair_line}
 use Rattle.nm_report.proofs.change_text.write_some_pairs.Given as goal
 
 -- the lines so far and those that are left make all
-abbrev pub invariant-loop-report : goal.invariant-loop-report
-invariant-loop-report l = l.out.items ++ flat_map (pair_line l.word l.change) (drop l.report-index l.reports) ≡ l.initial.out.items ++ flat_map (pair_line l.initial.word l.change) l.initial.reports
+abbrev pub invariant-loop-pair : goal.invariant-loop-pair
+invariant-loop-pair l = l.out.items ++ flat_map (pair_line l.word) (drop l.pair-index l.pairs) ≡ l.initial.out.items ++ flat_map (pair_line l.initial.word) l.initial.pairs

@@ -1,0 +1,203 @@
+-- What a world asks of a scenario that was read, and what its safety does.
+use Rattle.std.proofs.Common.{◌≡◌, ◌≤◌, ◌<◌, ◌+◌, ◌&&◌, ◌⊎◌, inl, inr, ℕ, List, [], ◌∷◌, length, map, get_or, Bool, true, false, Some, None, slice_get, refl, sym, ap, ◌∙◌, subst, arith, lt-ltb}
+use Rattle.std.specs.List.{All, sum_by, fold}
+use Rattle.std.specs.Option.{IfSome}
+use Rattle.std.specs.Str.{bytes_eq}
+use Rattle.std.proofs.lemmas.List.Elements.{All-tail}
+use Rattle.std.proofs.lemmas.Option.{slice_get_cases}
+use Rattle.nm_base.specs.Words.{manager}
+use Rattle.nm_device.specs.Device.{is_manager}
+use Rattle.nm_events.specs.declared.arguments.Counts.{Counts}
+use Rattle.nm_events.specs.Kept.{EventKeeps, weight}
+use Rattle.nm_manager.specs.Requests.{IsWellFormed, ascend_above}
+use Rattle.nm_network.specs.Runs.{IsNumbered}
+use Rattle.nm_network.specs.Drain.{drain_limit}
+use Rattle.nm_network.specs.World.{IsFirst, Setting, start}
+use Rattle.nm_proto.specs.declared.message.Request.{Request}
+use Rattle.nm_proto.specs.declared.message.Request.TheVariants.{OpenSession, Lock, Unlock, PartialLock, PartialUnlock, Edit, Validate, Commit, CancelCommit, Discard, HasMark, GetConfig, Kill, CloseSession}
+use Rattle.nm_proto.specs.declared.flat.FlatEdit.{FlatEdit}
+use Rattle.nm_proto.specs.declared.plan.ChangePlan.{ChangePlan}
+use Rattle.nm_proto.specs.declared.plan.Event.{Event}
+use Rattle.nm_proto.specs.declared.plan.Event.TheVariants.{Submit, Turn, Deliver, Answer, Break, Lose, Advance, Restart, Forget, Crash, Renew, Foreign, Leave, Round}
+use Rattle.nm_proto.specs.declared.plan.PlannedEdit.{PlannedEdit}
+use Rattle.nm_proto.specs.Flat.{FlatState}
+use Rattle.nm_proto.specs.FlatContent.{flat_meaning, flat_laws}
+use Rattle.nm_refusals.specs.Kept.{Ascend, BodyKeeps, ChangeKeeps, IsOwnOpening, OpensOwn, ScenarioKeeps, StateKeeps, UserKeeps, counts_in, device_of_plan, devices_in}
+use Rattle.nm_scenario.specs.declared.scenario.Body.TheVariants.{Flat}
+use Rattle.nm_scenario.specs.declared.scenario.Scenario.{Scenario}
+use Rattle.nm_safety.specs.Safe.{AreGiven, IsGiven, IsProper, IsSafe}
+use Rattle.nm_safety.specs.Safe as safe
+use Rattle.nm_safety.proofs.Drained.{drained_safe}
+use Rattle.nm_safety.proofs.Safely.{run_is_safe}
+use Rattle.nm_console.specs.Console.{CanRun, led_to, setting_of, world_of}
+
+-- ---- devices and change sets
+
+firsts : (devices : List FlatState) → All StateKeeps devices → All (IsFirst flat_meaning) devices
+firsts devices keep = λ k d less. record { belongs = tt; valid = (keep k d less).valid }
+
+belong : (edits : List FlatEdit) → All flat_meaning.edit_belongs edits
+belong edits = λ k d less. tt
+
+ascending : (low high : ℕ) (edits : List PlannedEdit) → Ascend low high (map device_of_plan edits) → ascend_above low edits ≡ true
+ascending low high [] h = refl
+ascending low high (edit ∷ edits) h =
+    ap (λ t. t && ascend_above edit.device edits) (lt-ltb low edit.device h.0) ∙ ascending edit.device high edits h.2
+
+formed : (devices : ℕ) (plan : ChangePlan) → ChangeKeeps devices plan → IsWellFormed plan
+formed devices plan keeps = record { some = keeps.edits; ascend = ascending 0 devices plan.edits keeps.ascending; waits = keeps.timeout.0 }
+
+all_formed : (devices : ℕ) (plans : List ChangePlan) → All (ChangeKeeps devices) plans → All IsWellFormed plans
+all_formed devices plans keep = λ k d less. formed devices _ (keep k d less)
+
+-- ---- events
+
+weighs : (c : Counts) (event : Event) → EventKeeps c event → 1 ≤ weight event
+weighs c (Submit change) h = omega arith
+weighs c (Turn change) h = omega arith
+weighs c (Deliver change device link) h = omega arith
+weighs c (Answer change device link number) h = omega arith
+weighs c (Break change device) h = omega arith
+weighs c (Lose change device link) h = omega arith
+weighs c (Advance device seconds) h = omega arith
+weighs c (Restart device) h = omega arith
+weighs c (Forget change) h = omega arith
+weighs c Crash h = omega arith
+weighs c (Renew change device) h = omega arith
+weighs c (Foreign operator device request) h = omega arith
+weighs c (Leave operator device) h = omega arith
+weighs c (Round change turns) h = omega (arith, h.1.0)
+
+counted : (c : Counts) (events : List Event) (so_far : ℕ) → All (EventKeeps c) events → length events + so_far ≤ fold (λ a x. a + weight x) so_far events
+counted c [] so_far h = omega arith
+counted c (event ∷ events) so_far h =
+    let one : 1 ≤ weight event = weighs c event (h 0 event (omega arith)) in
+    let rest : length events + (so_far + weight event) ≤ fold (λ a x. a + weight x) (so_far + weight event) events = counted c events (so_far + weight event) (All-tail (EventKeeps c) event events h) in
+    omega (arith, one, rest)
+
+-- an event stands for one elementary event at least
+pub few_events : (c : Counts) (events : List Event) (most : ℕ) → All (EventKeeps c) events → sum_by weight events ≤ most → length events ≤ most
+few_events c events most h few = let all : length events + 0 ≤ sum_by weight events = counted c events 0 h in omega (arith, all, few)
+
+numbered : (c : Counts) (event : Event) → EventKeeps c event → IsNumbered c.changes event
+numbered c (Submit change) h = h.1
+numbered c (Turn change) h = h.1
+numbered c (Deliver change device link) h = h.0.1
+numbered c (Answer change device link number) h = h.0.1
+numbered c (Break change device) h = h.0.1
+numbered c (Lose change device link) h = h.0.1
+numbered c (Advance device seconds) h = omega arith
+numbered c (Restart device) h = omega arith
+numbered c (Forget change) h = h.1
+numbered c Crash h = omega arith
+numbered c (Renew change device) h = h.0.1
+numbered c (Foreign operator device request) h = omega arith
+numbered c (Leave operator device) h = omega arith
+numbered c (Round change turns) h = h.0.1
+
+all_numbered : (c : Counts) (events : List Event) → All (EventKeeps c) events → All (IsNumbered c.changes) events
+all_numbered c events h = λ k d less. numbered c _ (h k d less)
+
+-- ---- together
+
+module _ (s : Scenario) (devices : List FlatState) (edits : List FlatEdit) (is : s.body ≡ Flat devices edits) (keeps : ScenarioKeeps s) where
+  body_keeps : BodyKeeps (Flat devices edits)
+  body_keeps = subst BodyKeeps is keeps.body
+
+  few_devices : length devices ≤ 32
+  few_devices = let few = keeps.devices.1 in subst (λ body. devices_in body ≤ 32) is few
+
+  -- a world can run a scenario of flat contents
+  pub flat_runs : CanRun flat_meaning (setting_of edits s) devices s.events
+  flat_runs = record {
+    first = firsts devices body_keeps.0;
+    edits = belong edits;
+    few_devices = few_devices;
+    well_formed = all_formed (devices_in s.body) s.changes keeps.changes;
+    few = keeps.change_sets;
+    few_users = keeps.operator_count;
+    given = all_numbered (counts_in s) s.events keeps.events;
+    few_events = few_events (counts_in s) s.events 100000 keeps.events keeps.event_count;
+  }
+
+-- ---- what safety asks
+
+module _ (setting : Setting FlatEdit) (c : Counts) where
+  own : (operator : ℕ) (request : Request) → IsOwnOpening setting.users operator request → safe.IsOwnOpening setting operator request
+  own operator (OpenSession user) h = h
+  own operator (Lock store) h = tt
+  own operator (Unlock store) h = tt
+  own operator (PartialLock select) h = tt
+  own operator (PartialUnlock id) h = tt
+  own operator (Edit edit operation marks) h = tt
+  own operator Validate h = tt
+  own operator (Commit confirmed timeout persist persist_id) h = tt
+  own operator (CancelCommit persist_id) h = tt
+  own operator Discard h = tt
+  own operator (HasMark change) h = tt
+  own operator GetConfig h = tt
+  own operator (Kill session) h = tt
+  own operator CloseSession h = tt
+
+  given : (event : Event) → EventKeeps c event → OpensOwn setting.users event → IsGiven setting event
+  given (Submit change) h o = h.0
+  given (Turn change) h o = h.0
+  given (Deliver change device link) h o = h.0.0
+  given (Answer change device link number) h o = (h.0.0, h.1.0)
+  given (Break change device) h o = (h.0.0, h.1.0)
+  given (Lose change device link) h o = h.0.0
+  given (Advance device seconds) h o = tt
+  given (Restart device) h o = tt
+  given (Forget change) h o = h.0
+  given Crash h o = tt
+  given (Renew change device) h o = (h.0.0, h.1.0)
+  given (Foreign operator device request) h o = own operator request o
+  given (Leave operator device) h o = tt
+  given (Round change turns) h o = h.0.0
+
+  all_given : (events : List Event) → All (EventKeeps c) events → All (OpensOwn setting.users) events → AreGiven setting events
+  all_given [] h o = tt
+  all_given (event ∷ events) h o =
+      (given event (h 0 event (omega arith)) (o 0 event (omega arith)), all_given events (All-tail (EventKeeps c) event events h) (All-tail (OpensOwn setting.users) event events o))
+
+-- what holds of each element holds of the one that is got
+got_by : {X : Type 0} (P : X → Type 0) (xs : List X) (k : ℕ) → All P xs
+    → ((x : X) × (k < length xs) × (slice_get xs k ≡ Some x) × (get_or xs k x ≡ x)) ⊎ ((length xs ≤ k) × (slice_get xs k ≡ None)) → IfSome (slice_get xs k) P
+got_by P xs k h (inl found) = subst (λ o. IfSome o P) (sym found.2) (subst P found.3 (h k found.0 found.1))
+got_by P xs k h (inr none) = subst (λ o. IfSome o P) (sym none.1) tt
+
+got : {X : Type 0} (P : X → Type 0) (xs : List X) (k : ℕ) → All P xs → IfSome (slice_get xs k) P
+got P xs k h = got_by P xs k h (slice_get_cases xs k).1
+
+-- an operator isn't the manager
+stranger : (name : List ℕ) → UserKeeps name → is_manager (Some name) ≡ false
+stranger name h = by_name (bytes_eq name manager) refl h
+  where
+    by_name : (same : Bool) → bytes_eq name manager ≡ same → UserKeeps name → is_manager (Some name) ≡ false
+    by_name true is h = absurd cc
+    by_name false is h = is
+
+strangers : (users : List (List ℕ)) (number : ℕ) → All UserKeeps users → IfSome (slice_get users number) (λ user. is_manager (Some user) ≡ false)
+strangers users number h = got (λ user. is_manager (Some user) ≡ false) users number (λ k d less. stranger (get_or users k d) (h k d less))
+
+module _ (s : Scenario) (devices : List FlatState) (edits : List FlatEdit) (is : s.body ≡ Flat devices edits) (keeps : ScenarioKeeps s) where
+  can : CanRun flat_meaning (setting_of edits s) devices s.events
+  can = flat_runs s devices edits is keeps
+
+  flat_proper : IsProper flat_meaning (setting_of edits s) devices s.events
+  flat_proper = record {
+    first = λ place. got (IsFirst flat_meaning) devices place can.first;
+    edits = can.edits;
+    few_devices = can.few_devices;
+    few = can.few;
+    strangers = λ number. strangers s.operators number keeps.operators;
+    given = all_given (setting_of edits s) (counts_in s) s.events keeps.events keeps.openings;
+  }
+
+  safe_if : (drain : Bool) → IsSafe flat_meaning (setting_of edits s) devices s.events (led_to flat_meaning (setting_of edits s) s.events drain (start (setting_of edits s) devices))
+  safe_if false = run_is_safe flat_meaning flat_laws (setting_of edits s) devices s.events flat_proper
+  safe_if true = drained_safe flat_meaning flat_laws (setting_of edits s) devices s.events drain_limit flat_proper
+
+  -- the world of a scenario of flat contents is safe
+  pub flat_safe : IsSafe flat_meaning (setting_of edits s) devices s.events (world_of devices edits s)
+  flat_safe = safe_if s.drain

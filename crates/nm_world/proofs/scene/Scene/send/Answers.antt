@@ -1,5 +1,0 @@
-use Rattle.std.proofs.Common.{◌≡◌, refl}
-use Rattle.nm_world.proofs.scene.Scene.send.Goals as goal
-
-pub returns : goal.returns
-returns g c = let e = c.in_ok-happened.ensures.sent in rw (← c.self.view_is) (e.happened_is, rw e.links_are refl)
