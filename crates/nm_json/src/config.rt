@@ -35,8 +35,8 @@ fn with_name(alloc: Global, path: &Label, name: &Label) -> Result<Label, NoMemor
     Label::new(alloc, text.as_str())
 }
 
-// The text of a place.
-fn place_label(alloc: Global, schema: &Schema, place: &Place) -> Result<Label, NoMemory>
+/// The text of a place: of its path, and of the name below it.
+pub fn place_label(alloc: Global, schema: &Schema, place: &Place) -> Result<Label, NoMemory>
     ensures { IfOk result (λ label. label ≡ place_text schema.now place.now) }
 {
     let path = write_path(alloc, schema, &place.path)?;

@@ -75,8 +75,8 @@ fn printed(alloc: Global, steps: &[Step]) -> Result<Vec<Step>, NoMemory>
     Ok(all)
 }
 
-// The steps of a place as they are printed.
-fn place_steps(alloc: Global, place: &Place) -> Result<Vec<Step>, NoMemory>
+/// The steps of a place as they are printed: their order is that of faults.
+pub fn place_steps(alloc: Global, place: &Place) -> Result<Vec<Step>, NoMemory>
     ensures { IfOk result (λ all. all.items ≡ place_steps place.now) }
 {
     let mut all = printed(alloc, &place.path.steps)?;

@@ -104,9 +104,9 @@ fn node_key(
     }
 }
 
-// The value of a key, or its fault.
+/// The value of a key, or its fault: at the bare list where there is none, else at the key.
 #[tactic(auto, unfolding(crate::specs::Findings::key_read))]
-fn read_key(
+pub fn read_key(
     alloc: Global,
     schema: &Schema,
     list: &Spot,

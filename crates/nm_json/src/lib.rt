@@ -8,14 +8,14 @@
 
 pub mod config;
 pub mod fault;
-mod gathered;
-mod keys;
+pub mod gathered;
+pub mod keys;
 pub mod laws;
-mod leafs;
-mod names;
+pub mod leafs;
+pub mod names;
 mod put;
 mod spelled;
-mod spot;
+pub mod spot;
 mod walk;
 pub mod write;
 
