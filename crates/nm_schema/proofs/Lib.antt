@@ -12,4 +12,5 @@ pub mod Shapes
 pub mod Keys
 pub mod Nodes
 pub mod Sound
+pub mod Marked
 pub mod Single

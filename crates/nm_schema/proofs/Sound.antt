@@ -72,7 +72,7 @@ in_both (x ∷ xs) ys (suc i) y e = elim (in_both xs ys i y e) [
   | inr behind ↦ inr (record { k = behind.k; at = omega (arith, behind.at); there = behind.there })
 ]
 
-behind : {X : Type 0} (xs ys : List X) (k : ℕ) → slice_get (xs ++ ys) (length xs + k) ≡ slice_get ys k
+pub behind : {X : Type 0} (xs ys : List X) (k : ℕ) → slice_get (xs ++ ys) (length xs + k) ≡ slice_get ys k
 behind [] ys k = ap (slice_get ys) (omega arith)
 behind (x ∷ xs) ys k =
     let at : length (x ∷ xs) + k ≡ suc (length xs + k) = omega arith in

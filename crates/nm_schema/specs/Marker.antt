@@ -1,10 +1,11 @@
 -- The module that is added to those that are given: a mark for each change that was applied (this project's own).
-use Rattle.std.specs.Prelude.{ℕ, ◌+◌, pos, List, [], ◌∷◌, codes, Option, Some, None, false}
+use Rattle.std.specs.Prelude.{◌≡◌, ℕ, ◌+◌, pos, List, [], ◌∷◌, codes, Option, Some, None, false, slice_get}
 use Rattle.nm_base.specs.Words.{marker_name}
 use Rattle.nm_types.specs.LeafType.{TypeOfLeaf, integer}
 use Rattle.nm_tree.specs.declared.node.Node.{Node}
 use Rattle.nm_tree.specs.declared.node.NodeKind.{NodeKind}
 use Rattle.nm_tree.specs.declared.node.NodeKind.TheVariants as kind
+use Rattle.nm_tree.specs.Nodes.{SchemaTree}
 
 -- the numbers of changes: `uint32` (RFC 7950 section 9.2)
 abbrev pub change_type : TypeOfLeaf
@@ -28,3 +29,10 @@ change_node n = marker_node (Some (n + 1)) (codes "change") (kind.Leaf change_ty
 -- its nodes, after n others
 abbrev pub marker_nodes : ℕ → List Node
 marker_nodes n = changes_node ∷ applied_node n ∷ change_node n ∷ []
+
+-- the nodes of the marker module stand in a tree, one after another
+pub record HasMarker (t : SchemaTree) : Type 0 where
+  pub at : ℕ
+  pub changes : slice_get t.nodes at ≡ Some changes_node
+  pub applied : slice_get t.nodes (at + 1) ≡ Some (applied_node at)
+  pub change : slice_get t.nodes (at + 2) ≡ Some (change_node at)

@@ -6,11 +6,17 @@ ghost use Rattle.nm_tree.specs.Nodes.{SchemaTree};
 ghost use Rattle.nm_path.specs.Sound.{IsSound};
 ghost use Rattle.nm_flaws.specs.declared.fault.Fault.{Fault};
 ghost use Rattle.nm_schema.specs.Built as spec;
+ghost use Rattle.nm_schema.specs.Marker.{HasMarker};
 
 /// The nodes of a tree that modules give: their names are identifiers and tell them apart, each stands in an earlier container or
 /// list of its module or at the top, each list has keys, which are leafs in it, and the types are those of YANG.
 pub fn sound_nodes()
     ensures { (modules : List Tree) (t : SchemaTree) → spec.Builds modules (Ok t) → IsSound t.nodes }
+{}
+
+/// The nodes of the marker module stand in a tree that modules give.
+pub fn marker_stands()
+    ensures { (modules : List Tree) (t : SchemaTree) → spec.Builds modules (Ok t) → HasMarker t }
 {}
 
 /// Modules give one tree or one fault: two that they give are the same.

@@ -8,6 +8,7 @@ ghost use Rattle.nm_flaws.specs.Facts as facts;
 ghost use Rattle.nm_path.specs.Written.{IsWellNamed};
 ghost use Rattle.nm_path.specs.Sound.{IsSound};
 ghost use Rattle.nm_schema.specs.Built as spec;
+ghost use Rattle.nm_schema.specs.Marker.{HasMarker};
 
 use crate::fault::SchemaFault;
 use crate::tree::schema_of;
@@ -75,11 +76,12 @@ fn answer_rows(alloc: Global, rows: &Rows) -> Result<Schema, SchemaFault>
 ///
 /// The names in a tree are identifiers, and tell the nodes of one place, the keys of a list and the bits of a type apart. Each
 /// node stands at the top, or in an earlier container or list of its module. A list has keys, which are leafs in it.
-#[tactic(auto, using(crate::proofs::Sound::answer_named, crate::proofs::Sound::answer_sound))]
+#[tactic(auto, using(crate::proofs::Sound::answer_named, crate::proofs::Sound::answer_sound, crate::proofs::Marked::answer_marked))]
 pub fn build(alloc: Global, modules: &[Statement]) -> Result<Schema, SchemaFault>
     ensures answers { spec.Answers modules.now result }
     ensures named { IfOk result (λ schema. IsWellNamed schema.nodes) }
     ensures sound { IfOk result (λ schema. IsSound schema.nodes) }
+    ensures marked { IfOk result HasMarker }
 {
     let rows = rows_of(alloc, modules)?;
     answer_rows(alloc, &rows)
