@@ -67,8 +67,8 @@ fn is_of_choice(schema: &Schema, choice: usize, at: usize) -> bool
     case_of_choice(schema, choice, at).is_some()
 }
 
-// The nodes that stand in a choice.
-fn nodes_of(alloc: Global, schema: &Schema, choice: usize) -> Result<Vec<usize>, NoMemory>
+/// The nodes that stand in a choice.
+pub fn nodes_of(alloc: Global, schema: &Schema, choice: usize) -> Result<Vec<usize>, NoMemory>
     ensures { IfOk result (λ all. all.items ≡ filter (is_of_choice schema.now choice) (spec.numbers schema.now.nodes)) }
 {
     let mut all = Vec::new(alloc);

@@ -4,24 +4,25 @@
 //! exactly the violation that is told, whatever the rows lie over.
 #![tactic(auto)]
 
-mod areas;
-mod cases;
+pub mod areas;
+pub mod cases;
 mod choices;
 mod counts;
 mod fits;
-mod keys;
+pub mod keys;
 mod leafs;
 mod least;
 mod too_few;
 mod too_many;
 mod unique;
 mod value_types;
-mod values;
+pub mod values;
 
-pub use choices::least_missing_choice;
+pub use choices::{case_of_choice, least_missing_choice, nodes_of};
 pub use keys::least_bad_key;
 pub use leafs::least_missing_leaf;
-pub use too_few::least_too_few;
+pub use least::with_path;
+pub use too_few::{front, least_too_few};
 pub use too_many::least_too_many;
 pub use unique::least_repeated_entry;
 pub use value_types::least_bad_value;

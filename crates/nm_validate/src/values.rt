@@ -55,8 +55,8 @@ fn keys_around(schema: &Schema, at: usize) -> &[usize]
     }
 }
 
-// The value of a key leaf in an entry, which its path has.
-fn key_in_entry(schema: &Schema, at: usize, entry: &Path) -> Result<Option<Value>, NoMemory>
+/// The value of a key leaf in an entry, which its path has.
+pub fn key_in_entry(schema: &Schema, at: usize, entry: &Path) -> Result<Option<Value>, NoMemory>
     ensures { IfOk result (λ value. value ≡ spec.key_in_entry schema.now at entry.now) }
 {
     match key_value(keys_around(schema, at), at, values_in(entry)) {
@@ -67,8 +67,8 @@ fn key_in_entry(schema: &Schema, at: usize, entry: &Path) -> Result<Option<Value
 
 // ---- guards
 
-// Whether the last step of a path chooses no entry.
-fn is_whole(path: &Path) -> bool
+/// Whether the last step of a path chooses no entry.
+pub fn is_whole(path: &Path) -> bool
     ensures { result ≡ under_spec.is_whole (last_chosen path.now) }
 {
     match path.steps.last() {
@@ -202,8 +202,8 @@ fn stands<M: RowMap>(
 
 // ---- leafs
 
-// The default of a leaf where no row of it is and its guard holds (RFC 7950 section 7.6.1).
-fn default_in_use<M: RowMap>(
+/// The default of a leaf where no row of it is and its guard holds (RFC 7950 section 7.6.1).
+pub fn default_in_use<M: RowMap>(
     alloc: Global,
     schema: &Schema,
     config: &M,

@@ -1,0 +1,5 @@
+pub mod Scanned
+pub mod Placed
+pub mod Cased
+pub mod Told
+pub mod Sampled

@@ -1,0 +1,11 @@
+use Rattle.std.proofs.Common.{ap, ◌∙◌}
+use Rattle.nm_validate.specs.Least.{least_with}
+use Rattle.nm_check.proofs.Cased.{all_below}
+use Rattle.nm_check.proofs.one_case.least_of_choice.Goals as goal
+
+pub returns : goal.returns
+returns g c =
+    let t = c.args.schema.now in
+    let rows = g.M.RowMap.rows c.args.config.now in
+    c.in_ok-least.ensures
+    ∙ ap (least_with c.args.found) (all_below t rows c.args.choice c.deref.result.now (c.deref.ensures.value ∙ c.in_ok-nodes.ensures) c.args.places.now)

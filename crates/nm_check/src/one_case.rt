@@ -1,0 +1,155 @@
+//! The rule of choices: no two cases of one have nodes.
+
+ghost use Rattle.std.specs.Prelude.{◌≡◌, IfOk, length};
+ghost use Rattle.std.specs.List.{flat_map};
+ghost use Rattle.nm_tree.specs.Nodes.{same_parent};
+ghost use Rattle.nm_rules.specs.declared.rule.Rule.TheVariants as rule;
+ghost use Rattle.nm_rules.specs.Guards as guard;
+ghost use Rattle.nm_rules.specs.Values.{is_same_path};
+ghost use Rattle.nm_rules.specs.Violation.{least_at};
+ghost use Rattle.nm_validate.specs.Least.{least_with};
+ghost use Rattle.nm_check.specs.Others as spec;
+
+use crate::child::first_other;
+use crate::places::places_of;
+use nm_base::NoMemory;
+use nm_config::RowMap;
+use nm_path::node_of;
+use nm_tree::Schema;
+use nm_types::Path;
+use nm_validate::{front, nodes_of, with_path};
+use std::alloc::Global;
+
+// Whether two nodes stand in one node, or both at the top, by what they stand in.
+fn is_same(one: Option<usize>, other: Option<usize>) -> bool
+    ensures { result ≡ same_parent one other }
+{
+    match (one, other) {
+        (None, None) => true,
+        (Some(one), Some(other)) => one == other,
+        _ => false,
+    }
+}
+
+// Whether one of some nodes stands directly in the node of a place, or at the top, where the place leads to none.
+fn any_below(schema: &Schema, nodes: &[usize], above: &Path) -> bool
+    ensures { result ≡ spec.any_below schema.now nodes.now above.now }
+{
+    let within = node_of(schema, above);
+    for at in nodes {
+        if is_same(schema.parent(*at), within) {
+            return true;
+        }
+    }
+    false
+}
+
+// Whether a path stands directly below a place.
+fn is_at(alloc: Global, path: &Path, above: &Path) -> Result<bool, NoMemory>
+    ensures { IfOk result (λ is. is ≡ is_same_path (guard.front path.now) above.now) }
+{
+    let place = front(alloc, path)?;
+    Ok(place == *above)
+}
+
+// The lesser of what was found so far and the first child of another case of a choice at a place, where that stands
+// directly below the place.
+fn with_other<M: RowMap>(
+    alloc: Global,
+    schema: &Schema,
+    config: &M,
+    choice: usize,
+    above: &Path,
+    found: Option<Path>,
+) -> Result<Option<Path>, NoMemory>
+    ensures { IfOk result (λ least. least ≡ least_with found (spec.other_at schema.now (M.rows config.now) choice above.now)) }
+{
+    let Some(child) = first_other(alloc, schema, config, choice, above)? else {
+        return Ok(found);
+    };
+    if !is_at(alloc, &child.path, above)? {
+        return Ok(found);
+    }
+    Ok(with_path(found, child.path))
+}
+
+// The same, where one of the nodes of the choice may stand there.
+fn with_other_below<M: RowMap>(
+    alloc: Global,
+    schema: &Schema,
+    config: &M,
+    choice: usize,
+    nodes: &[usize],
+    above: &Path,
+    found: Option<Path>,
+) -> Result<Option<Path>, NoMemory>
+    ensures { IfOk result (λ least. least ≡ least_with found (spec.other_below schema.now (M.rows config.now) choice nodes.now above.now)) }
+{
+    if !any_below(schema, nodes, above) {
+        return Ok(found);
+    }
+    with_other(alloc, schema, config, choice, above, found)
+}
+
+// The least of what was found so far and of such children of a choice that has these nodes, at these places.
+fn least_among<M: RowMap>(
+    alloc: Global,
+    schema: &Schema,
+    config: &M,
+    choice: usize,
+    nodes: &[usize],
+    places: &[Path],
+    found: Option<Path>,
+) -> Result<Option<Path>, NoMemory>
+    ensures { IfOk result (λ least. least ≡ least_with found (flat_map (spec.other_below schema.now (M.rows config.now) choice nodes.now) places.now)) }
+{
+    let mut least = found;
+    for above in places {
+        least = with_other_below(alloc, schema, config, choice, nodes, above, least)?;
+    }
+    Ok(least)
+}
+
+// The least of what was found so far and of such children of a choice, at these places.
+fn least_of_choice<M: RowMap>(
+    alloc: Global,
+    schema: &Schema,
+    config: &M,
+    choice: usize,
+    places: &[Path],
+    found: Option<Path>,
+) -> Result<Option<Path>, NoMemory>
+    ensures { IfOk result (λ least. least ≡ least_with found (spec.others_of schema.now (M.rows config.now) choice places.now)) }
+{
+    let nodes = nodes_of(alloc, schema, choice)?;
+    let least = least_among(alloc, schema, config, choice, &nodes, places, found)?;
+    Ok(least)
+}
+
+// How many choices there are.
+fn choice_count(schema: &Schema) -> usize
+    ensures { result ≡ length schema.now.choices }
+{
+    schema.choices().len()
+}
+
+/// The least path of a child that is of another case than the first child of its choice (RFC 7950 section 7.9).
+pub fn least_other_case<M: RowMap>(
+    alloc: Global,
+    schema: &Schema,
+    config: &M,
+) -> Result<Option<Path>, NoMemory>
+    ensures { IfOk result (λ found. found ≡ least_at schema.now (M.rows config.now) rule.OneCase) }
+{
+    if choice_count(schema) == 0 {
+        return Ok(None);
+    }
+    schema.laws();
+    let all = config.listed(alloc)?;
+    let places = places_of(alloc, &all)?;
+    let mut least = None;
+    for choice in 0..choice_count(schema) {
+        least = least_of_choice(alloc, schema, config, choice, &places, least)?;
+    }
+    Ok(least)
+}

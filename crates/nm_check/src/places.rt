@@ -1,0 +1,79 @@
+//! The places that rows stand below.
+
+ghost use Rattle.std.specs.Prelude.{◌≡◌, ◌++◌, [], IfOk, OnOk, map, take};
+ghost use Rattle.nm_check.specs.Places as spec;
+
+use nm_base::NoMemory;
+use nm_types::{Path, Step, Value};
+use std::alloc::Global;
+
+// How many of the places that a path stands below, from the top down, another path stands below too.
+fn shared_places(one: &[Step], other: &[Step]) -> usize
+    ensures { result ≡ spec.shared_places one.now other.now }
+{
+    let mut count = 0;
+    let mut ours = one;
+    let mut theirs = other;
+    'steps: while let [step, more @ ..] = ours {
+        let [their, others @ ..] = theirs else {
+            return count;
+        };
+        count += 1;
+        if step != their {
+            return count;
+        }
+        ours = more;
+        theirs = others;
+    }
+    count
+}
+
+// The first steps of a path.
+fn first_steps(alloc: Global, steps: &[Step]) -> Result<Path, NoMemory>
+    ensures { IfOk result (λ path. path ≡ steps.now) }
+{
+    let mut copies = Vec::with_capacity(alloc, steps.len())?;
+    for step in steps {
+        copies.push(step.copy(alloc)?)?;
+    }
+    Ok(Path { steps: copies })
+}
+
+/// The path of so many first steps of a path, and of all where it has no more.
+pub fn beginning(alloc: Global, path: &Path, count: usize) -> Result<Path, NoMemory>
+    ensures { IfOk result (λ first. first ≡ take count path.now) }
+{
+    let steps = path.steps.as_slice();
+    match steps.get(..count) {
+        None => path.copy(alloc),
+        Some(first) => first_steps(alloc, first),
+    }
+}
+
+// Puts the places that a path stands below behind others, from the top down, but for those that a path before it stands below.
+fn put_places(
+    alloc: Global,
+    before: &[Step],
+    path: &Path,
+    places: &mut Vec<Path>,
+) -> Result<(), NoMemory>
+    ensures { OnOk result (places.new.items ≡ places.old.items ++ spec.places_from (spec.shared_places before.now path.now) path.now) }
+{
+    for count in shared_places(before, path.steps.as_slice())..path.steps.len() {
+        places.push(beginning(alloc, path, count)?)?;
+    }
+    Ok(())
+}
+
+/// The places that rows stand below, each where the row before doesn't stand below it.
+pub fn places_of(alloc: Global, all: &[(&Path, &Value)]) -> Result<Vec<Path>, NoMemory>
+    ensures { IfOk result (λ places. places.items ≡ spec.places_after [] (map (λ row. row.0.now) all.now)) }
+{
+    let mut places = Vec::new(alloc);
+    let mut before: &[Step] = &[];
+    for (path, _value) in all {
+        put_places(alloc, before, path, &mut places)?;
+        before = path.steps.as_slice();
+    }
+    Ok(places)
+}

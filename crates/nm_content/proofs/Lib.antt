@@ -1,0 +1,4 @@
+pub mod Counted
+pub mod Looking
+pub mod Taking
+pub mod Given

@@ -1,0 +1,8 @@
+pub mod Mark
+pub mod Place
+pub mod Meaning
+pub mod MarkLaws
+pub mod PlaceLaws
+pub mod StandLaws
+pub mod EditLaws
+pub mod Laws

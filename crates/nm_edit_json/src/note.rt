@@ -1,0 +1,166 @@
+//! Noting nodes and faults.
+
+ghost use Rattle.std.specs.Prelude.{◌≡◌, ◌∷◌, [], OnOk};
+ghost use Rattle.nm_types.specs.Path.{whole};
+ghost use Rattle.nm_json.specs.Findings.{step_below as path_below};
+ghost use Rattle.nm_json.specs.Spots.{spot_of};
+ghost use Rattle.nm_edit_json.specs.Noted.{gathered as all_noted};
+ghost use Rattle.nm_edit_json.specs.Findings as spec;
+
+use crate::fault::{Fault, FaultKind, fault_at};
+use crate::gathered::Gathered;
+use crate::said::Said;
+use nm_base::{Label, NoMemory};
+use nm_edit::{EditNode, Operation};
+use nm_json::fault::Place;
+use nm_json::spot::{Spot, step_below};
+use nm_tree::Node;
+use nm_types::{Chosen, Path, Value};
+use std::alloc::Global;
+
+/// The operation that is said.
+pub fn told(said: Said) -> Option<Operation>
+    ensures { result ≡ spec.told said }
+{
+    match said {
+        Said::Unsaid => None,
+        Said::Says(operation) => Some(operation),
+        Said::Misread => None,
+    }
+}
+
+// Whether only merge may be said below an operation.
+fn is_strong(operation: Operation) -> bool
+    ensures { result ≡ spec.is_strong operation }
+{
+    match operation {
+        Operation::Merge => false,
+        Operation::Replace | Operation::Create | Operation::Delete | Operation::Remove => true,
+    }
+}
+
+/// Whether an operation other than merge is said of a node or above it.
+pub fn held_by(held: bool, said: Said) -> bool
+    ensures { result ≡ spec.held_by held said }
+{
+    match said {
+        Said::Unsaid => held,
+        Said::Says(operation) => held || is_strong(operation),
+        Said::Misread => held,
+    }
+}
+
+// Whether something is said that may not be.
+fn is_misplaced(held: bool, said: Said) -> bool
+    ensures { result ≡ spec.is_misplaced held said }
+{
+    match said {
+        Said::Unsaid => false,
+        Said::Says(operation) => held && is_strong(operation),
+        Said::Misread => true,
+    }
+}
+
+/// Notes a fault at a path.
+#[tactic(auto, unfolding(crate::specs::Noted::gathered))]
+pub fn note_at(
+    alloc: Global,
+    gathered: &mut Gathered,
+    path: Path,
+    kind: FaultKind,
+) -> Result<(), NoMemory>
+    ensures { OnOk result (gathered.new ≡ all_noted gathered.old (spec.wrong (spec.fault_at path kind) ∷ [])) }
+{
+    gathered.note_fault(alloc, fault_at(path, kind))
+}
+
+/// Notes a fault at a name below a path.
+#[tactic(auto, unfolding(crate::specs::Noted::gathered))]
+pub fn note_below(
+    alloc: Global,
+    gathered: &mut Gathered,
+    above: &Path,
+    name: &str,
+    kind: FaultKind,
+) -> Result<(), NoMemory>
+    ensures { OnOk result (gathered.new ≡ all_noted gathered.old (spec.wrong (spec.fault_below above.now name.now kind) ∷ [])) }
+{
+    let place = Place {
+        path: above.copy(alloc)?,
+        below: Some(Label::new(alloc, name)?),
+    };
+    gathered.note_fault(alloc, Fault { kind, place })
+}
+
+/// Notes a fault at a node below a path.
+pub fn note_child(
+    alloc: Global,
+    gathered: &mut Gathered,
+    above: &Path,
+    node: &Node,
+    kind: FaultKind,
+) -> Result<(), NoMemory>
+    ensures { OnOk result (gathered.new ≡ all_noted gathered.old (spec.wrong (spec.fault_at (path_below above.now node.now whole) kind) ∷ [])) }
+{
+    let path = step_below(alloc, above, node, Chosen::Whole)?;
+    note_at(alloc, gathered, path, kind)
+}
+
+/// Notes that a JSON value is of another kind than a node wants.
+pub fn note_misfit(alloc: Global, gathered: &mut Gathered, spot: &Spot) -> Result<(), NoMemory>
+    ensures { OnOk result (gathered.new ≡ all_noted gathered.old (spec.misfit (spot_of spot.now))) }
+{
+    note_child(alloc, gathered, spot.above, spot.node, FaultKind::Invalid)
+}
+
+/// Notes the fault of an annotation at a node, if it has one.
+#[tactic(auto, unfolding(crate::specs::Noted::gathered))]
+pub fn note_misplaced(
+    alloc: Global,
+    gathered: &mut Gathered,
+    above: &Path,
+    node: &Node,
+    misplaced: bool,
+) -> Result<(), NoMemory>
+    ensures { OnOk result (gathered.new ≡ all_noted gathered.old (spec.misplaced_found (path_below above.now node.now whole) misplaced)) }
+{
+    if !misplaced {
+        return Ok(());
+    }
+    note_child(alloc, gathered, above, node, FaultKind::Annotation)
+}
+
+/// Notes a node with what is said of it.
+#[tactic(auto, unfolding(crate::specs::Noted::gathered))]
+pub fn note_node(
+    alloc: Global,
+    gathered: &mut Gathered,
+    path: Path,
+    held: bool,
+    said: Said,
+    value: Option<Value>,
+) -> Result<(), NoMemory>
+    ensures { OnOk result (gathered.new ≡ all_noted gathered.old (spec.node_found path held said value)) }
+{
+    let operation = told(said);
+    if !is_misplaced(held, said) {
+        return gathered.note_node(
+            alloc,
+            EditNode {
+                path,
+                operation,
+                value,
+            },
+        );
+    }
+    let fault = fault_at(path.copy(alloc)?, FaultKind::Annotation);
+    gathered.note_node(
+        alloc,
+        EditNode {
+            path,
+            operation,
+            value,
+        },
+    )?;
+    gathered.note_fault(alloc, fault)
+}

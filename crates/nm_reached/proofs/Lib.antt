@@ -1,0 +1,5 @@
+pub mod Paths
+pub mod Reaching
+pub mod Knowing
+pub mod Grouping
+pub mod Losing

@@ -1,0 +1,14 @@
+//! Whether leafrefs reach what they refer to: the least path of a row whose leafref doesn't.
+//!
+//! Stands on `nm_rules`, whose definitions say what a leafref claims and what reaches it, and on `nm_validate` for places and
+//! defaults. The layers above rely on what is answered being exactly the least path at which the rule is violated.
+#![tactic(auto)]
+
+mod kept;
+mod known;
+mod rows;
+
+pub use rows::least_unreached;
+
+#[cfg(test)]
+mod tests;

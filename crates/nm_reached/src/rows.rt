@@ -1,0 +1,205 @@
+//! The rule of leafrefs: what each refers to is there (RFC 7950 section 9.9).
+
+ghost use Rattle.std.specs.Prelude.{◌≡◌, ◌-◌, IfOk, Some, length, map};
+ghost use Rattle.std.specs.FinMap.{keys};
+ghost use Rattle.std.specs.Map.Iter.{deref_pair};
+ghost use Rattle.nm_rules.specs.declared.rule.Rule.TheVariants as rule;
+ghost use Rattle.nm_rules.specs.Values.{claim_of, claims_by, key_claims};
+ghost use Rattle.nm_rules.specs.Violation.{least_at};
+ghost use Rattle.nm_validate.specs.Groups as group;
+ghost use Rattle.nm_reached.specs.Known.{Knows};
+ghost use Rattle.nm_reached.specs.Lost as spec;
+
+use crate::kept::begin;
+use crate::known::is_reached;
+use nm_base::NoMemory;
+use nm_config::{Config, RowMap};
+use nm_path::node_of;
+use nm_tree::{Reference, Schema};
+use nm_types::{Path, Value};
+use nm_validate::areas::by_node;
+use nm_validate::cases::bare;
+use nm_validate::keys::values_in;
+use std::alloc::Global;
+
+// How many steps are left of a path that goes up so many.
+fn steps_left(path: &Path, up: usize) -> usize
+    ensures { result ≡ length path.now - up }
+{
+    path.steps.len().saturating_sub(up)
+}
+
+// Whether what a leafref at a path claims isn't reached.
+fn is_lost<M: RowMap>(
+    alloc: Global,
+    schema: &Schema,
+    config: &M,
+    groups: &[Vec<&Path>],
+    path: &Path,
+    value: &Value,
+    reference: Option<Reference>,
+    kept: &mut Config,
+) -> Result<bool, NoMemory>
+    requires groups { group.AreOf schema.now (keys (M.rows config.now)) groups.now }
+    requires knows { Knows schema.now (M.rows config.now) kept.old }
+    ensures told { IfOk result (λ lost. lost ≡ spec.any_lost schema.now (M.rows config.now) (claim_of path.now value.now reference)) }
+    ensures knows { IfOk result (λ _. Knows schema.now (M.rows config.now) kept.new) }
+{
+    let Some(reference) = reference else {
+        return Ok(false);
+    };
+    let context = begin(alloc, path, steps_left(path, reference.up))?;
+    let reached = is_reached(
+        alloc,
+        schema,
+        config,
+        groups,
+        reference.target,
+        &context,
+        value,
+        kept,
+    )?;
+    Ok(!reached)
+}
+
+// Whether what a key leaf of an entry claims isn't reached.
+fn is_key_lost<M: RowMap>(
+    alloc: Global,
+    schema: &Schema,
+    config: &M,
+    groups: &[Vec<&Path>],
+    entry: &Path,
+    at: usize,
+    value: &Value,
+    kept: &mut Config,
+) -> Result<bool, NoMemory>
+    requires groups { group.AreOf schema.now (keys (M.rows config.now)) groups.now }
+    requires knows { Knows schema.now (M.rows config.now) kept.old }
+    ensures told { IfOk result (λ lost. lost ≡ spec.any_lost schema.now (M.rows config.now) (spec.key_claim schema.now entry.now at value.now)) }
+    ensures knows { IfOk result (λ _. Knows schema.now (M.rows config.now) kept.new) }
+{
+    let Some(reference) = schema.reference(at) else {
+        return Ok(false);
+    };
+    let step = bare(alloc, schema, at)?;
+    let path = entry.with_step(alloc, step)?;
+    is_lost(
+        alloc,
+        schema,
+        config,
+        groups,
+        &path,
+        value,
+        Some(reference),
+        kept,
+    )
+}
+
+// Whether what one of the key leafs of an entry claims isn't reached.
+#[tactic(auto, using(crate::proofs::Losing::lost_append))]
+fn is_any_key_lost<M: RowMap>(
+    alloc: Global,
+    schema: &Schema,
+    config: &M,
+    groups: &[Vec<&Path>],
+    entry: &Path,
+    leafs: &[usize],
+    values: &[Value],
+    kept: &mut Config,
+) -> Result<bool, NoMemory>
+    requires groups { group.AreOf schema.now (keys (M.rows config.now)) groups.now }
+    requires knows { Knows schema.now (M.rows config.now) kept.old }
+    ensures told { IfOk result (λ lost. lost ≡ spec.any_lost schema.now (M.rows config.now) (key_claims schema.now entry.now leafs.now values.now)) }
+    ensures knows { IfOk result (λ _. Knows schema.now (M.rows config.now) kept.new) }
+{
+    let mut leafs_left = leafs;
+    let mut values_left = values;
+    'leafs: while let [leaf, more_leafs @ ..] = leafs_left {
+        let [value, more_values @ ..] = values_left else {
+            return Ok(false);
+        };
+        if is_key_lost(alloc, schema, config, groups, entry, *leaf, value, kept)? {
+            return Ok(true);
+        }
+        leafs_left = more_leafs;
+        values_left = more_values;
+    }
+    Ok(false)
+}
+
+// Whether a row has a claim that isn't reached.
+#[tactic(auto, using(crate::proofs::Losing::lost_append))]
+fn is_lost_row<M: RowMap>(
+    alloc: Global,
+    schema: &Schema,
+    config: &M,
+    groups: &[Vec<&Path>],
+    path: &Path,
+    value: &Value,
+    kept: &mut Config,
+) -> Result<bool, NoMemory>
+    requires groups { group.AreOf schema.now (keys (M.rows config.now)) groups.now }
+    requires knows { Knows schema.now (M.rows config.now) kept.old }
+    ensures told { IfOk result (λ lost. lost ≡ spec.any_lost schema.now (M.rows config.now) (claims_by schema.now path.now (Some value.now))) }
+    ensures knows { IfOk result (λ _. Knows schema.now (M.rows config.now) kept.new) }
+{
+    let Some(at) = node_of(schema, path) else {
+        return Ok(false);
+    };
+    if is_lost(
+        alloc,
+        schema,
+        config,
+        groups,
+        path,
+        value,
+        schema.reference(at),
+        kept,
+    )? {
+        return Ok(true);
+    }
+    is_any_key_lost(
+        alloc,
+        schema,
+        config,
+        groups,
+        path,
+        schema.keys(at),
+        values_in(path),
+        kept,
+    )
+}
+
+// The path of the first row that has a claim that isn't reached.
+fn first_lost<M: RowMap>(
+    alloc: Global,
+    schema: &Schema,
+    config: &M,
+    groups: &[Vec<&Path>],
+    all: &[(&Path, &Value)],
+) -> Result<Option<Path>, NoMemory>
+    requires { group.AreOf schema.now (keys (M.rows config.now)) groups.now }
+    ensures { IfOk result (λ found. found ≡ spec.first_lost schema.now (M.rows config.now) (map deref_pair all.now)) }
+{
+    let mut kept = Config::new(alloc);
+    for (path, value) in all {
+        if is_lost_row(alloc, schema, config, groups, path, value, &mut kept)? {
+            return Ok(Some(path.copy(alloc)?));
+        }
+    }
+    Ok(None)
+}
+
+/// The least path of a row with a leafref, its own or that of a key, that doesn't reach what it refers to (RFC 7950 section 9.9).
+#[tactic(auto, using(crate::proofs::Losing::lost_rows))]
+pub fn least_unreached<M: RowMap>(
+    alloc: Global,
+    schema: &Schema,
+    config: &M,
+) -> Result<Option<Path>, NoMemory>
+    ensures { IfOk result (λ found. found ≡ least_at schema.now (M.rows config.now) rule.Leafref) }
+{
+    let all = config.listed(alloc)?;
+    let groups = by_node(alloc, schema, &all)?;
+    first_lost(alloc, schema, config, &groups, &all)
+}

@@ -1,0 +1,131 @@
+use super::*;
+use nm_base::{Label, NoMemory};
+use nm_json::read_config;
+use nm_path::write_path;
+use nm_schema::build;
+use nm_tree::Schema;
+use nm_yang::read_module;
+use std::alloc::Global;
+use std::test::Fail;
+
+// Leafrefs to a key, to a leaf with a default, to leaf-lists in the same entry and in all, from a leaf, a leaf-list and a key; two targets have one name.
+const MODULE: &str =
+    "module er { yang-version 1.1; namespace \"urn:er\"; prefix er; container sys { leaf uplink { type leafref { path \"../iface/name\"; } } leaf from { type leafref { path \"../pool/name\"; } } leaf-list via { type leafref { path \"/er:sys/er:iface/er:name\"; } } leaf size { type leafref { path \"../iface/mtu\"; } } leaf any { type leafref { path \"../iface/alias\"; } } list iface { key name; leaf name { type string; } leaf mtu { type uint16; default 1500; } leaf own { type leafref { path \"../alias\"; } } leaf-list alias { type string; } } list pool { key name; leaf name { type string; } } list bind { key to; leaf to { type leafref { path \"../../iface/name\"; } } leaf mtu { type leafref { path \"../../iface/mtu\"; } } } } }";
+
+// The schema of the module, and None where it isn't read.
+fn sample(alloc: Global) -> Result<Option<Schema>, NoMemory> {
+    let mut modules = Vec::new(alloc);
+    match read_module(alloc, MODULE.as_bytes()) {
+        Ok(module) => modules.push(module)?,
+        Err(_) => return Ok(None),
+    }
+    match build(alloc, &modules) {
+        Ok(schema) => Ok(Some(schema)),
+        Err(_) => Ok(None),
+    }
+}
+
+// Where a leafref isn't reached in the configuration of a JSON text, and nothing where all are.
+fn lost_in(alloc: Global, schema: &Schema, text: &str) -> Result<Label, NoMemory> {
+    let Ok(config) = read_config(alloc, schema, text.as_bytes()) else {
+        return Label::new(alloc, "not read");
+    };
+    match least_unreached(alloc, schema, &config)? {
+        None => Label::new(alloc, ""),
+        Some(path) => write_path(alloc, schema, &path),
+    }
+}
+
+// A configuration, and the least path at which RFC 7950 section 9.9 isn't met.
+const LOST: &[(&str, &str)] = &[
+    ("{}", ""),
+    // a leaf that leads to a key, which stands in the path of its entry
+    (
+        "{\"er:sys\":{\"uplink\":\"a\",\"iface\":[{\"name\":\"a\"}]}}",
+        "",
+    ),
+    (
+        "{\"er:sys\":{\"uplink\":\"b\",\"iface\":[{\"name\":\"a\"}]}}",
+        "/er:sys/uplink",
+    ),
+    ("{\"er:sys\":{\"uplink\":\"a\"}}", "/er:sys/uplink"),
+    // another list has entries of that name
+    (
+        "{\"er:sys\":{\"uplink\":\"a\",\"pool\":[{\"name\":\"a\"}]}}",
+        "/er:sys/uplink",
+    ),
+    (
+        "{\"er:sys\":{\"from\":\"a\",\"pool\":[{\"name\":\"a\"}]}}",
+        "",
+    ),
+    (
+        "{\"er:sys\":{\"uplink\":\"a\",\"from\":\"a\",\"iface\":[{\"name\":\"a\"}]}}",
+        "/er:sys/from",
+    ),
+    // entries of a leaf-list
+    (
+        "{\"er:sys\":{\"via\":[\"a\",\"b\"],\"iface\":[{\"name\":\"b\"},{\"name\":\"a\"}]}}",
+        "",
+    ),
+    (
+        "{\"er:sys\":{\"via\":[\"c\",\"a\",\"b\"],\"iface\":[{\"name\":\"a\"}]}}",
+        "/er:sys/via[.='b']",
+    ),
+    // a default that is in use, and one that isn't
+    (
+        "{\"er:sys\":{\"size\":1500,\"iface\":[{\"name\":\"a\"}]}}",
+        "",
+    ),
+    (
+        "{\"er:sys\":{\"size\":1500,\"iface\":[{\"name\":\"a\",\"mtu\":9000}]}}",
+        "/er:sys/size",
+    ),
+    (
+        "{\"er:sys\":{\"size\":9000,\"iface\":[{\"name\":\"a\",\"mtu\":9000}]}}",
+        "",
+    ),
+    ("{\"er:sys\":{\"size\":1500}}", "/er:sys/size"),
+    // rows of the same entry, and of another one
+    (
+        "{\"er:sys\":{\"iface\":[{\"name\":\"a\",\"own\":\"x\",\"alias\":[\"x\"]}]}}",
+        "",
+    ),
+    (
+        "{\"er:sys\":{\"iface\":[{\"name\":\"a\",\"own\":\"x\",\"alias\":[\"y\"]},{\"name\":\"b\",\"alias\":[\"x\"]}]}}",
+        "/er:sys/iface[name='a']/own",
+    ),
+    (
+        "{\"er:sys\":{\"any\":\"x\",\"iface\":[{\"name\":\"a\",\"alias\":[\"y\"]},{\"name\":\"b\",\"alias\":[\"x\"]}]}}",
+        "",
+    ),
+    // a key that is a leafref
+    (
+        "{\"er:sys\":{\"bind\":[{\"to\":\"a\"}],\"iface\":[{\"name\":\"a\"}]}}",
+        "",
+    ),
+    (
+        "{\"er:sys\":{\"bind\":[{\"to\":\"a\"},{\"to\":\"b\"}],\"iface\":[{\"name\":\"a\"}]}}",
+        "/er:sys/bind[to='b']",
+    ),
+    // two that aren't reached: the lesser path is answered
+    (
+        "{\"er:sys\":{\"uplink\":\"c\",\"bind\":[{\"to\":\"a\",\"mtu\":9000},{\"to\":\"b\"}],\"iface\":[{\"name\":\"a\"}]}}",
+        "/er:sys/bind[to='a']/mtu",
+    ),
+];
+
+#[test]
+fn lost_leafrefs_are_answered(rt: HostRuntime) -> Result<(), Fail> {
+    let alloc = rt.alloc();
+    let Some(schema) = sample(alloc)? else {
+        return Err(Fail::new("the module isn't read"));
+    };
+    for (text, expected) in LOST {
+        assert_eq!(rt;
+            lost_in(alloc, &schema, text)?.as_str(),
+            *expected,
+            "{text}"
+        );
+    }
+    Ok(())
+}
