@@ -4,9 +4,9 @@ use Rattle.std.specs.Prelude.{◌||◌}
 use Rattle.std.specs.Str.{bytes_eq}
 use Rattle.serde_json.specs.Data.{Data}
 use Rattle.serde_json.specs.Find.{as_str}
-use Rattle.nm_proto.specs.declared.message.DefaultOperation.TheVariants.{Merge}
+use Rattle.nm_proto.specs.declared.message.DefaultOperation.TheVariants.{Merge, Replace, Nothing}
 use Rattle.nm_proto.specs.declared.message.Store.TheVariants.{Running, Candidate}
-use Rattle.nm_proto.specs.declared.kind.ScenarioKind.TheVariants.{NotBuilt, BadValue}
+use Rattle.nm_proto.specs.declared.kind.ScenarioKind.TheVariants.{BadValue}
 use Rattle.nm_reading.specs.declared.fault.Cause.{Cause}
 use Rattle.nm_reading.specs.declared.fault.Step.{Step}
 use Rattle.nm_reading.specs.Reading.{plain}
@@ -20,14 +20,15 @@ use Rattle.nm_events.specs.Arguments.{operation_of, operation_said, operation, s
 use Rattle.nm_events.specs.Requests.{asked_edit, cancel_form, commit_form, request_form, selection}
 use Rattle.nm_events.specs.Events.{elementary_form, event_form, events_form}
 
-tested_operation : (a b : Bool) → IsThere (cond a (Ok Merge) (cond b (Err (plain NotBuilt)) (Err (plain BadValue))))
-tested_operation true b = tt
-tested_operation false true = λ e. cc
-tested_operation false false = λ e. cc
+tested_operation : (a b c : Bool) → IsThere (cond a (Ok Merge) (cond b (Ok Replace) (cond c (Ok Nothing) (Err (plain BadValue)))))
+tested_operation true b c = tt
+tested_operation false true c = tt
+tested_operation false false true = tt
+tested_operation false false false = λ e. cc
 
 operation_there : (o : Option (List ℕ)) → IsThere (operation_of o)
 operation_there None = λ e. cc
-operation_there (Some text) = tested_operation (bytes_eq text (codes "merge")) (bytes_eq text (codes "replace") || bytes_eq text (codes "none"))
+operation_there (Some text) = tested_operation (bytes_eq text (codes "merge")) (bytes_eq text (codes "replace")) (bytes_eq text (codes "none"))
 
 operation_in_order : InOrder operation
 unfolding operation_said

@@ -4,10 +4,10 @@ use Rattle.std.specs.Str.{bytes_eq}
 use Rattle.serde_json.specs.Data.{Data}
 use Rattle.serde_json.specs.Find.{as_str}
 use Rattle.nm_proto.specs.declared.message.DefaultOperation.{DefaultOperation}
-use Rattle.nm_proto.specs.declared.message.DefaultOperation.TheVariants.{Merge}
+use Rattle.nm_proto.specs.declared.message.DefaultOperation.TheVariants.{Merge, Replace, Nothing}
 use Rattle.nm_proto.specs.declared.message.Store.{Store}
 use Rattle.nm_proto.specs.declared.message.Store.TheVariants.{Running, Candidate}
-use Rattle.nm_proto.specs.declared.kind.ScenarioKind.TheVariants.{NotBuilt, BadValue}
+use Rattle.nm_proto.specs.declared.kind.ScenarioKind.TheVariants.{BadValue}
 use Rattle.nm_reading.specs.declared.fault.Cause.{Cause}
 use Rattle.nm_reading.specs.Reading.{plain}
 use Rattle.nm_form.specs.Form.{Form, leaf}
@@ -39,11 +39,11 @@ turns = number 1 turn_limit
 abbrev pub mark : Form ℕ
 mark = number 1 change_limit
 
--- the default operation merge is built (RFC 6241 section 7.2)
+-- the default operation of a word (RFC 6241 section 7.2)
 abbrev pub operation_of : Option (List ℕ) → Result DefaultOperation Cause
 operation_of None = Err (plain BadValue)
 operation_of (Some text) = if bytes_eq text (codes "merge") then Ok Merge else
-    (if bytes_eq text (codes "replace") || bytes_eq text (codes "none") then Err (plain NotBuilt) else Err (plain BadValue))
+    (if bytes_eq text (codes "replace") then Ok Replace else (if bytes_eq text (codes "none") then Ok Nothing else Err (plain BadValue)))
 
 unfoldable pub operation_said : Data → Result DefaultOperation Cause
 operation_said part = operation_of (as_str part)

@@ -131,8 +131,10 @@ impl Reader for Operation {
             Some(word) => {
                 if word == "merge" {
                     Ok(DefaultOperation::Merge)
-                } else if word == "replace" || word == "none" {
-                    fault_here(alloc, ScenarioKind::NotBuilt)
+                } else if word == "replace" {
+                    Ok(DefaultOperation::Replace)
+                } else if word == "none" {
+                    Ok(DefaultOperation::Nothing)
                 } else {
                     fault_here(alloc, ScenarioKind::BadValue)
                 }

@@ -157,23 +157,23 @@ fn unbuilt_edits_are_told(rt: HostRuntime) -> Result<(), Fail> {
 }
 
 #[test]
-fn default_operations_are_told(rt: HostRuntime) -> Result<(), Fail> {
+fn default_operations_are_read(rt: HostRuntime) -> Result<(), Fail> {
     for (text, want) in [
-        (r#""replace""#, "not-built"),
-        (r#""none""#, "not-built"),
-        (r#""create""#, "bad-value"),
-        ("7", "bad-value"),
+        (r#""merge""#, Some(DefaultOperation::Merge)),
+        (r#""replace""#, Some(DefaultOperation::Replace)),
+        (r#""none""#, Some(DefaultOperation::Nothing)),
+        (r#""create""#, None),
+        ("7", None),
     ] {
-        let Err(ReadError::Bad(fault)) = Operation.read(rt.alloc(), &parsed(rt.alloc(), text)?)
-        else {
-            return Err(Fail::new("read"));
-        };
-        assert_eq!(rt; fault.cause.kind.word(), want, "{text}");
+        match Operation.read(rt.alloc(), &parsed(rt.alloc(), text)?) {
+            Ok(operation) => assert!(rt; want == Some(operation), "{text}"),
+            Err(ReadError::NoMemory) => return Err(Fail::new("memory ran out")),
+            Err(ReadError::Bad(fault)) => {
+                assert!(rt; want.is_none(), "{text}");
+                assert_eq!(rt; fault.cause.kind.word(), "bad-value", "{text}");
+            }
+        }
     }
-    let Ok(merge) = Operation.read(rt.alloc(), &parsed(rt.alloc(), r#""merge""#)?) else {
-        return Err(Fail::new("refused"));
-    };
-    assert!(rt; merge == DefaultOperation::Merge);
     Ok(())
 }
 
