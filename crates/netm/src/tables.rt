@@ -1,6 +1,7 @@
 //! Tables of scenarios with what the program writes for them. The lines are worked out by hand from docs/FORMATS.md.
 
 mod changes;
+mod data;
 mod devices;
 mod events;
 mod limits;

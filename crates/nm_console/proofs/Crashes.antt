@@ -1,14 +1,18 @@
 -- What a crash leaves of a journal's disk in which nothing stood, from one part of a run to the whole.
-use Rattle.std.proofs.Common.{◌≡◌, ℕ, List, [], Option, Some, None, Ok, IsSome, IfSome, unwrap_or, refl, sym, subst, arith, inl}
+use Rattle.std.proofs.Common.{◌≡◌, ℕ, List, [], Option, Some, None, Result, Ok, IsSome, IfSome, unwrap_or, refl, sym, subst, arith, inl}
 use Rattle.nm_disk.specs.Image.{AnyMoment, LeavesOnly}
 use Rattle.nm_disk.specs.Moments.{and_then, weaker}
 use Rattle.nm_proto.specs.declared.journal.Entry.{Entry}
 use Rattle.nm_journal.specs.Fits.{Fits, ReadsAs}
 use Rattle.nm_scenario.specs.declared.scenario.Scenario.{Scenario}
-use Rattle.nm_scenario.specs.declared.scenario.Body.TheVariants.{Flat}
-use Rattle.nm_scenario.specs.Scenario.{flat_scenario_of}
+use Rattle.nm_scenario.specs.declared.scenario.Body.TheVariants.{Flat, Yang}
+use Rattle.nm_scenario.specs.Scenario.{ReadsBytes}
+use Rattle.nm_scenario.proofs.Single.{one_of_bytes}
+use Rattle.nm_reading.specs.declared.fault.Fault.{Fault}
+use Rattle.nm_proto.specs.FlatContent.{flat_meaning}
+use Rattle.nm_content.specs.Meaning.{yang_meaning}
 use Rattle.nm_network.specs.Runs.{GoesOnAs, IsBetween}
-use Rattle.nm_console.specs.Console.{LeavesSoFar, LeavesSoFarOf, entries_by, world_of}
+use Rattle.nm_console.specs.Console.{LeavesSoFar, LeavesSoFarBy, LeavesSoFarOf, entries_by, world_of}
 
 -- nothing was written, or these entries are to come
 goes : (entries : List Entry) → GoesOnAs [] entries
@@ -55,18 +59,34 @@ module _ {D : Type 0} (told : D → Option (List ℕ)) (may_leave : D → List �
       → AnyMoment moment left_since old new (IsBetween [] entries)
   run_so old mid new entries first second = and_then moment left_since may_leave old mid new (IsBetween [] entries) (opened_so old mid entries first) second
 
-  -- the entries of a scenario of flat contents are those of its world
+  -- the entries of a scenario are those of its world
   pub flat_so : (s : Scenario) (devices : _) (edits : _) (old new : D) → s.body ≡ Flat devices edits
-      → AnyMoment moment left_since old new (IsBetween [] (world_of devices edits s).entries)
+      → AnyMoment moment left_since old new (IsBetween [] (world_of flat_meaning devices edits s).entries)
       → AnyMoment moment left_since old new (LeavesSoFar (Ok s))
   flat_so s devices edits old new is moments =
       subst (λ body. AnyMoment moment left_since old new (IsBetween [] (unwrap_or (entries_by [] body s) []))) (sym is) moments
 
+  pub yang_so : (s : Scenario) (modules : _) (tree : _) (devices : _) (edits : _) (old new : D) → s.body ≡ Yang modules tree devices edits
+      → AnyMoment moment left_since old new (IsBetween [] (world_of (yang_meaning tree) devices edits s).entries)
+      → AnyMoment moment left_since old new (LeavesSoFar (Ok s))
+  yang_so s modules tree devices edits old new is moments =
+      subst (λ body. AnyMoment moment left_since old new (IsBetween [] (unwrap_or (entries_by [] body s) []))) (sym is) moments
+
+  -- what is left of what bytes are read as is left of the bytes
+  pub read_so : (bytes : List ℕ) (given : Result Scenario Fault) (old new : D) → ReadsBytes bytes given → AnyMoment moment left_since old new (LeavesSoFar given)
+      → AnyMoment moment left_since old new (LeavesSoFarBy bytes)
+  read_so bytes given old new is moments =
+      weaker moment left_since may_leave old new (LeavesSoFar given) (LeavesSoFarBy bytes) (λ image so_far outcome reads. subst (λ o. LeavesSoFar o image) (one_of_bytes bytes given outcome is reads) so_far) moments
+
+  -- nothing was run of them
+  pub not_led : (bytes : List ℕ) (disk : D) → OnlyNow disk → LeavesOnly [] (may_leave disk) → AnyMoment moment left_since disk disk (LeavesSoFarBy bytes)
+  not_led bytes disk only empty = untouched disk (LeavesSoFarBy bytes) only (λ image left outcome reads. nothing_yet _ image (empty image left))
+
   -- what is left is that of the bytes of the input
   pub input_so : (left : Option (List ℕ)) (bytes : List ℕ) (old new : D) → IfSome left (λ held. held ≡ bytes)
-      → AnyMoment moment left_since old new (LeavesSoFar (flat_scenario_of bytes)) → AnyMoment moment left_since old new (LeavesSoFarOf left)
+      → AnyMoment moment left_since old new (LeavesSoFarBy bytes) → AnyMoment moment left_since old new (LeavesSoFarOf left)
   input_so left bytes old new held moments =
-      weaker moment left_since may_leave old new (LeavesSoFar (flat_scenario_of bytes)) (LeavesSoFarOf left) (λ image so_far. record { bytes = bytes; held = held; so_far = so_far }) moments
+      weaker moment left_since may_leave old new (LeavesSoFarBy bytes) (LeavesSoFarOf left) (λ image so_far. record { bytes = bytes; held = held; so_far = so_far }) moments
 
 held_by : (left : Option (List ℕ)) → IfSome left (λ told. told ≡ unwrap_or left [])
 held_by None = tt
@@ -78,4 +98,4 @@ module _ {D : Type 0} (may_leave : D → List ℕ → Type 0) (moment : D → �
       → AnyMoment moment left_since disk disk (LeavesSoFarOf left)
   not_read left disk only empty =
       untouched (λ _. None) may_leave moment left_since disk (LeavesSoFarOf left) only
-      (λ image now. record { bytes = unwrap_or left []; held = held_by left; so_far = nothing_yet _ image (empty image now) })
+      (λ image now. record { bytes = unwrap_or left []; held = held_by left; so_far = λ outcome reads. nothing_yet _ image (empty image now) })

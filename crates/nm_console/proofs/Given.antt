@@ -22,22 +22,23 @@ use Rattle.nm_proto.specs.declared.plan.Event.TheVariants.{Submit, Turn, Deliver
 use Rattle.nm_proto.specs.declared.plan.PlannedEdit.{PlannedEdit}
 use Rattle.nm_proto.specs.Flat.{FlatState}
 use Rattle.nm_proto.specs.FlatContent.{flat_meaning, flat_laws}
-use Rattle.nm_refusals.specs.Kept.{Ascend, BodyKeeps, ChangeKeeps, IsOwnOpening, OpensOwn, ScenarioKeeps, StateKeeps, UserKeeps, counts_in, device_of_plan, devices_in}
-use Rattle.nm_scenario.specs.declared.scenario.Body.TheVariants.{Flat}
+use Rattle.nm_proto.specs.Content.{Laws, Meaning}
+use Rattle.nm_tree.specs.Nodes.{SchemaTree}
+use Rattle.nm_config.specs.Rows.{Rows}
+use Rattle.nm_edit.specs.declared.edit.EditNode.{EditNode}
+use Rattle.nm_content.specs.Meaning.{yang_meaning}
+use Rattle.nm_content.specs.Laws.{yang_laws}
+use Rattle.nm_refusals.specs.Kept.{Ascend, BodyKeeps, ChangeKeeps, DataAreKept, IsOwnOpening, OpensOwn, ScenarioKeeps, StateKeeps, UserKeeps, counts_in, device_of_plan, devices_in}
+use Rattle.nm_scenario.specs.declared.scenario.Body.TheVariants.{Flat, Yang}
 use Rattle.nm_scenario.specs.declared.scenario.Scenario.{Scenario}
 use Rattle.nm_safety.specs.Safe.{AreGiven, IsGiven, IsProper, IsSafe}
 use Rattle.nm_safety.specs.Safe as safe
 use Rattle.nm_safety.proofs.Drained.{drained_safe}
 use Rattle.nm_safety.proofs.Safely.{run_is_safe}
-use Rattle.nm_console.specs.Console.{CanRun, led_to, setting_of, world_of}
+use Rattle.nm_safety.proofs.Tells.{safe_tells}
+use Rattle.nm_console.specs.Console.{CanRun, IsSafeRun, led_to, setting_of, world_of}
 
 -- ---- devices and change sets
-
-firsts : (devices : List FlatState) → All StateKeeps devices → All (IsFirst flat_meaning) devices
-firsts devices keep = λ k d less. record { belongs = tt; valid = (keep k d less).valid }
-
-belong : (edits : List FlatEdit) → All flat_meaning.edit_belongs edits
-belong edits = λ k d less. tt
 
 ascending : (low high : ℕ) (edits : List PlannedEdit) → Ascend low high (map device_of_plan edits) → ascend_above low edits ≡ true
 ascending low high [] h = refl
@@ -100,19 +101,14 @@ all_numbered c events h = λ k d less. numbered c _ (h k d less)
 
 -- ---- together
 
-module _ (s : Scenario) (devices : List FlatState) (edits : List FlatEdit) (is : s.body ≡ Flat devices edits) (keeps : ScenarioKeeps s) where
-  body_keeps : BodyKeeps (Flat devices edits)
-  body_keeps = subst BodyKeeps is keeps.body
-
-  few_devices : length devices ≤ 32
-  few_devices = let few = keeps.devices.1 in subst (λ body. devices_in body ≤ 32) is few
-
-  -- a world can run a scenario of flat contents
-  pub flat_runs : CanRun flat_meaning (setting_of edits s) devices s.events
-  flat_runs = record {
-    first = firsts devices body_keeps.0;
-    edits = belong edits;
-    few_devices = few_devices;
+module _ {Config TheEdit Node : Type 0} (m : Meaning Config TheEdit Node) (s : Scenario) (devices : List Config) (edits : List TheEdit) (first : All (IsFirst m) devices) (belong : All m.edit_belongs edits)
+    (count : devices_in s.body ≡ length devices) (keeps : ScenarioKeeps s) where
+  -- a world can run a scenario
+  pub runs : CanRun m (setting_of edits s) devices s.events
+  runs = record {
+    first = first;
+    edits = belong;
+    few_devices = (let few = keeps.devices.1 in subst (λ n. n ≤ 32) count few);
     well_formed = all_formed (devices_in s.body) s.changes keeps.changes;
     few = keeps.change_sets;
     few_users = keeps.operator_count;
@@ -122,7 +118,7 @@ module _ (s : Scenario) (devices : List FlatState) (edits : List FlatEdit) (is :
 
 -- ---- what safety asks
 
-module _ (setting : Setting FlatEdit) (c : Counts) where
+module _ {TheEdit : Type 0} (setting : Setting TheEdit) (c : Counts) where
   own : (operator : ℕ) (request : Request) → IsOwnOpening setting.users operator request → safe.IsOwnOpening setting operator request
   own operator (OpenSession user) h = h
   own operator (Lock store) h = tt
@@ -180,13 +176,11 @@ stranger name h = by_name (bytes_eq name manager) refl h
 strangers : (users : List (List ℕ)) (number : ℕ) → All UserKeeps users → IfSome (slice_get users number) (λ user. is_manager (Some user) ≡ false)
 strangers users number h = got (λ user. is_manager (Some user) ≡ false) users number (λ k d less. stranger (get_or users k d) (h k d less))
 
-module _ (s : Scenario) (devices : List FlatState) (edits : List FlatEdit) (is : s.body ≡ Flat devices edits) (keeps : ScenarioKeeps s) where
-  can : CanRun flat_meaning (setting_of edits s) devices s.events
-  can = flat_runs s devices edits is keeps
-
-  flat_proper : IsProper flat_meaning (setting_of edits s) devices s.events
-  flat_proper = record {
-    first = λ place. got (IsFirst flat_meaning) devices place can.first;
+module _ {Config TheEdit Node : Type 0} (m : Meaning Config TheEdit Node) (laws : Laws m) (s : Scenario) (devices : List Config) (edits : List TheEdit) (can : CanRun m (setting_of edits s) devices s.events)
+    (keeps : ScenarioKeeps s) where
+  proper : IsProper m (setting_of edits s) devices s.events
+  proper = record {
+    first = λ place. got (IsFirst m) devices place can.first;
     edits = can.edits;
     few_devices = can.few_devices;
     few = can.few;
@@ -194,10 +188,40 @@ module _ (s : Scenario) (devices : List FlatState) (edits : List FlatEdit) (is :
     given = all_given (setting_of edits s) (counts_in s) s.events keeps.events keeps.openings;
   }
 
-  safe_if : (drain : Bool) → IsSafe flat_meaning (setting_of edits s) devices s.events (led_to flat_meaning (setting_of edits s) s.events drain (start (setting_of edits s) devices))
-  safe_if false = run_is_safe flat_meaning flat_laws (setting_of edits s) devices s.events flat_proper
-  safe_if true = drained_safe flat_meaning flat_laws (setting_of edits s) devices s.events drain_limit flat_proper
+  safe_if : (drain : Bool) → IsSafe m (setting_of edits s) devices s.events (led_to m (setting_of edits s) s.events drain (start (setting_of edits s) devices))
+  safe_if false = run_is_safe m laws (setting_of edits s) devices s.events proper
+  safe_if true = drained_safe m laws (setting_of edits s) devices s.events drain_limit proper
 
-  -- the world of a scenario of flat contents is safe
-  pub flat_safe : IsSafe flat_meaning (setting_of edits s) devices s.events (world_of devices edits s)
-  flat_safe = safe_if s.drain
+  world_safe : IsSafe m (setting_of edits s) devices s.events (world_of m devices edits s)
+  world_safe = safe_if s.drain
+
+  -- the run of a scenario that a world can run is safe
+  pub safe_run : IsSafeRun m devices edits s
+  safe_run = record { valid = can.first; safe = world_safe; reports = safe_tells m (setting_of edits s) devices s.events (world_of m devices edits s) world_safe }
+
+-- ---- the contents
+
+module _ (s : Scenario) (devices : List FlatState) (edits : List FlatEdit) (is : s.body ≡ Flat devices edits) (keeps : ScenarioKeeps s) where
+  states : All StateKeeps devices
+  states = let kept : BodyKeeps (Flat devices edits) = subst BodyKeeps is keeps.body in kept.0
+
+  -- flat contents can be run
+  pub flat_runs : CanRun flat_meaning (setting_of edits s) devices s.events
+  flat_runs = runs flat_meaning s devices edits (λ k d less. record { belongs = tt; valid = (states k d less).valid }) (λ k d less. tt) (ap devices_in is) keeps
+
+  pub flat_safe : IsSafeRun flat_meaning devices edits s
+  flat_safe = safe_run flat_meaning flat_laws s devices edits flat_runs keeps
+
+module _ (s : Scenario) (modules : List (List ℕ)) (tree : SchemaTree) (devices : List Rows) (edits : List (List EditNode)) (is : s.body ≡ Yang modules tree devices edits) (keeps : ScenarioKeeps s) where
+  kept : DataAreKept modules tree devices edits
+  kept = subst BodyKeeps is keeps.body
+
+  -- YANG contents can be run
+  pub yang_runs : CanRun (yang_meaning tree) (setting_of edits s) devices s.events
+  yang_runs =
+      runs (yang_meaning tree) s devices edits
+      (λ k d less. record { belongs = record { sound = kept.given.sound; marker = kept.given.marker; stands = (kept.running k d less).stands }; valid = (kept.running k d less).valid })
+      kept.edited (ap devices_in is) keeps
+
+  pub yang_safe : IsSafeRun (yang_meaning tree) devices edits s
+  yang_safe = safe_run (yang_meaning tree) (yang_laws tree) s devices edits yang_runs keeps

@@ -5,18 +5,16 @@ use Rattle.std.specs.Io.KnownBytes.{append_known}
 use Rattle.nm_io.specs.Bytes.{Begins}
 use Rattle.nm_proto.specs.Content.{Meaning, TablesState}
 use Rattle.nm_proto.specs.declared.plan.Event.{Event}
-use Rattle.nm_proto.specs.declared.flat.FlatEdit.{FlatEdit}
-use Rattle.nm_proto.specs.declared.flat.FlatNode.{FlatNode}
-use Rattle.nm_proto.specs.Flat.{FlatState, flat_text}
+use Rattle.nm_proto.specs.Flat.{flat_text}
 use Rattle.nm_proto.specs.FlatContent.{flat_meaning}
-use Rattle.nm_proto.specs.declared.kind.ScenarioKind.TheVariants.{NotBuilt}
+use Rattle.nm_proto.specs.declared.flat.FlatNode.{FlatNode}
+use Rattle.nm_content.specs.declared.place.YangNode.{YangNode}
+use Rattle.nm_content.specs.Meaning.{yang_meaning, yang_text}
 use Rattle.nm_reading.specs.declared.fault.Fault.{Fault}
-use Rattle.nm_reading.specs.declared.fault.Step.TheVariants.{Name}
-use Rattle.nm_reading.specs.Reading.{plain}
 use Rattle.nm_scenario.specs.declared.scenario.Body.{Body}
 use Rattle.nm_scenario.specs.declared.scenario.Body.TheVariants.{Flat, Yang}
 use Rattle.nm_scenario.specs.declared.scenario.Scenario.{Scenario}
-use Rattle.nm_scenario.specs.Scenario.{ReadsBytes, flat_scenario_of}
+use Rattle.nm_scenario.specs.Scenario.{ReadsBytes}
 use Rattle.nm_refusals.specs.Told.{ToldOfBytes}
 use Rattle.nm_refusals.specs.Kept.{ScenarioKeeps}
 use Rattle.nm_manager.specs.Requests.{IsWellFormed}
@@ -38,7 +36,7 @@ use Rattle.nm_console.specs.declared.status.Status.TheVariants as status
 use Rattle.nm_console.specs.declared.command.Command.{Command}
 use Rattle.nm_console.specs.declared.command.Command.TheVariants.{Check, Replay, Journal}
 use Rattle.nm_console.specs.Refusal.{damaged_text, not_empty_text, usage_text, fault_text}
-use Rattle.nm_console.specs.Rows.{cells_told, rows_told}
+use Rattle.nm_console.specs.Rows.{rows_told}
 use Rattle.nm_console.specs.Status.{is_whole, world_status}
 
 -- a status and a text
@@ -51,11 +49,11 @@ abbrev pub faulted : Fault → Answer
 faulted fault = record { status = status.Scenario; text = fault_text fault }
 
 -- what requests name by number: edits, and the texts of selections
-abbrev pub tables_of : List FlatEdit → List (List (List ℕ)) → TablesState FlatEdit
+abbrev pub tables_of : {TheEdit : Type 0} → List TheEdit → List (List (List ℕ)) → TablesState TheEdit
 tables_of edits selects = record { edits = edits; selects = selects }
 
--- what stays through the run of a scenario of flat contents with these edits
-abbrev pub setting_of : List FlatEdit → Scenario → Setting FlatEdit
+-- what stays through the run of a scenario with these edits
+abbrev pub setting_of : {TheEdit : Type 0} → List TheEdit → Scenario → Setting TheEdit
 setting_of edits s = record { tables = tables_of edits s.selects; plans = s.changes; users = s.operators }
 
 -- ---- a world
@@ -86,13 +84,9 @@ pub record CanRun {Config TheEdit Node : Type 0} (m : Meaning Config TheEdit Nod
   pub given : All (IsNumbered (length setting.plans)) events
   pub few_events : length events ≤ 100000
 
--- the world of flat contents that a scenario leads to
-abbrev pub world_of : List FlatState → List FlatEdit → Scenario → WorldState FlatState FlatNode
-world_of devices edits s = led_to flat_meaning (setting_of edits s) s.events s.drain (start (setting_of edits s) devices)
-
--- YANG contents aren't replayed yet
-abbrev pub not_replayed : Fault
-not_replayed = record { cause = plain NotBuilt; place = Name (codes "contents") ∷ [] }
+-- the world that a scenario with these configurations and edits leads to
+abbrev pub world_of : {Config TheEdit Node : Type 0} → Meaning Config TheEdit Node → List Config → List TheEdit → Scenario → WorldState Config Node
+world_of m devices edits s = led_to m (setting_of edits s) s.events s.drain (start (setting_of edits s) devices)
 
 -- nothing is run over a journal that holds so many bytes
 abbrev pub not_empty : ℕ → Answer
@@ -103,14 +97,14 @@ abbrev pub opened : List ℕ → Answer → Answer
 opened [] answer = answer
 opened (byte ∷ bytes) answer = not_empty (length (byte ∷ bytes))
 
--- what is told of a world of flat contents, for this scenario
-abbrev pub flat_told : List FlatEdit → Scenario → WorldState FlatState FlatNode → Answer
-flat_told edits s w = world_told flat_text s.trace (setting_of edits s) w
+-- what is told of a world, for this scenario
+abbrev pub told_of : {Config TheEdit Node : Type 0} → (Config → List ℕ) → List TheEdit → Scenario → WorldState Config Node → Answer
+told_of shown edits s w = world_told shown s.trace (setting_of edits s) w
 
 -- what is told of a scenario with these contents, over a journal
 abbrev pub told_by : List ℕ → Body → Scenario → Answer
-told_by image (Flat devices edits) s = opened image (flat_told edits s (world_of devices edits s))
-told_by image (Yang modules schema devices) s = faulted not_replayed
+told_by image (Flat devices edits) s = opened image (told_of flat_text edits s (world_of flat_meaning devices edits s))
+told_by image (Yang modules tree devices edits) s = opened image (told_of (yang_text tree) edits s (world_of (yang_meaning tree) devices edits s))
 
 -- what is told of a scenario that was read
 abbrev pub told : List ℕ → Scenario → Answer
@@ -126,10 +120,10 @@ abbrev pub left_in : List ℕ → List Entry → Option (List Entry)
 left_in [] entries = Some entries
 left_in (byte ∷ bytes) entries = None
 
--- the entries that a scenario with these contents leaves, of which flat ones alone are run
+-- the entries that a scenario with these contents leaves
 abbrev pub entries_by : List ℕ → Body → Scenario → Option (List Entry)
-entries_by image (Flat devices edits) s = left_in image (world_of devices edits s).entries
-entries_by image (Yang modules schema devices) s = None
+entries_by image (Flat devices edits) s = left_in image (world_of flat_meaning devices edits s).entries
+entries_by image (Yang modules tree devices edits) s = left_in image (world_of (yang_meaning tree) devices edits s).entries
 
 abbrev pub replay_entries : List ℕ → Result Scenario Fault → Option (List Entry)
 replay_entries image (Err fault) = None
@@ -159,12 +153,12 @@ pub record Tells (given : Answer) (status : Status) (text : List ℕ) : Type 0 w
 -- the names of the given modules
 abbrev pub modules_told : Body → List (List ℕ)
 modules_told (Flat devices edits) = []
-modules_told (Yang modules schema devices) = schema.modules
+modules_told (Yang modules tree devices edits) = tree.modules
 
 -- how many rows the running configuration of each device has
 abbrev pub counts_told : Body → List ℕ
-counts_told (Flat devices edits) = map cells_told devices
-counts_told (Yang modules schema devices) = map rows_told devices
+counts_told (Flat devices edits) = map (rows_told flat_meaning) devices
+counts_told (Yang modules tree devices edits) = map (rows_told (yang_meaning tree)) devices
 
 -- what a scenario holds: its modules, the rows of each device, and how many change sets, operators and events there are
 abbrev pub holding : Scenario → Answer
@@ -175,11 +169,11 @@ abbrev pub checked : Result Scenario Fault → Answer
 checked (Err fault) = faulted fault
 checked (Ok s) = holding s
 
--- what check tells of bytes, by what they read as
-pub record IsToldOfCheck (bytes : List ℕ) (status : Status) (text : List ℕ) : Type 0 where
+-- this is so of what bytes are read as
+pub record IsSoOf (bytes : List ℕ) (so : Result Scenario Fault → Type 0) : Type 0 where
   pub outcome : Result Scenario Fault
   pub reads : ReadsBytes bytes outcome
-  pub tells : Tells (checked outcome) status text
+  pub is_so : so outcome
 
 -- what journal tells of the bytes of a disk
 abbrev pub TellsJournal : List ℕ → Status → List ℕ → Type 0
@@ -188,16 +182,9 @@ TellsJournal image status text = Tells (journalled (entries_of image)) status te
 -- what the program tells to its command, its input, and the bytes of the journal's disk
 abbrev pub IsTold : Option Command → List ℕ → List ℕ → Status → List ℕ → Type 0
 IsTold None bytes image status text = Tells usage_told status text
-IsTold (Some Check) bytes image status text = IsToldOfCheck bytes status text
-IsTold (Some Replay) bytes image status text = Tells (replayed image (flat_scenario_of bytes)) status text
+IsTold (Some Check) bytes image status text = IsSoOf bytes (λ outcome. Tells (checked outcome) status text)
+IsTold (Some Replay) bytes image status text = IsSoOf bytes (λ outcome. Tells (replayed image outcome) status text)
 IsTold (Some Journal) bytes image status text = TellsJournal image status text
-
--- the entries that a command leaves in the journal, where it runs a world over it
-abbrev pub entries_left : Option Command → List ℕ → List ℕ → Option (List Entry)
-entries_left (Some Replay) bytes image = replay_entries image (flat_scenario_of bytes)
-entries_left (Some Check) bytes image = None
-entries_left (Some Journal) bytes image = None
-entries_left None bytes image = None
 
 -- what the journal's disk tells after: these entries, or what it told before
 abbrev pub Stores : Option (List Entry) → Option (List ℕ) → Option (List ℕ) → Type 0
@@ -208,11 +195,15 @@ Stores (Some entries) stored after = IfSome after (ReadsAs entries)
 abbrev pub LeavesSoFar : Result Scenario Fault → List ℕ → Type 0
 LeavesSoFar read image = IsBetween [] (unwrap_or (replay_entries [] read) []) image
 
--- the same of what an input holds
+-- the same of what bytes are read as
+abbrev pub LeavesSoFarBy : List ℕ → List ℕ → Type 0
+LeavesSoFarBy bytes image = (outcome : Result Scenario Fault) → ReadsBytes bytes outcome → LeavesSoFar outcome image
+
+-- and of what an input holds
 pub record LeavesSoFarOf (left : Option (List ℕ)) (image : List ℕ) : Type 0 where
   pub bytes : List ℕ
   pub held : IfSome left (λ told. told ≡ bytes)
-  pub so_far : LeavesSoFar (flat_scenario_of bytes) image
+  pub so_far : LeavesSoFarBy bytes image
 
 -- ---- a run that a crash led astray
 
@@ -235,8 +226,8 @@ pub record IsAstray {Config Node : Type 0} (told_of : WorldState Config Node →
 
 -- the same of a scenario with these contents, and of one that was read
 abbrev pub IsAstrayBy : Body → Scenario → Option (List ℕ) → Status → List ℕ → Type 0
-IsAstrayBy (Flat devices edits) s stored status text = IsAstray (flat_told edits s) s.events stored status text
-IsAstrayBy (Yang modules schema devices) s stored status text = ⊥
+IsAstrayBy (Flat devices edits) s stored status text = IsAstray {Node = FlatNode} (told_of flat_text edits s) s.events stored status text
+IsAstrayBy (Yang modules tree devices edits) s stored status text = IsAstray {Node = YangNode} (told_of (yang_text tree) edits s) s.events stored status text
 
 abbrev pub IsAstrayIn : Result Scenario Fault → Option (List ℕ) → Status → List ℕ → Type 0
 IsAstrayIn (Err fault) stored status text = ⊥
@@ -244,7 +235,7 @@ IsAstrayIn (Ok s) stored status text = IsAstrayBy s.body s stored status text
 
 -- and of a command, which only a replay can be
 abbrev pub IsAstrayOf : Option Command → List ℕ → Option (List ℕ) → Status → List ℕ → Type 0
-IsAstrayOf (Some Replay) bytes stored status text = IsAstrayIn (flat_scenario_of bytes) stored status text
+IsAstrayOf (Some Replay) bytes stored status text = IsSoOf bytes (λ outcome. IsAstrayIn outcome stored status text)
 IsAstrayOf (Some Check) bytes stored status text = ⊥
 IsAstrayOf (Some Journal) bytes stored status text = ⊥
 IsAstrayOf None bytes stored status text = ⊥
@@ -256,10 +247,12 @@ pub record AsTold (answer : Answer) (left : Option (List Entry)) (stored after :
   pub tells : Tells answer status text
   pub stores : Stores left stored after
 
--- the same of a command
-pub record AsSaid (command : Option Command) (bytes image : List ℕ) (stored after : Option (List ℕ)) (status : Status) (text : List ℕ) : Type 0 where
-  pub tells : IsTold command bytes image status text
-  pub stores : Stores (entries_left command bytes image) stored after
+-- the same of a command: of what bytes are read as, where it reads any
+abbrev pub AsSaid : Option Command → List ℕ → List ℕ → Option (List ℕ) → Option (List ℕ) → Status → List ℕ → Type 0
+AsSaid None bytes image stored after status text = AsTold usage_told None stored after status text
+AsSaid (Some Check) bytes image stored after status text = IsSoOf bytes (λ outcome. AsTold (checked outcome) None stored after status text)
+AsSaid (Some Replay) bytes image stored after status text = IsSoOf bytes (λ outcome. AsTold (replayed image outcome) (replay_entries image outcome) stored after status text)
+AsSaid (Some Journal) bytes image stored after status text = AsTold (journalled (entries_of image)) None stored after status text
 
 -- a status and a text that answer the bytes of an input over a journal's disk, and what that tells after
 pub record TellsOver (command : Option Command) (bytes : List ℕ) (stored after : Option (List ℕ)) (status : Status) (text : List ℕ) : Type 0 where
@@ -291,25 +284,25 @@ TellsUnopened _ status text = ⊥
 
 -- the world that a scenario of these devices and edits leads to is safe, its devices begin with valid configurations, and what is
 -- reported of it is so: all of a change set or none, but for the devices that are told to differ
-pub record IsSafeRun (devices : List FlatState) (edits : List FlatEdit) (s : Scenario) : Type 0 where
-  pub valid : All (IsFirst flat_meaning) devices
-  pub safe : IsSafe flat_meaning (setting_of edits s) devices s.events (world_of devices edits s)
-  pub reports : TellsAll (setting_of edits s) (world_of devices edits s)
+pub record IsSafeRun {Config TheEdit Node : Type 0} (m : Meaning Config TheEdit Node) (devices : List Config) (edits : List TheEdit) (s : Scenario) : Type 0 where
+  pub valid : All (IsFirst m) devices
+  pub safe : IsSafe m (setting_of edits s) devices s.events (world_of m devices edits s)
+  pub reports : TellsAll (setting_of edits s) (world_of m devices edits s)
 
--- the same by the contents, of which flat ones alone are run
+-- the same by the contents
 abbrev pub RunsSafelyBy : Body → Scenario → Type 0
-RunsSafelyBy (Flat devices edits) s = IsSafeRun devices edits s
-RunsSafelyBy (Yang modules schema devices) s = Unit {0}
+RunsSafelyBy (Flat devices edits) s = IsSafeRun flat_meaning devices edits s
+RunsSafelyBy (Yang modules tree devices edits) s = IsSafeRun (yang_meaning tree) devices edits s
 
 abbrev pub RunsSafely : Result Scenario Fault → Type 0
 RunsSafely (Err fault) = Unit {0}
 RunsSafely (Ok s) = RunsSafelyBy s.body s
 
--- what is known of the scenario that bytes are read as, or of their fault, where YANG contents are built or aren't: the scenario
--- is within all limits; the place of the fault leads to a part of the text of which its kind is so
-abbrev pub IsKnown : Bool → List ℕ → Result Scenario Fault → Type 0
-IsKnown built bytes (Err fault) = ToldOfBytes built bytes fault
-IsKnown built bytes (Ok s) = ScenarioKeeps s
+-- what is known of the scenario that bytes are read as, or of their fault: the scenario is within all limits; the place of the fault
+-- leads to a part of the text of which its kind is so
+abbrev pub IsKnown : List ℕ → Result Scenario Fault → Type 0
+IsKnown bytes (Err fault) = ToldOfBytes bytes fault
+IsKnown bytes (Ok s) = ScenarioKeeps s
 
 -- what is told to a command, an input and a disk is one answer
 abbrev pub IsOnly : Option Command → List ℕ → List ℕ → Type 0
@@ -331,9 +324,8 @@ pub record Says (streams : Streams) (command : Option Command) (status : Status)
   pub kept : IfSome streams.stored (λ told. told ≡ image)
   pub goes : AsSaid command bytes image streams.stored streams.after status text ⊎ IsAstrayOf command bytes streams.stored status text
   pub only : IsOnly command bytes image
-  pub safe : RunsSafely (flat_scenario_of bytes)
-  pub checked_known : (outcome : Result Scenario Fault) → ReadsBytes bytes outcome → IsKnown true bytes outcome
-  pub replayed_known : IsKnown false bytes (flat_scenario_of bytes)
+  pub safe : (outcome : Result Scenario Fault) → ReadsBytes bytes outcome → RunsSafely outcome
+  pub known : (outcome : Result Scenario Fault) → ReadsBytes bytes outcome → IsKnown bytes outcome
 
 -- the whole answer to some bytes was written, and nothing else
 pub record Answers (streams : Streams) (command : Option Command) (before after : Option (List ℕ)) (status : Status) : Type 0 where

@@ -2,12 +2,13 @@
 
 ghost use Rattle.std.specs.Prelude.{◌≡◌, IfOk, IsTrue};
 ghost use Rattle.nm_console.specs.Status.{is_whole};
-ghost use Rattle.nm_console.specs.Console.{IsToldOfCheck, Tells, counts_told, holding, modules_told};
+ghost use Rattle.nm_console.specs.Console.{IsSoOf, Tells, checked, counts_told, holding, modules_told};
 
-use crate::rows::{cells_of, rows_of};
+use crate::rows::rows_of;
 use crate::said::{Said, say_fault};
 use crate::status::Status;
 use nm_base::{Label, NoMemory};
+use nm_proto::FlatContent;
 use nm_refusals::read_scenario;
 use nm_report::write_check;
 use nm_scenario::{Body, ReadError, Scenario};
@@ -15,7 +16,7 @@ use std::alloc::Global;
 
 /// The answer of `check` to the bytes of a scenario.
 pub fn check_bytes(alloc: Global, bytes: &[u8]) -> Result<Said, NoMemory>
-    ensures told { IfOk result (λ said. IsToldOfCheck bytes.now said.status said.text.items) }
+    ensures told { IfOk result (λ said. IsSoOf bytes.now (λ outcome. Tells (checked outcome) said.status said.text.items)) }
     ensures whole { IfOk result (λ said. IsTrue (is_whole said.status)) }
 {
     match read_scenario(alloc, bytes) {
@@ -50,7 +51,7 @@ fn modules_of(body: &Body) -> &[Label]
 {
     match body {
         Body::Flat { .. } => &[],
-        Body::Yang { schema, .. } => schema.modules(),
+        Body::Yang { content, .. } => content.schema().modules(),
     }
 }
 
@@ -59,7 +60,14 @@ fn counts_of(alloc: Global, body: &Body) -> Result<Vec<u32>, NoMemory>
     ensures { IfOk result (λ rows. rows.items ≡ counts_told body.now) }
 {
     match body {
-        Body::Flat { devices, .. } => cells_of(alloc, devices.as_slice()),
-        Body::Yang { devices, .. } => rows_of(alloc, devices.as_slice()),
+        Body::Flat { devices, .. } => {
+            let content = FlatContent::new(alloc);
+            rows_of(alloc, &content, devices.as_slice())
+        }
+        Body::Yang {
+            content,
+            devices,
+            ..
+        } => rows_of(alloc, content, devices.as_slice()),
     }
 }

@@ -177,16 +177,23 @@ fn modules_are_told(rt: HostRuntime) -> Result<(), Fail> {
     Ok(())
 }
 
-// `replay` knows flat contents alone, whatever else is wrong.
+// `replay` reads as `check` does.
 #[test]
-fn replay_is_of_flat_contents(rt: HostRuntime) -> Result<(), Fail> {
-    for text in [
-        r#"{"netm":1,"contents":"yang","devices":[{"running":{}}]}"#,
-        r#"{"netm":1,"contents":"yang","modules":["x"],"x":1}"#,
+fn replay_reads_modules(rt: HostRuntime) -> Result<(), Fail> {
+    for (text, status, want) in [
+        (
+            r#"{"netm":1,"contents":"yang","devices":[{"running":{}}]}"#,
+            Status::Ok,
+            "netm 1\nrunning 1 {}\ndiffer none\nunsettled none\n",
+        ),
+        (
+            r#"{"netm":1,"contents":"yang","modules":["x"],"x":1}"#,
+            Status::Scenario,
+            "scenario yang /modules/0\n",
+        ),
     ] {
         let ended = run(rt.alloc(), &["replay"], text, &[], &[])?;
-        assert_eq!(rt; ended.0, Status::Scenario, "{text}");
-        let want = "scenario not-built /contents\n";
+        assert_eq!(rt; ended.0, status, "{text}");
         assert_eq!(rt; ended.1.as_slice(), want.as_bytes(), "{text}");
     }
     Ok(())

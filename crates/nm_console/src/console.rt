@@ -4,8 +4,7 @@ ghost use Rattle.nm_disk.specs.Image.{AnyMoment, LeavesOnly};
 ghost use Rattle.nm_disk.specs.Keeps.{KeepsDisk};
 ghost use Rattle.nm_console.specs.Words.{command_of, is_replay, reads_input, uses_journal, texts_of};
 ghost use Rattle.nm_console.specs.Status.{is_whole};
-ghost use Rattle.nm_scenario.specs.Scenario.{flat_scenario_of};
-ghost use Rattle.nm_console.specs.Console.{Answers, CutOff, LeavesSoFar, LeavesSoFarOf, Says, Tells, TellsOver, usage_told};
+ghost use Rattle.nm_console.specs.Console.{Answers, CutOff, LeavesSoFarBy, LeavesSoFarOf, Says, Tells, TellsOver, usage_told};
 
 use crate::check::check_bytes;
 use crate::command::{Command, command_of};
@@ -175,7 +174,7 @@ fn say_bytes<D: Disk>(
     ensures journal_stays { is_replay (Some command) ≡ false → D.told journal.new ≡ D.told journal.old }
     ensures journal_kept { KeepsDisk D.told D.faults journal.old journal.new }
     ensures any_moment { is_replay (Some command) ≡ true → IsSome (D.told journal.old) → LeavesOnly [] (D.may_leave journal.old)
-        → AnyMoment D.moment D.might_have_left journal.old journal.new (LeavesSoFar (flat_scenario_of bytes.now)) }
+        → AnyMoment D.moment D.might_have_left journal.old journal.new (LeavesSoFarBy bytes.now) }
 {
     match command {
         Command::Check => match check_bytes(alloc, bytes) {

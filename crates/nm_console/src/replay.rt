@@ -10,11 +10,8 @@ ghost use Rattle.nm_journal.specs.declared.fault.JournalFault.TheVariants.{DiskF
 ghost use Rattle.nm_manager.specs.declared.action.TurnFault.TheVariants as turn_fault;
 ghost use Rattle.nm_network.specs.Runs.{HasTime, IsBetween, IsNumbered};
 ghost use Rattle.nm_network.specs.World.{AreCalm, journal_of, start, with_state};
-ghost use Rattle.nm_proto.specs.Flat.{flat_text};
-ghost use Rattle.nm_proto.specs.FlatContent.{flat_meaning};
 ghost use Rattle.nm_refusals.specs.Kept.{ScenarioKeeps};
-ghost use Rattle.nm_scenario.specs.Scenario.{flat_scenario_of};
-ghost use Rattle.nm_console.specs.Console.{CanRun, LeavesSoFar, Tells, TellsLast, TellsReplay, TellsRun, TellsUnopened, faulted, led_to, not_empty, not_replayed, world_told};
+ghost use Rattle.nm_console.specs.Console.{CanRun, IsSoOf, LeavesSoFar, LeavesSoFarBy, Tells, TellsLast, TellsReplay, TellsRun, TellsUnopened, led_to, not_empty, world_told};
 
 use crate::journal::{JournalStop, say_damaged};
 use crate::refusal::write_not_empty;
@@ -25,22 +22,21 @@ use nm_disk::Disk;
 use nm_journal::{Journal, JournalFault};
 use nm_manager::TurnFault;
 use nm_network::World;
-use nm_proto::{ChangePlan, Event, FlatConfig, FlatContent, Listed, Show, Tables};
-use nm_reading::Cause;
-use nm_refusals::read_flat_scenario;
+use nm_proto::{ChangePlan, Event, FlatContent, Listed, Show, Tables};
+use nm_refusals::read_scenario;
 use nm_report::write_world;
-use nm_scenario::{Body, Fault, ReadError, Scenario, ScenarioKind, Step};
+use nm_scenario::{Body, ReadError, Scenario};
 use std::alloc::Global;
 
 /// The answer of `replay` to the bytes of a scenario, over a journal that is to be empty.
 pub fn replay_bytes<D: Disk>(alloc: Global, bytes: &[u8], disk: &mut D) -> Result<Said, JournalStop>
-    ensures told { IfOk result (λ said. TellsReplay (flat_scenario_of bytes.now) (D.told disk.old) (D.told disk.new) said.status said.text.items) }
+    ensures told { IfOk result (λ said. IsSoOf bytes.now (λ outcome. TellsReplay outcome (D.told disk.old) (D.told disk.new) said.status said.text.items)) }
     ensures disk_fault { IsErrOf result JournalStop.DiskFault → Rose (D.faults disk.old) (D.faults disk.new) }
     ensures keeps { KeepsDisk D.told D.faults disk.old disk.new }
     // A crash at any moment leaves the entries so far.
-    ensures any_moment { IsSome (D.told disk.old) → LeavesOnly [] (D.may_leave disk.old) → AnyMoment D.moment D.might_have_left disk.old disk.new (LeavesSoFar (flat_scenario_of bytes.now)) }
+    ensures any_moment { IsSome (D.told disk.old) → LeavesOnly [] (D.may_leave disk.old) → AnyMoment D.moment D.might_have_left disk.old disk.new (LeavesSoFarBy bytes.now) }
 {
-    match read_flat_scenario(alloc, bytes) {
+    match read_scenario(alloc, bytes) {
         Ok(scenario) => say_scenario(alloc, scenario, disk),
         Err(ReadError::Bad(fault)) => match say_fault(alloc, &fault) {
             Ok(said) => Ok(said),
@@ -72,8 +68,9 @@ fn say_scenario<D: Disk>(
         trace,
     } = scenario;
     match body {
-        Body::Flat { devices, edits } => say_flat(
+        Body::Flat { devices, edits } => say_contents(
             alloc,
+            FlatContent::new(alloc),
             devices,
             Tables::new(edits, selects),
             changes,
@@ -83,34 +80,32 @@ fn say_scenario<D: Disk>(
             trace,
             disk,
         ),
-        Body::Yang { .. } => match say_unbuilt(alloc) {
-            Ok(said) => Ok(said),
-            Err(_) => Err(JournalStop::NoMemory),
-        },
+        Body::Yang {
+            content,
+            devices,
+            edits,
+            ..
+        } => say_contents(
+            alloc,
+            content,
+            devices,
+            Tables::new(edits, selects),
+            changes,
+            operators,
+            events.as_slice(),
+            drain,
+            trace,
+            disk,
+        ),
     }
 }
 
-// The answer to YANG contents, which aren't replayed yet.
-fn say_unbuilt(alloc: Global) -> Result<Said, NoMemory>
-    ensures { IfOk result (λ said. Tells (faulted not_replayed) said.status said.text.items) }
-{
-    let mut place = Listed::new(alloc);
-    place.push(Step::Name(Label::new(alloc, "contents")?))?;
-    let fault = Fault {
-        cause: Cause {
-            kind: ScenarioKind::NotBuilt,
-            inner: None,
-        },
-        place,
-    };
-    say_fault(alloc, &fault)
-}
-
-// The answer to flat contents: where the journal is empty, that of their world.
-fn say_flat<D: Disk>(
+// The answer by the contents: where the journal is empty, that of their world.
+fn say_contents<C: Show + Drop, D: Disk>(
     alloc: Global,
-    devices: Listed<FlatConfig>,
-    tables: Tables<FlatContent>,
+    content: C,
+    devices: Listed<C::Config>,
+    tables: Tables<C>,
     changes: Listed<ChangePlan>,
     users: Listed<Label>,
     events: &[Event],
@@ -118,18 +113,17 @@ fn say_flat<D: Disk>(
     trace: bool,
     disk: &mut D,
 ) -> Result<Said, JournalStop>
-    requires { CanRun flat_meaning (record { tables = tables; plans = changes; users = users }) devices events.now }
-    ensures told { IfOk result (λ said. TellsRun (world_told flat_text trace (record { tables = tables; plans = changes; users = users }))
-        (led_to flat_meaning (record { tables = tables; plans = changes; users = users }) events.now drain (start (record { tables = tables; plans = changes; users = users }) devices))
+    requires { CanRun (C.Content.meaning content) (record { tables = tables; plans = changes; users = users }) devices events.now }
+    ensures told { IfOk result (λ said. TellsRun (world_told (C.shown content) trace (record { tables = tables; plans = changes; users = users }))
+        (led_to (C.Content.meaning content) (record { tables = tables; plans = changes; users = users }) events.now drain (start (record { tables = tables; plans = changes; users = users }) devices))
         events.now (D.told disk.old) (D.told disk.new) said.status said.text.items) }
     ensures disk_fault { IsErrOf result JournalStop.DiskFault → Rose (D.faults disk.old) (D.faults disk.new) }
     ensures keeps { KeepsDisk D.told D.faults disk.old disk.new }
     ensures any_moment { IsSome (D.told disk.old) → LeavesOnly [] (D.may_leave disk.old) → AnyMoment D.moment D.might_have_left disk.old disk.new
-        (IsBetween [] (led_to flat_meaning (record { tables = tables; plans = changes; users = users }) events.now drain (start (record { tables = tables; plans = changes; users = users }) devices)).entries) }
+        (IsBetween [] (led_to (C.Content.meaning content) (record { tables = tables; plans = changes; users = users }) events.now drain (start (record { tables = tables; plans = changes; users = users }) devices)).entries) }
 {
     match Journal::fresh(alloc, disk) {
         Ok(journal) => {
-            let content = FlatContent::new(alloc);
             let world = World::new(alloc, content, tables, devices, changes, users, journal)?;
             say_run(alloc, world, events, drain, trace, disk)
         }

@@ -10,13 +10,16 @@ use Rattle.nm_form.proofs.Exact.{reads}
 use Rattle.nm_events.specs.declared.arguments.Counts.{Counts}
 use Rattle.nm_events.specs.Events.{events_form}
 use Rattle.nm_refusals.specs.Roles as role
-use Rattle.nm_refusals.specs.Roles.{Edits}
+use Rattle.nm_refusals.specs.Roles.{Contents}
 use Rattle.nm_refusals.specs.Told.{Told, OfEvents, in_events}
 use Rattle.nm_refusals.proofs.Sound.{IsSound}
 
-pub events_so : {E : Type 0} (edits : Edits) (edit : Form E)
-    → ((counts : Counts) (part : Data) (fault : Fault) → IsFirstOf (events_form edit counts) part fault → OfEvents edits counts part fault)
-    → (counts : Counts) (part : Data) → IsSound (Told (role.events edits counts) part) (read (events_form edit counts) part)
-events_so edits edit so counts part = record {
-  so = λ fault e. in_events fault (so counts part fault (reads (events_form edit counts) part (Err (Bad fault)) e));
+-- the first fault of events whose edits are written so is one of events of these contents
+abbrev pub AreEvents : {E : Type 0} → Contents → Form E → Type 0
+AreEvents contents form = (counts : Counts) (part : Data) (fault : Fault) → IsFirstOf (events_form form counts) part fault → OfEvents contents counts part fault
+
+pub events_so : {E : Type 0} (contents : Contents) (form : Form E) → AreEvents contents form → (counts : Counts) (part : Data)
+    → IsSound (Told (role.events contents counts) part) (read (events_form form counts) part)
+events_so contents form so counts part = record {
+  so = λ fault e. in_events fault (so counts part fault (reads (events_form form counts) part (Err (Bad fault)) e));
 }

@@ -1,28 +1,21 @@
--- What is told of flat configurations and edits, and of data of modules.
-use Rattle.std.proofs.Common.{◌≡◌, ℕ, Bool, true, false, cond, Option, Some, None, Result, Ok, Err, refl, ap, ◌∙◌}
+-- What is told of flat configurations and edits.
+use Rattle.std.proofs.Common.{◌≡◌, ℕ, Bool, true, false, Option, Some, None, Result, Ok, refl, ap, ◌∙◌}
 use Rattle.std.specs.Prelude.{nat_lt, ◌&&◌, is_some}
 use Rattle.std.specs.Ordering.{nat_cmp}
-use Rattle.std.specs.FinMap.{FinMap, insert, empty, len}
+use Rattle.std.specs.FinMap.{FinMap, insert, empty}
 use Rattle.std.proofs.lemmas.Bool.{ltb-true}
 use Rattle.serde_json.specs.Data.{Data, null, boolean, number, string, array, object, Members, no_members, member}
 use Rattle.serde_json.specs.Find.{as_object}
 use Rattle.nm_proto.specs.Content.{Refusal}
 use Rattle.nm_proto.specs.Flat.{flat_violation}
-use Rattle.nm_tree.specs.Nodes.{SchemaTree}
-use Rattle.nm_config.specs.Rows.{Rows}
-use Rattle.nm_json.specs.declared.fault.Fault.{Fault as JsonPlace}
-use Rattle.nm_json.specs.declared.fault.JsonFault.{JsonFault}
-use Rattle.nm_json.specs.declared.fault.JsonFault.TheVariants.{NotJson, Bad, TooManyRows, NoMemory}
-use Rattle.nm_json.specs.Findings.{whole_found}
-use Rattle.nm_json.specs.Whole.{config_read, answered, least_of, faults_found, rows_of}
 use Rattle.nm_proto.specs.declared.kind.ScenarioKind.TheVariants as kind
 use Rattle.nm_reading.specs.declared.fault.Fault.{Fault}
 use Rattle.nm_reading.specs.Reading.{◌>>=◌, here, natural_of}
 use Rattle.nm_form.specs.Read.{read, told}
 use Rattle.nm_scenario.specs.Flat.{row_limit, node_limit, key_of, or_unread, member_count, cells_after, cells_at, is_change, all_members, flat_edit_of, flat_edit_said, flat_edit}
-use Rattle.nm_scenario.specs.Devices.{valid_only, running_at, rows_from, data_at}
-use Rattle.nm_refusals.specs.Roles.{Role, running, cells, data_of, change_edit}
-use Rattle.nm_refusals.specs.Wrong.{Wrong, is_cell, are_all, unmarked, too_many_cells, too_many_nodes, no_cells, no_edit, no_data, too_many_rows, invalid}
+use Rattle.nm_scenario.specs.Devices.{valid_only, running_at}
+use Rattle.nm_refusals.specs.Roles.{Role, running, cells, change_edit}
+use Rattle.nm_refusals.specs.Wrong.{Wrong, is_cell, are_all, unmarked, too_many_cells, too_many_nodes, no_cells, no_edit, invalid}
 use Rattle.nm_refusals.specs.Told.{Told}
 use Rattle.nm_refusals.proofs.Sound.{IsSound, is_read, then_so, by_test, by_told}
 use Rattle.nm_refusals.proofs.Parts.{wrong}
@@ -73,41 +66,12 @@ running_so part =
 
 -- ---- edits
 
-members_so : (part : Data) (members : Option Members) → as_object part ≡ members → IsSound (Told change_edit part) (told (flat_edit_of members))
+members_so : (part : Data) (members : Option Members) → as_object part ≡ members → IsSound (Told (change_edit cells) part) (told (flat_edit_of members))
 members_so part None e = wrong kind.Content (no_edit (ap (are_all is_change) e))
 members_so part (Some m) e =
     by_told (nat_lt node_limit (member_count m)) _ _ (λ many. wrong kind.TooMany (too_many_nodes m e (ltb-true node_limit (member_count m) many)))
     (λ few. by_told (all_members is_change m) _ _ (λ all. is_read _) (λ some. wrong kind.Content (no_edit (ap (are_all is_change) e ∙ some))))
 
-pub flat_edit_so : (part : Data) → IsSound (Told change_edit part) (read flat_edit part)
+pub flat_edit_so : (part : Data) → IsSound (Told (change_edit cells) part) (read flat_edit part)
 unfolding flat_edit_said
 flat_edit_so part = members_so part (as_object part) refl
-
--- ---- data
-
--- reading data never answers that it is no JSON, or that memory ran out
-abbrev is_plain : Result Rows JsonFault → Bool
-is_plain (Ok rows) = true
-is_plain (Err (Bad k path)) = true
-is_plain (Err TooManyRows) = true
-is_plain (Err NotJson) = false
-is_plain (Err NoMemory) = false
-
-tested_plain : (rows : Rows) (b : Bool) → is_plain (cond b (Err TooManyRows) (Ok rows)) ≡ true
-tested_plain rows true = refl
-tested_plain rows false = refl
-
-answered_plain : (tree : SchemaTree) (least : Option JsonPlace) (rows : Rows) → is_plain (answered tree least rows) ≡ true
-answered_plain tree (Some fault) rows = refl
-answered_plain tree None rows = tested_plain rows (nat_lt 20000 (len rows))
-
-answer_so : (tree : SchemaTree) (part : Data) (r : Result Rows JsonFault) → config_read tree part ≡ r → is_plain r ≡ true → IsSound (Told (running (data_of tree)) part) (rows_from r)
-answer_so tree part (Ok rows) e plain = is_read rows
-answer_so tree part (Err (Bad k path)) e plain = wrong kind.Content (no_data k path e)
-answer_so tree part (Err TooManyRows) e plain = wrong kind.TooMany (too_many_rows e)
-answer_so tree part (Err NotJson) e plain = cc
-answer_so tree part (Err NoMemory) e plain = cc
-
-pub data_so : (tree : SchemaTree) (part : Data) → IsSound (Told (running (data_of tree)) part) (data_at tree part)
-unfolding data_at
-data_so tree part = answer_so tree part (config_read tree part) refl (answered_plain tree (least_of (faults_found empty (whole_found tree part))) (rows_of empty (whole_found tree part)))

@@ -1,5 +1,5 @@
 -- What is told of the head of a scenario, and of its devices.
-use Rattle.std.proofs.Common.{◌≡◌, ℕ, List, [], Bool, Option, Some, None, Result, Ok, Err, codes, refl, ap, ◌∙◌}
+use Rattle.std.proofs.Common.{◌≡◌, ℕ, List, [], Option, Some, None, Result, Ok, Err, codes, refl, ap, ◌∙◌}
 use Rattle.std.specs.Prelude.{if◌then◌else◌, ◌||◌, unwrap_or}
 use Rattle.std.specs.Str.{bytes_eq}
 use Rattle.serde_json.specs.Data.{Data}
@@ -16,29 +16,31 @@ use Rattle.nm_events.specs.Limits.{device_limit}
 use Rattle.nm_scenario.specs.declared.head.Form.TheVariants as form
 use Rattle.nm_scenario.specs.declared.head.ReadModule.{ReadModule}
 use Rattle.nm_scenario.specs.Head.{form_of, form_at, module_limit, module_read, module_of, module_at, modules_at}
-use Rattle.nm_scenario.specs.Devices.{knows_device, running_at, device_at, devices_at, data_at, yang_device_at, yang_devices_at}
+use Rattle.nm_scenario.specs.Devices.{knows_device, running_at, device_at, devices_at}
+use Rattle.nm_scenario.specs.Yang.{data_at, yang_device_at, yang_devices_at}
 use Rattle.nm_refusals.specs.Roles as role
-use Rattle.nm_refusals.specs.Roles.{Role, Frame, cells, data_of, unread, flat, yang, number}
+use Rattle.nm_refusals.specs.Roles.{cells, data_of}
 use Rattle.nm_refusals.specs.Members as must
 use Rattle.nm_refusals.specs.Steps as step
 use Rattle.nm_refusals.specs.Wrong.{no_form, no_text, no_module}
 use Rattle.nm_refusals.specs.Told.{Told}
 use Rattle.nm_refusals.proofs.Sound.{IsSound, is_read, then_so, by_test}
 use Rattle.nm_refusals.proofs.Parts.{wrong, object_is, object_so, required_so, known_so, each_so, list_read, some_so}
-use Rattle.nm_refusals.proofs.Flats.{running_so, data_so}
+use Rattle.nm_refusals.proofs.Flats.{running_so}
+use Rattle.nm_refusals.proofs.Data.{data_so}
 
 -- ---- the form of the contents
 
-form_or : (part : Data) (built : Bool) (word : Option (List ℕ)) → as_str part ≡ word → IsSound (Told (role.form built) part) (form_of word)
-form_or part built None e = wrong kind.BadValue (no_form (ap (λ w. bytes_eq (unwrap_or w []) (codes "flat") || bytes_eq (unwrap_or w []) (codes "yang")) e))
-form_or part built (Some word) e =
+form_or : (part : Data) (word : Option (List ℕ)) → as_str part ≡ word → IsSound (Told role.form part) (form_of word)
+form_or part None e = wrong kind.BadValue (no_form (ap (λ w. bytes_eq (unwrap_or w []) (codes "flat") || bytes_eq (unwrap_or w []) (codes "yang")) e))
+form_or part (Some word) e =
     by_test (bytes_eq word (codes "flat")) (Ok form.Flat) (if bytes_eq word (codes "yang") then Ok form.Yang else here kind.BadValue) (λ hold. is_read form.Flat)
     (λ fail. by_test (bytes_eq word (codes "yang")) (Ok form.Yang) (here kind.BadValue) (λ hold. is_read form.Yang)
     (λ neither. wrong kind.BadValue (no_form (ap (λ w. bytes_eq (unwrap_or w []) (codes "flat") || bytes_eq (unwrap_or w []) (codes "yang")) e ∙ (ap (λ b. b || bytes_eq word (codes "yang")) fail ∙ neither)))))
 
-pub form_so : (part : Data) (built : Bool) → IsSound (Told (role.form built) part) (form_at part)
+pub form_so : (part : Data) → IsSound (Told role.form part) (form_at part)
 unfolding form_at
-form_so part built = form_or part built (as_str part) refl
+form_so part = form_or part (as_str part) refl
 
 -- ---- modules
 

@@ -16,17 +16,28 @@ use Rattle.nm_proto.specs.declared.message.DefaultOperation.TheVariants.{Merge}
 use Rattle.nm_proto.specs.Content.{Refusal}
 use Rattle.nm_proto.specs.Flat.{FlatState, flat_violation}
 use Rattle.nm_tree.specs.Nodes.{SchemaTree}
+use Rattle.nm_path.specs.Sound.{HaveHeldBounds}
 use Rattle.nm_config.specs.Rows.{Rows}
 use Rattle.nm_json.specs.declared.fault.Fault.{Fault as JsonPlace}
-use Rattle.nm_json.specs.declared.fault.JsonFault.{JsonFault}
-use Rattle.nm_json.specs.declared.fault.JsonFault.TheVariants.{NotJson, Bad, TooManyRows, NoMemory}
+use Rattle.nm_json.specs.declared.fault.JsonFault.TheVariants.{TooManyRows}
 use Rattle.nm_json.specs.Findings.{whole_found}
 use Rattle.nm_json.specs.Whole.{config_read, answered, least_of, faults_found, rows_of}
+use Rattle.nm_json.proofs.Only.{config_law}
+use Rattle.nm_rules.specs.Standing.{StandsIn}
+use Rattle.nm_rules.proofs.Configs.{config_stands}
+use Rattle.nm_check.specs.Told.{violation_told}
+use Rattle.nm_edit.specs.declared.edit.EditNode.{EditNode}
+use Rattle.nm_edit.specs.EditOf.{IsEditOf}
+use Rattle.nm_edit_json.specs.Whole.{edit_read}
+use Rattle.nm_edit_json.specs.Laws.{HasNodes}
+use Rattle.nm_edit_json.proofs.Edits.{given_law}
+use Rattle.nm_edit_json.proofs.Least.{nodes_law}
 use Rattle.nm_proto.specs.declared.kind.ScenarioKind.TheVariants as kind
 use Rattle.nm_reading.specs.declared.fault.Cause.{Cause}
 use Rattle.nm_reading.specs.declared.fault.Fault.{Fault}
 use Rattle.nm_reading.specs.Reading.{◌>>=◌, here, plain, required, optional, object_at, only_known, list_at, natural_of, in_range, number_within, some_of, empty_list_at}
 use Rattle.nm_events.specs.Limits.{device_limit, change_limit, operator_limit}
+use Rattle.nm_form.specs.Form.{Form}
 use Rattle.nm_form.specs.Read.{read, told}
 use Rattle.nm_form.specs.Kept.{Holds, OfResult}
 use Rattle.nm_events.specs.Arguments.{operation}
@@ -34,12 +45,14 @@ use Rattle.nm_events.specs.Kept.{IsWithin}
 use Rattle.nm_scenario.specs.declared.scenario.ReadChange.{ReadChange}
 use Rattle.nm_scenario.specs.declared.scenario.ReadEdit.{ReadEdit}
 use Rattle.nm_scenario.specs.Flat.{row_limit, node_limit, key_of, or_unread, member_count, cells_after, cells_at, change_of, is_change, all_members, changes_after, flat_edit_of, flat_edit_said, flat_edit}
-use Rattle.nm_scenario.specs.Devices.{knows_device, valid_only, running_at, device_at, devices_at, rows_from, data_at, yang_device_at, yang_devices_at}
+use Rattle.nm_scenario.specs.Devices.{knows_device, valid_only, running_at, device_at, devices_at}
+use Rattle.nm_scenario.specs.Yang.{rows_from, holds_marks, valid_rows, data_at, yang_device_at, yang_devices_at, edit_from, data_edit_said, data_edit}
 use Rattle.nm_scenario.specs.Changes.{knows_change, knows_edit, device_of, last_device, device_within, entry_at, entries_at, change_at, changes_read_at, planned_from, plans_from, edits_of}
 use Rattle.nm_scenario.specs.Operators.{knows_operator, user_limit, user_of, user_at, operator_at, operators_at}
 use Rattle.nm_refusals.specs.Wrong.{unmarked}
-use Rattle.nm_refusals.specs.Kept.{StateKeeps, EditKeeps, RowsKeep, Ascend, device_of_plan, ChangeKeeps, UserKeeps}
+use Rattle.nm_refusals.specs.Kept.{StateKeeps, EditKeeps, DataKeeps, Ascend, device_of_plan, ChangeKeeps, UserKeeps}
 use Rattle.nm_refusals.proofs.Parts.{Listed, list_read}
+use Rattle.nm_refusals.proofs.Data.{rows_are}
 use Rattle.nm_refusals.proofs.Good.{IsGood, good, no_good, then_good, test_good, required_good, optional_good, list_good, each_good, some_good}
 
 -- ---- cells and edits
@@ -126,10 +139,10 @@ changes_small found (member name part rest) =
 
 tested_edit : (members : Members) (many all : Bool) → nat_lt node_limit (member_count members) ≡ many
     → OfResult EditKeeps (cond many (Err (plain kind.TooMany)) (cond all (Ok (record { changes = changes_after empty members })) (Err (plain kind.Content))))
-tested_edit members true all e = tt
-tested_edit members false false e = tt
-tested_edit members false true e =
-    omega (arith, changes_small empty members, len-empty nat_cmp (Option ℕ), ltb-false node_limit (member_count members) e)
+tested_edit found true all e = tt
+tested_edit found false false e = tt
+tested_edit found false true e =
+    omega (arith, changes_small empty found, len-empty nat_cmp (Option ℕ), ltb-false node_limit (member_count found) e)
 
 edit_small : (members : Option Members) → OfResult EditKeeps (flat_edit_of members)
 edit_small None = tt
@@ -148,41 +161,70 @@ told_good : {A : Type 0} (Q : A → Type 0) (r : Result A Cause) → OfResult Q 
 told_good Q (Ok x) q = good Q x q
 told_good Q (Err cause) q = no_good _
 
-flat_edit_good : (part : Data) → IsGood EditKeeps (read flat_edit part)
+pub flat_edit_good : (part : Data) → IsGood EditKeeps (read flat_edit part)
 flat_edit_good part = told_good EditKeeps (flat_edit_said part) (edit_kept part)
 
 -- ---- data
 
-tested_rows : (all rows : Rows) (b : Bool) → nat_lt row_limit (len all) ≡ b → cond b (Err TooManyRows) (Ok all) ≡ Ok rows → RowsKeep rows
+tested_rows : (all rows : Rows) (b : Bool) → nat_lt row_limit (len all) ≡ b → cond b (Err TooManyRows) (Ok all) ≡ Ok rows → len rows ≤ row_limit
 tested_rows all rows true t e = cc
-tested_rows all rows false t e = let same : all ≡ rows = cc in subst RowsKeep same (ltb-false row_limit (len all) t)
+tested_rows all rows false t e = let same : all ≡ rows = cc in subst (λ r. len r ≤ row_limit) same (ltb-false row_limit (len all) t)
 
-answered_rows : (tree : SchemaTree) (least : Option JsonPlace) (all rows : Rows) → answered tree least all ≡ Ok rows → RowsKeep rows
+answered_rows : (tree : SchemaTree) (least : Option JsonPlace) (all rows : Rows) → answered tree least all ≡ Ok rows → len rows ≤ row_limit
 answered_rows tree (Some fault) all rows e = cc
 answered_rows tree None all rows e = tested_rows all rows (nat_lt row_limit (len all)) refl e
 
-rows_good : (r : Result Rows JsonFault) → ((rows : Rows) → r ≡ Ok rows → RowsKeep rows) → IsGood RowsKeep (rows_from r)
-rows_good (Ok rows) k = good RowsKeep rows (k rows refl)
-rows_good (Err (Bad k path)) h = no_good _
-rows_good (Err TooManyRows) h = no_good _
-rows_good (Err NotJson) h = no_good _
-rows_good (Err NoMemory) h = no_good _
+read_few : (tree : SchemaTree) (part : Data) (rows : Rows) → config_read tree part ≡ Ok rows → len rows ≤ row_limit
+read_few tree part rows e = answered_rows tree (least_of (faults_found empty (whole_found tree part))) (rows_of empty (whole_found tree part)) rows e
 
-data_good : (tree : SchemaTree) (part : Data) → IsGood RowsKeep (data_at tree part)
+checked_good : (tree : SchemaTree) (rows : Rows) → StandsIn tree rows → len rows ≤ row_limit → (marked : Bool) → holds_marks rows ≡ marked → (violation : Option Refusal) → violation_told tree rows ≡ violation
+    → IsGood (DataKeeps tree) (valid_rows rows marked violation)
+checked_good tree rows stands few true m violation is = no_good _
+checked_good tree rows stands few false m None is = good (DataKeeps tree) rows (record { stands = stands; rows_few = few; unmarked = m; valid = is })
+checked_good tree rows stands few false m (Some refusal) is = no_good _
+
+data_good : (tree : SchemaTree) → HaveHeldBounds tree.nodes → (part : Data) → IsGood (DataKeeps tree) (data_at tree part)
 unfolding data_at
-data_good tree part =
-    rows_good (config_read tree part) (λ rows e. answered_rows tree (least_of (faults_found empty (whole_found tree part))) (rows_of empty (whole_found tree part)) rows e)
+data_good tree bounds part =
+    then_good (rows_from (config_read tree part)) _
+    (λ rows e. let is : config_read tree part ≡ Ok rows = rows_are (config_read tree part) rows e in
+    checked_good tree rows (config_stands tree rows (config_law tree part rows bounds is)) (read_few tree part rows is) (holds_marks rows) refl (violation_told tree rows) refl)
 
-yang_device_good : (tree : SchemaTree) (before : List Rows) (part : Data) → IsGood RowsKeep (yang_device_at tree before part)
+yang_device_good : (tree : SchemaTree) → HaveHeldBounds tree.nodes → (before : List Rows) (part : Data) → IsGood (DataKeeps tree) (yang_device_at tree before part)
 unfolding yang_device_at
-yang_device_good tree before part =
+yang_device_good tree bounds before part =
     then_good (object_at part) _
     (λ u o. then_good (required (codes "running") (data_at tree) part) _
-    (λ x e. then_good (only_known knows_device part) _ (λ k f. good RowsKeep x (let g : IsGood RowsKeep (required (codes "running") (data_at tree) part) = required_good (codes "running") (data_at tree) part (data_good tree) in g.so x e))))
+    (λ x e. then_good (only_known knows_device part) _
+    (λ k f. good (DataKeeps tree) x
+    (let g : IsGood (DataKeeps tree) (required (codes "running") (data_at tree) part) = required_good (codes "running") (data_at tree) part (data_good tree bounds) in g.so x e))))
 
-pub yang_devices_good : (tree : SchemaTree) (part : Data) → IsGood (DevicesKeep RowsKeep) (yang_devices_at tree part)
+pub yang_devices_good : (tree : SchemaTree) → HaveHeldBounds tree.nodes → (part : Data) → IsGood (DevicesKeep (DataKeeps tree)) (yang_devices_at tree part)
 unfolding yang_devices_at
-yang_devices_good tree part = then_good (list_at device_limit (yang_device_at tree) part) some_of (λ xs e. listed_good RowsKeep (yang_device_at tree) (yang_device_good tree) part xs e)
+yang_devices_good tree bounds part =
+    then_good (list_at device_limit (yang_device_at tree) part) some_of (λ xs e. listed_good (DataKeeps tree) (yang_device_at tree) (yang_device_good tree bounds) part xs e)
+
+-- an edit of data stands in its tree, and isn't too large
+pub record DataEditKeeps (tree : SchemaTree) (nodes : List EditNode) : Type 0 where
+  pub is_edit : IsEditOf tree nodes
+  pub few : length nodes ≤ node_limit
+
+read_edit_kept : (tree : SchemaTree) (part : Data) (r : Result (List EditNode) Refusal) → edit_read tree part ≡ r → OfResult (DataEditKeeps tree) (edit_from r)
+read_edit_kept tree part (Err refusal) e = tt
+read_edit_kept tree part (Ok nodes) e =
+    let h : HasNodes tree part nodes = (nodes_law tree part nodes).0 e in
+    record { is_edit = given_law (Ok nodes) tree part e; few = h.within }
+
+data_edit_kept : (tree : SchemaTree) (part : Data) → OfResult (DataEditKeeps tree) (data_edit_said tree part)
+unfolding data_edit_said
+data_edit_kept tree part = read_edit_kept tree part (edit_read tree part) refl
+
+pub data_edits_hold : (tree : SchemaTree) → Holds (data_edit tree) (DataEditKeeps tree)
+unfolding Holds
+data_edits_hold tree = data_edit_kept tree
+
+pub data_edit_good : (tree : SchemaTree) (part : Data) → IsGood (DataEditKeeps tree) (read (data_edit tree) part)
+data_edit_good tree part = told_good (DataEditKeeps tree) (data_edit_said tree part) (data_edit_kept tree part)
 
 -- ---- change sets
 
@@ -200,127 +242,131 @@ device_within_good low count part =
     let g : IsGood (IsWithin low (min count device_limit)) (in_range low (min count device_limit) (natural_of part)) = range_good low (min count device_limit) (natural_of part) in
     record { so = λ d e. let is : IsWithin low (min count device_limit) d = g.so d e in (is.0, omega (arith, is.1)) }
 
--- an edit after others
-pub record EntryKeeps (count last : ℕ) (entry : ReadEdit) : Type 0 where
-  pub device : IsWithin (last + 1) count entry.device
-  pub edit : EditKeeps entry.edit
+-- edits that are written so and can be read are so
+abbrev pub AreGood : {E : Type 0} → Form E → (E → Type 0) → Type 0
+AreGood form P = (part : Data) → IsGood P (read form part)
 
-entry_good : (devices : ℕ) (before : List ReadEdit) (part : Data) → IsGood (EntryKeeps devices (last_device before)) (entry_at devices before part)
+-- an edit after others
+pub record EntryKeeps {E : Type 0} (P : E → Type 0) (count last : ℕ) (entry : ReadEdit E) : Type 0 where
+  pub device : IsWithin (last + 1) count entry.device
+  pub edit : P entry.edit
+
+entry_good : {E : Type 0} (form : Form E) (P : E → Type 0) → AreGood form P → (devices : ℕ) (before : List (ReadEdit E)) (part : Data) → IsGood (EntryKeeps P devices (last_device before)) (entry_at form devices before part)
 unfolding entry_at
-entry_good devices before part =
+entry_good form P good_edit devices before part =
     then_good (object_at part) _
     (λ u o. then_good (required (codes "device") (device_within (last_device before + 1) devices) part) _
     (λ d e. then_good (optional (codes "default") Merge (read operation) part) _
-    (λ default f. then_good (required (codes "edit") (read flat_edit) part) _
+    (λ default f. then_good (required (codes "edit") (read form) part) _
     (λ x g. then_good (only_known knows_edit part) _
     (λ k h. let in_device : IsGood (IsWithin (last_device before + 1) devices) (required (codes "device") (device_within (last_device before + 1) devices) part) =
     required_good (codes "device") (device_within (last_device before + 1) devices) part (device_within_good (last_device before + 1) devices) in
-    let in_edit : IsGood EditKeeps (required (codes "edit") (read flat_edit) part) = required_good (codes "edit") (read flat_edit) part flat_edit_good in
-    good (EntryKeeps devices (last_device before)) _ (record { device = in_device.so d e; edit = in_edit.so x g }))))))
+    let in_edit : IsGood P (required (codes "edit") (read form) part) = required_good (codes "edit") (read form) part good_edit in
+    good (EntryKeeps P devices (last_device before)) _ (record { device = in_device.so d e; edit = in_edit.so x g }))))))
 
-abbrev device_in : ReadEdit → ℕ
+abbrev device_in : {E : Type 0} → ReadEdit E → ℕ
 device_in entry = entry.device
 
 -- the device of the last edit, behind another
-abbrev last_from : ℕ → List ReadEdit → ℕ
+abbrev last_from : {E : Type 0} → ℕ → List (ReadEdit E) → ℕ
 last_from last [] = last
 last_from last (e ∷ es) = last_from e.device es
 
-last_after : (last : ℕ) (first : ReadEdit) (es : List ReadEdit) → last_from last (first ∷ es) ≡ device_of (slice_get (first ∷ es) (length es))
+last_after : {E : Type 0} (last : ℕ) (first : ReadEdit E) (es : List (ReadEdit E)) → last_from last (first ∷ es) ≡ device_of (slice_get (first ∷ es) (length es))
 last_after last first [] = refl
 last_after last first (e ∷ es) = last_after first.device e es
 
-last_is : (es : List ReadEdit) → last_from 0 es ≡ last_device es
+last_is : {E : Type 0} (es : List (ReadEdit E)) → last_from 0 es ≡ last_device es
 last_is [] = refl
 last_is (e ∷ es) = last_after 0 e es ∙ ap (λ n. device_of (slice_get (e ∷ es) n)) (let same : length es ≡ length (e ∷ es) - 1 = omega arith in same)
 
-ascend_pushed : (last high : ℕ) (es : List ReadEdit) (x : ReadEdit) → Ascend last high (map device_in es) → IsWithin (last_from last es + 1) high x.device → Ascend last high (map device_in (es ++ x ∷ []))
+ascend_pushed : {E : Type 0} (last high : ℕ) (es : List (ReadEdit E)) (x : ReadEdit E) → Ascend last high (map device_in es) → IsWithin (last_from last es + 1) high x.device → Ascend last high (map device_in (es ++ x ∷ []))
 ascend_pushed last high [] x a is = (omega (arith, is.0), is.1, tt)
 ascend_pushed last high (e ∷ es) x a is = (a.0, a.1, ascend_pushed e.device high es x a.2 is)
 
-abbrev edit_in : ReadEdit → Type 0
-edit_in entry = EditKeeps entry.edit
+abbrev edit_in : {E : Type 0} → (E → Type 0) → ReadEdit E → Type 0
+edit_in P entry = P entry.edit
 
 -- edits that were read so far
-pub record EntriesKeep (count : ℕ) (es : List ReadEdit) : Type 0 where
+pub record EntriesKeep {E : Type 0} (P : E → Type 0) (count : ℕ) (es : List (ReadEdit E)) : Type 0 where
   pub ascending : Ascend 0 count (map device_in es)
-  pub edits : All edit_in es
+  pub edits : All (edit_in P) es
 
-entries_more : (devices : ℕ) (before : List ReadEdit) (part : Data) (x : ReadEdit) → EntriesKeep devices before → entry_at devices before part ≡ Ok x → EntriesKeep devices (before ++ x ∷ [])
-entries_more devices before part x k e =
-    let g : IsGood (EntryKeeps devices (last_device before)) (entry_at devices before part) = entry_good devices before part in
-    let is : EntryKeeps devices (last_device before) x = g.so x e in
+entries_more : {E : Type 0} (form : Form E) (P : E → Type 0) → AreGood form P → (devices : ℕ) (before : List (ReadEdit E)) (part : Data) (x : ReadEdit E) → EntriesKeep P devices before → entry_at form devices before part ≡ Ok x → EntriesKeep P devices (before ++ x ∷ [])
+entries_more form P good_edit devices before part x k e =
+    let g : IsGood (EntryKeeps P devices (last_device before)) (entry_at form devices before part) = entry_good form P good_edit devices before part in
+    let is : EntryKeeps P devices (last_device before) x = g.so x e in
     record {
       ascending = ascend_pushed 0 devices before x k.ascending (subst (λ n. IsWithin (n + 1) devices x.device) (sym (last_is before)) is.device);
-      edits = All-append edit_in before (x ∷ []) k.edits (All-cons edit_in x [] is.edit (All-nil edit_in));
+      edits = All-append (edit_in P) before (x ∷ []) k.edits (All-cons (edit_in P) x [] is.edit (All-nil (edit_in P)));
     }
 
-entries_good : (devices : ℕ) (part : Data) → IsGood (λ es. EntriesKeep devices es × (1 ≤ length es)) (entries_at devices part)
+entries_good : {E : Type 0} (form : Form E) (P : E → Type 0) → AreGood form P → (devices : ℕ) (part : Data) → IsGood (λ es. EntriesKeep P devices es × (1 ≤ length es)) (entries_at form devices part)
 unfolding entries_at
-entries_good devices part =
-    then_good (list_at (2 ^ 64 - 1) (entry_at devices) part) some_of
-    (λ xs e. let g : IsGood (EntriesKeep devices) (list_at (2 ^ 64 - 1) (entry_at devices) part) =
-    list_good (EntriesKeep devices) (2 ^ 64 - 1) (entry_at devices) (λ before child x k f. entries_more devices before child x k f) (record { ascending = tt; edits = All-nil edit_in }) part in
-    some_good (EntriesKeep devices) xs (g.so xs e))
+entries_good form P good_edit devices part =
+    then_good (list_at (2 ^ 64 - 1) (entry_at form devices) part) some_of
+    (λ xs e. let g : IsGood (EntriesKeep P devices) (list_at (2 ^ 64 - 1) (entry_at form devices) part) =
+    list_good (EntriesKeep P devices) (2 ^ 64 - 1) (entry_at form devices) (λ before child x k f. entries_more form P good_edit devices before child x k f) (record { ascending = tt; edits = All-nil (edit_in P) }) part in
+    some_good (EntriesKeep P devices) xs (g.so xs e))
 
 -- a change set that was read, in a scenario of so many devices
-pub record ReadKeeps (count : ℕ) (change : ReadChange) : Type 0 where
+pub record ReadKeeps {E : Type 0} (P : E → Type 0) (count : ℕ) (change : ReadChange E) : Type 0 where
   pub timeout : IsWithin 1 (2 ^ 32 - 1) change.timeout
-  pub entries : EntriesKeep count change.edits
+  pub entries : EntriesKeep P count change.edits
   pub some : 1 ≤ length change.edits
 
-change_good : (devices : ℕ) (before : List ReadChange) (part : Data) → IsGood (ReadKeeps devices) (change_at devices before part)
+change_good : {E : Type 0} (form : Form E) (P : E → Type 0) → AreGood form P → (devices : ℕ) (before : List (ReadChange E)) (part : Data) → IsGood (ReadKeeps P devices) (change_at form devices before part)
 unfolding change_at
-change_good devices before part =
+change_good form P good_edit devices before part =
     then_good (object_at part) _
     (λ u o. then_good (optional (codes "timeout") default_timeout (number_within 1 (2 ^ 32 - 1)) part) _
-    (λ timeout e. then_good (required (codes "edits") (entries_at devices) part) _
+    (λ timeout e. then_good (required (codes "edits") (entries_at form devices) part) _
     (λ edits f. then_good (only_known knows_change part) _
     (λ k g. let in_timeout : IsGood (IsWithin 1 (2 ^ 32 - 1)) (optional (codes "timeout") default_timeout (number_within 1 (2 ^ 32 - 1)) part) =
     optional_good (codes "timeout") default_timeout (number_within 1 (2 ^ 32 - 1)) part (omega arith, omega arith) timeout_good in
-    let in_edits : IsGood (λ es. EntriesKeep devices es × (1 ≤ length es)) (required (codes "edits") (entries_at devices) part) = required_good (codes "edits") (entries_at devices) part (entries_good devices) in
-    let is : EntriesKeep devices edits × (1 ≤ length edits) = in_edits.so edits f in
-    good (ReadKeeps devices) (record { timeout = timeout; edits = edits }) (record { timeout = in_timeout.so timeout e; entries = is.0; some = is.1 })))))
+    let in_edits : IsGood (λ es. EntriesKeep P devices es × (1 ≤ length es)) (required (codes "edits") (entries_at form devices) part) = required_good (codes "edits") (entries_at form devices) part (entries_good form P good_edit devices) in
+    let is : EntriesKeep P devices edits × (1 ≤ length edits) = in_edits.so edits f in
+    good (ReadKeeps P devices) (record { timeout = timeout; edits = edits }) (record { timeout = in_timeout.so timeout e; entries = is.0; some = is.1 })))))
 
-pub changes_read_good : (devices : ℕ) (part : Data) → IsGood (λ cs. All (ReadKeeps devices) cs × (length cs ≤ change_limit)) (changes_read_at devices part)
+pub changes_read_good : {E : Type 0} (form : Form E) (P : E → Type 0) → AreGood form P → (devices : ℕ) (part : Data) → IsGood (λ cs. All (ReadKeeps P devices) cs × (length cs ≤ change_limit)) (changes_read_at form devices part)
 unfolding changes_read_at
-changes_read_good devices part =
-    let g : IsGood (All (ReadKeeps devices)) (list_at change_limit (change_at devices) part) = each_good (ReadKeeps devices) change_limit (change_at devices) (change_good devices) part in
-    record { so = λ cs e. (g.so cs e, let l : Listed part change_limit cs = list_read part change_limit (change_at devices) cs e in l.within) }
+changes_read_good form P good_edit devices part =
+    let g : IsGood (All (ReadKeeps P devices)) (list_at change_limit (change_at form devices) part) = each_good (ReadKeeps P devices) change_limit (change_at form devices) (change_good form P good_edit devices) part in
+    record { so = λ cs e. (g.so cs e, let l : Listed part change_limit cs = list_read part change_limit (change_at form devices) cs e in l.within) }
 
 -- ---- the plans of change sets, and their edits
 
-planned_devices : (n : ℕ) (es : List ReadEdit) → map device_of_plan (planned_from n es) ≡ map device_in es
+planned_devices : {E : Type 0} (n : ℕ) (es : List (ReadEdit E)) → map device_of_plan (planned_from n es) ≡ map device_in es
 planned_devices n [] = refl
 planned_devices n (e ∷ es) = ap (λ ds. e.device ∷ ds) (planned_devices (n + 1) es)
 
-planned_length : (n : ℕ) (es : List ReadEdit) → length (planned_from n es) ≡ length es
+planned_length : {E : Type 0} (n : ℕ) (es : List (ReadEdit E)) → length (planned_from n es) ≡ length es
 planned_length n [] = refl
 planned_length n (e ∷ es) = omega (arith, planned_length (n + 1) es)
 
-pub plans_keep : (count n : ℕ) (cs : List ReadChange) → All (ReadKeeps count) cs → All (ChangeKeeps count) (plans_from n cs)
-plans_keep count n [] k = All-nil (ChangeKeeps count)
-plans_keep count n (c ∷ cs) k =
-    let is : ReadKeeps count c = All-head (ReadKeeps count) c cs k in
-    let entries : EntriesKeep count c.edits = is.entries in
+pub plans_keep : {E : Type 0} (P : E → Type 0) (count n : ℕ) (cs : List (ReadChange E)) → All (ReadKeeps P count) cs → All (ChangeKeeps count) (plans_from n cs)
+plans_keep P count n [] k = All-nil (ChangeKeeps count)
+plans_keep P count n (c ∷ cs) k =
+    let is : ReadKeeps P count c = All-head (ReadKeeps P count) c cs k in
+    let entries : EntriesKeep P count c.edits = is.entries in
     All-cons (ChangeKeeps count) _ (plans_from (n + length c.edits) cs)
     (record { timeout = is.timeout; edits = omega (arith, is.some, planned_length n c.edits); ascending = subst (Ascend 0 count) (sym (planned_devices n c.edits)) entries.ascending })
-    (plans_keep count (n + length c.edits) cs (All-tail (ReadKeeps count) c cs k))
+    (plans_keep P count (n + length c.edits) cs (All-tail (ReadKeeps P count) c cs k))
 
-pub plans_length : (n : ℕ) (cs : List ReadChange) → length (plans_from n cs) ≡ length cs
+pub plans_length : {E : Type 0} (n : ℕ) (cs : List (ReadChange E)) → length (plans_from n cs) ≡ length cs
 plans_length n [] = refl
 plans_length n (c ∷ cs) = omega (arith, plans_length (n + length c.edits) cs)
 
-mapped : (es : List ReadEdit) → All edit_in es → All EditKeeps (map (λ e. e.edit) es)
-mapped [] k = All-nil EditKeeps
-mapped (e ∷ es) k = All-cons EditKeeps e.edit _ (All-head edit_in e es k) (mapped es (All-tail edit_in e es k))
+mapped : {E : Type 0} (P : E → Type 0) (es : List (ReadEdit E)) → All (edit_in P) es → All P (map (λ e. e.edit) es)
+mapped P [] k = All-nil P
+mapped P (e ∷ es) k = All-cons P e.edit _ (All-head (edit_in P) e es k) (mapped P es (All-tail (edit_in P) e es k))
 
-pub edits_keep : (count : ℕ) (cs : List ReadChange) → All (ReadKeeps count) cs → All EditKeeps (edits_of cs)
-edits_keep count [] k = All-nil EditKeeps
-edits_keep count (c ∷ cs) k =
-    let is : ReadKeeps count c = All-head (ReadKeeps count) c cs k in
-    let entries : EntriesKeep count c.edits = is.entries in
-    All-append EditKeeps (map (λ e. e.edit) c.edits) (edits_of cs) (mapped c.edits entries.edits) (edits_keep count cs (All-tail (ReadKeeps count) c cs k))
+pub edits_keep : {E : Type 0} (P : E → Type 0) (count : ℕ) (cs : List (ReadChange E)) → All (ReadKeeps P count) cs → All P (edits_of cs)
+edits_keep P count [] k = All-nil P
+edits_keep P count (c ∷ cs) k =
+    let is : ReadKeeps P count c = All-head (ReadKeeps P count) c cs k in
+    let entries : EntriesKeep P count c.edits = is.entries in
+    All-append P (map (λ e. e.edit) c.edits) (edits_of cs) (mapped P c.edits entries.edits) (edits_keep P count cs (All-tail (ReadKeeps P count) c cs k))
 
 -- ---- operators
 

@@ -1,49 +1,55 @@
 -- What holds of whole scenarios that are read.
-use Rattle.std.proofs.Common.{◌≡◌, ℕ, ◌≤◌, List, [], length, false, Result, Ok, Err, codes, refl, ap, sym, subst, ◌∙◌, arith}
+use Rattle.std.proofs.Common.{◌≡◌, ℕ, ◌≤◌, List, [], ◌∷◌, ◌++◌, length, false, Result, Ok, Err, codes, refl, ap, sym, subst, ◌∙◌, arith}
 use Rattle.std.specs.List.{All}
-use Rattle.std.proofs.lemmas.List.Elements.{All-nil, All-append}
+use Rattle.std.proofs.lemmas.List.Elements.{All-nil, All-cons, All-append, All-head, All-tail}
 use Rattle.std.proofs.lemmas.List.{length-map}
 use Rattle.serde_json.specs.Data.{Data}
-use Rattle.serde_json.specs.Find.{get}
-use Rattle.nm_proto.specs.declared.flat.FlatEdit.{FlatEdit}
-use Rattle.nm_proto.specs.Flat.{FlatState}
 use Rattle.nm_tree.specs.Nodes.{SchemaTree}
-use Rattle.nm_config.specs.Rows.{Rows}
+use Rattle.nm_path.specs.Sound.{IsSound}
+use Rattle.nm_schema.specs.Built.{Builds}
+use Rattle.nm_schema.proofs.Sound.{modules_sound}
+use Rattle.nm_schema.proofs.Marked.{modules_marked}
+use Rattle.nm_edit.specs.declared.edit.EditNode.{EditNode}
+use Rattle.nm_edit.specs.EditOf.{IsEditOf}
 use Rattle.nm_flaws.specs.declared.fault.Fault.{Fault as SchemaFault}
 use Rattle.nm_flaws.specs.declared.fault.Fault.TheVariants.{Flawed, TooLarge}
 use Rattle.nm_proto.specs.declared.kind.ScenarioKind.TheVariants as kind
 use Rattle.nm_reading.specs.declared.fault.Fault.{Fault}
 use Rattle.nm_reading.specs.Reading.{here, required, optional, object_at, number_within, only_known, empty_list_at, switch_at}
-use Rattle.nm_events.specs.Limits.{change_limit, operator_limit}
-use Rattle.nm_form.specs.Form.{Form as PartForm, not_built}
+use Rattle.nm_events.specs.Limits.{device_limit, change_limit, operator_limit}
+use Rattle.nm_form.specs.Form.{Form as PartForm}
 use Rattle.nm_form.specs.Read.{read}
 use Rattle.nm_form.specs.Kept.{Holds}
-use Rattle.nm_form.proofs.Keeping.{always}
 use Rattle.nm_events.specs.declared.arguments.Counts.{Counts}
 use Rattle.nm_events.specs.Events.{events_form}
-use Rattle.nm_events.specs.Kept.{EventKeeps, EventsKeep}
+use Rattle.nm_events.specs.Kept.{IsWithin, EventKeeps, EventsKeep}
 use Rattle.nm_events.specs.Numbered.{events_from, edits_of_events}
 use Rattle.nm_scenario.specs.declared.head.Head.{Head}
 use Rattle.nm_scenario.specs.declared.head.Head.TheVariants as head
 use Rattle.nm_scenario.specs.declared.head.Form.{Form}
 use Rattle.nm_scenario.specs.declared.head.Form.TheVariants as form
 use Rattle.nm_scenario.specs.declared.rest.Rest.{Rest}
+use Rattle.nm_scenario.specs.declared.head.ReadModule.{ReadModule}
+use Rattle.nm_scenario.specs.declared.scenario.Body.{Body}
+use Rattle.nm_scenario.specs.declared.scenario.Body.TheVariants.{Flat, Yang}
 use Rattle.nm_scenario.specs.declared.scenario.Scenario.{Scenario}
 use Rattle.nm_scenario.specs.declared.scenario.ReadChange.{ReadChange}
-use Rattle.nm_scenario.specs.Head.{module_limit, module_at, modules_at, texts_of, yang_head_at, head_in, head_at, form_at, flat_head_at}
-use Rattle.nm_scenario.specs.Flat.{flat_edit}
-use Rattle.nm_scenario.specs.Devices.{devices_at, yang_devices_at}
+use Rattle.nm_scenario.specs.Head.{module_limit, module_at, modules_at, texts_of, statements_of, yang_head_at, head_in, head_at, form_at}
+use Rattle.nm_scenario.specs.Flat.{node_limit, flat_edit}
+use Rattle.nm_scenario.specs.Devices.{devices_at}
+use Rattle.nm_scenario.specs.Yang.{data_edit, yang_devices_at}
 use Rattle.nm_scenario.specs.Changes.{changes_read_at, edits_of}
 use Rattle.nm_scenario.specs.Operators.{operators_at}
 use Rattle.nm_scenario.specs.Counts.{count_in, counts_of}
-use Rattle.nm_scenario.specs.Scenario.{knows_scenario, rest_at, flat_scenario, flat_scenario_at, yang_scenario, yang_rest_at, yang_scenario_at, ReadsFrom, Reads, flat_whole_at, whole_of, ReadsWhole, ReadsBytes, flat_scenario_of}
-use Rattle.nm_refusals.specs.Kept.{StateKeeps, EditKeeps, RowsKeep, ChangeKeeps, UserKeeps, ScenarioKeeps, counts_in}
+use Rattle.nm_scenario.specs.Numbered.{numbered}
+use Rattle.nm_scenario.specs.Scenario.{knows_scenario, rest_at, changes_in, scenario_of, flat_scenario_at, yang_rest_at, yang_scenario_at, ReadsFrom, Reads, whole_of, ReadsWhole, ReadsBytes}
+use Rattle.nm_refusals.specs.Kept.{StateKeeps, EditKeeps, DataKeeps, IsGiven, BodyKeeps, devices_in, UserKeeps, ScenarioKeeps, counts_in}
 use Rattle.nm_refusals.proofs.Parts.{Listed, list_read}
 use Rattle.nm_refusals.proofs.Good.{IsGood, good, no_good, then_good, required_good, optional_good}
-use Rattle.nm_refusals.proofs.KeptParts.{ReadKeeps, DevicesKeep, devices_good, yang_devices_good, changes_read_good, plans_keep, plans_length, edits_keep, operators_good, flat_edits_hold}
+use Rattle.nm_refusals.proofs.KeptParts.{AreGood, ReadKeeps, DevicesKeep, devices_good, yang_devices_good, changes_read_good, plans_keep, plans_length, edits_keep, operators_good, flat_edit_good, flat_edits_hold, DataEditKeeps, data_edit_good, data_edits_hold}
 use Rattle.nm_refusals.proofs.KeptEvents.{EventsAre, no_events, events_good, numbered_all, numbered_own, numbered_total}
 use Rattle.nm_refusals.proofs.Rests.{operators_read, count_required, count_optional}
-use Rattle.nm_refusals.proofs.Wholes.{devices_count, changes_count, yang_devices_count, no_items}
+use Rattle.nm_refusals.proofs.Wholes.{devices_count, changes_count, yang_devices_count}
 
 -- the members after the change sets
 pub record RestKeeps {E : Type 0} (Q : E → Type 0) (c : Counts) (rest : Rest E) : Type 0 where
@@ -77,88 +83,115 @@ counts a b d = record { changes = a; devices = b; operators = d }
 counts_are : (a b d x y z : ℕ) → a ≡ x → b ≡ y → d ≡ z → counts a b d ≡ counts x y z
 counts_are a b d x y z e f g = ap (λ n. counts n b d) e ∙ (ap (λ n. counts x n d) f ∙ ap (λ n. counts x y n) g)
 
--- ---- flat contents
+-- ---- what both contents have
 
-flat_keeps : (c : Counts) (states : List FlatState) (changes : List ReadChange) (rest : Rest FlatEdit) → c ≡ counts_in (flat_scenario states changes rest)
-    → DevicesKeep StateKeeps states → All (ReadKeeps (length states)) changes → length changes ≤ change_limit → RestKeeps EditKeeps c rest
-    → ScenarioKeeps (flat_scenario states changes rest)
-flat_keeps c states changes rest are d k few r =
-    let events : EventsAre EditKeeps c rest.events = r.events in
-    let kept : EventsKeep c rest.events = events.keeps in
+-- the change sets
+pub record ChangesKeep {E : Type 0} (Q : E → Type 0) (whole : Data) (changes : List (ReadChange E)) : Type 0 where
+  pub all : All (ReadKeeps Q (count_in (codes "devices") whole)) changes
+  pub few : length changes ≤ change_limit
+  pub count : length changes ≡ count_in (codes "changes") whole
+
+changes_good : {E : Type 0} (edit : PartForm E) (Q : E → Type 0) → AreGood edit Q → (whole : Data) → IsGood (ChangesKeep Q whole) (changes_in edit whole)
+changes_good edit Q good_edit whole =
+    let g : IsGood (λ cs. All (ReadKeeps Q (count_in (codes "devices") whole)) cs × (length cs ≤ change_limit)) (changes_in edit whole) =
+    optional_good (codes "changes") [] (changes_read_at edit (count_in (codes "devices") whole)) whole (All-nil (ReadKeeps Q (count_in (codes "devices") whole)), omega arith) (changes_read_good edit Q good_edit (count_in (codes "devices") whole)) in
     record {
-      body = (d.all, All-append EditKeeps (edits_of changes) (edits_of_events rest.events) (edits_keep (length states) changes k) events.edits);
-      devices = d.count;
-      change_sets = omega (arith, few, plans_length 0 changes);
-      changes = plans_keep (length states) 0 changes k;
+      so = λ cs e. let is : All (ReadKeeps Q (count_in (codes "devices") whole)) cs × (length cs ≤ change_limit) = g.so cs e in
+          record { all = is.0; few = is.1; count = count_optional (codes "changes") (changes_read_at edit (count_in (codes "devices") whole)) whole cs (changes_count edit (count_in (codes "devices") whole)) e };
+    }
+
+-- all edits, those of change sets and of events
+all_edits : {E : Type 0} (Q : E → Type 0) (whole : Data) (changes : List (ReadChange E)) (rest : Rest E) → ChangesKeep Q whole changes → RestKeeps Q (counts_of whole) rest
+    → All Q (edits_of changes ++ edits_of_events rest.events)
+all_edits Q whole changes rest k r =
+    let events : EventsAre Q (counts_of whole) rest.events = r.events in
+    All-append Q (edits_of changes) (edits_of_events rest.events) (edits_keep Q (count_in (codes "devices") whole) changes k.all) events.edits
+
+-- a scenario of contents that keep what they have to
+scenario_keeps : {E : Type 0} (Q : E → Type 0) (body : List E → Body) (whole : Data) (changes : List (ReadChange E)) (rest : Rest E) → ChangesKeep Q whole changes → RestKeeps Q (counts_of whole) rest
+    → BodyKeeps (body (edits_of changes ++ edits_of_events rest.events)) → devices_in (body (edits_of changes ++ edits_of_events rest.events)) ≡ count_in (codes "devices") whole
+    → IsWithin 1 device_limit (devices_in (body (edits_of changes ++ edits_of_events rest.events))) → ScenarioKeeps (scenario_of body (numbered changes rest))
+scenario_keeps Q body whole changes rest k r kept_body are within =
+    let events : EventsAre Q (counts_of whole) rest.events = r.events in
+    let kept : EventsKeep (counts_of whole) rest.events = events.keeps in
+    let same : counts_of whole ≡ counts_in (scenario_of body (numbered changes rest)) =
+    counts_are _ _ _ _ _ _ (sym (plans_length 0 changes ∙ k.count)) (sym are) (sym r.operators_are) in
+    record {
+      body = kept_body;
+      devices = within;
+      change_sets = omega (arith, k.few, plans_length 0 changes);
+      changes = plans_keep Q (devices_in (body (edits_of changes ++ edits_of_events rest.events))) 0 changes (subst (λ n. All (ReadKeeps Q n) changes) (sym are) k.all);
       operator_count = r.count;
       operators = r.operators;
       event_count = omega (arith, kept.weigh, numbered_total rest.operators (length (edits_of changes)) 0 rest.events);
-      events = subst (λ n. All (EventKeeps n) (events_from rest.operators (length (edits_of changes)) 0 rest.events)) are
-          (numbered_all c rest.operators (length (edits_of changes)) 0 rest.events kept.keep);
-      openings = numbered_own c rest.operators (length (edits_of changes)) 0 rest.events r.operators_are kept.keep;
+      events = subst (λ n. All (EventKeeps n) (events_from rest.operators (length (edits_of changes)) 0 rest.events)) same
+          (numbered_all (counts_of whole) rest.operators (length (edits_of changes)) 0 rest.events kept.keep);
+      openings = numbered_own (counts_of whole) rest.operators (length (edits_of changes)) 0 rest.events r.operators_are kept.keep;
     }
+
+-- ---- flat contents
 
 flat_good : (whole : Data) → IsGood ScenarioKeeps (flat_scenario_at whole)
 unfolding flat_scenario_at
 flat_good whole =
     then_good (optional (codes "modules") tt (empty_list_at (here kind.BadValue)) whole) _
     (λ modules e. then_good (required (codes "devices") devices_at whole) _
-    (λ states f. then_good (optional (codes "changes") [] (changes_read_at (count_in (codes "devices") whole)) whole) _
+    (λ states f. then_good (changes_in flat_edit whole) _
     (λ changes g. then_good (rest_at flat_edit whole) _
     (λ rest h. let in_states : IsGood (DevicesKeep StateKeeps) (required (codes "devices") devices_at whole) = required_good (codes "devices") devices_at whole devices_good in
-    let there : length states ≡ count_in (codes "devices") whole = count_required (codes "devices") devices_at whole states devices_count f in
-    let in_changes : IsGood (λ cs. All (ReadKeeps (count_in (codes "devices") whole)) cs × (length cs ≤ change_limit)) (optional (codes "changes") [] (changes_read_at (count_in (codes "devices") whole)) whole) =
-    optional_good (codes "changes") [] (changes_read_at (count_in (codes "devices") whole)) whole (All-nil (ReadKeeps (count_in (codes "devices") whole)), omega arith) (changes_read_good (count_in (codes "devices") whole)) in
+    let in_changes : IsGood (ChangesKeep EditKeeps whole) (changes_in flat_edit whole) = changes_good flat_edit EditKeeps flat_edit_good whole in
     let in_rest : IsGood (RestKeeps EditKeeps (counts_of whole)) (rest_at flat_edit whole) = rest_good flat_edit EditKeeps flat_edits_hold whole in
-    let is : All (ReadKeeps (count_in (codes "devices") whole)) changes × (length changes ≤ change_limit) = in_changes.so changes g in
+    let d : DevicesKeep StateKeeps states = in_states.so states f in
+    let k : ChangesKeep EditKeeps whole changes = in_changes.so changes g in
     let r : RestKeeps EditKeeps (counts_of whole) rest = in_rest.so rest h in
-    let are : counts_of whole ≡ counts_in (flat_scenario states changes rest) = counts_are _ _ _ _ _ _
-    (sym (plans_length 0 changes ∙ count_optional (codes "changes") (changes_read_at (count_in (codes "devices") whole)) whole changes (changes_count (count_in (codes "devices") whole)) g))
-    (sym there) (sym r.operators_are) in
-    good ScenarioKeeps (flat_scenario states changes rest)
-    (flat_keeps (counts_of whole) states changes rest are (in_states.so states f) (subst (λ n. All (ReadKeeps n) changes) (sym there) is.0) is.1 r)))))
+    good ScenarioKeeps (scenario_of (Flat states) (numbered changes rest))
+    (scenario_keeps EditKeeps (Flat states) whole changes rest k r (d.all, all_edits EditKeeps whole changes rest k r)
+    (count_required (codes "devices") devices_at whole states devices_count f) d.count)))))
 
 -- ---- YANG contents
 
-abbrev AnyEdit : Unit {0} → Type 0
-AnyEdit edit = Unit {0}
+abbrev IsFew : List EditNode → Type 0
+IsFew nodes = length nodes ≤ node_limit
 
-yang_keeps : (c : Counts) (texts : List (List ℕ)) (tree : SchemaTree) (devices : List Rows) (rest : Rest (Unit {0})) → c ≡ counts_in (yang_scenario texts tree devices rest)
-    → length texts ≤ module_limit → DevicesKeep RowsKeep devices → RestKeeps AnyEdit c rest → ScenarioKeeps (yang_scenario texts tree devices rest)
-yang_keeps c texts tree devices rest are few d r =
-    let events : EventsAre AnyEdit c rest.events = r.events in
-    let kept : EventsKeep c rest.events = events.keeps in
-    record {
-      body = (few, d.all);
-      devices = d.count;
-      change_sets = omega arith;
-      changes = All-nil (ChangeKeeps (length devices));
-      operator_count = r.count;
-      operators = r.operators;
-      event_count = omega (arith, kept.weigh, numbered_total rest.operators 0 0 rest.events);
-      events = subst (λ n. All (EventKeeps n) (events_from rest.operators 0 0 rest.events)) are (numbered_all c rest.operators 0 0 rest.events kept.keep);
-      openings = numbered_own c rest.operators 0 0 rest.events r.operators_are kept.keep;
-    }
+are_edits : (tree : SchemaTree) (edits : List (List EditNode)) → All (DataEditKeeps tree) edits → All (IsEditOf tree) edits
+are_edits tree [] k = All-nil (IsEditOf tree)
+are_edits tree (e ∷ es) k =
+    let h : DataEditKeeps tree e = All-head (DataEditKeeps tree) e es k in
+    All-cons (IsEditOf tree) e es h.is_edit (are_edits tree es (All-tail (DataEditKeeps tree) e es k))
 
-yang_good : (tree : SchemaTree) (texts : List (List ℕ)) (whole : Data) → length texts ≤ module_limit → IsGood ScenarioKeeps (yang_rest_at tree texts whole)
+are_few : (tree : SchemaTree) (edits : List (List EditNode)) → All (DataEditKeeps tree) edits → All IsFew edits
+are_few tree [] k = All-nil IsFew
+are_few tree (e ∷ es) k =
+    let h : DataEditKeeps tree e = All-head (DataEditKeeps tree) e es k in
+    All-cons IsFew e es h.few (are_few tree es (All-tail (DataEditKeeps tree) e es k))
+
+yang_good : (tree : SchemaTree) (texts : List (List ℕ)) (whole : Data) → IsGiven tree → length texts ≤ module_limit → IsGood ScenarioKeeps (yang_rest_at tree texts whole)
 unfolding yang_rest_at
-yang_good tree texts whole few =
+yang_good tree texts whole given few =
+    let sound : IsSound tree.nodes = given.sound in
     then_good (required (codes "devices") (yang_devices_at tree) whole) _
-    (λ devices e. then_good (optional (codes "changes") tt (empty_list_at (here kind.NotBuilt)) whole) _
-    (λ changes f. then_good (rest_at not_built whole) _
-    (λ rest g. let in_devices : IsGood (DevicesKeep RowsKeep) (required (codes "devices") (yang_devices_at tree) whole) = required_good (codes "devices") (yang_devices_at tree) whole (yang_devices_good tree) in
-    let in_rest : IsGood (RestKeeps AnyEdit (counts_of whole)) (rest_at not_built whole) = rest_good not_built AnyEdit (always not_built AnyEdit (λ edit. tt)) whole in
-    let r : RestKeeps AnyEdit (counts_of whole) rest = in_rest.so rest g in
-    let are : counts_of whole ≡ counts_in (yang_scenario texts tree devices rest) = counts_are _ _ _ _ _ _
-    (no_items (get (codes "changes") whole) changes f)
-    (sym (count_required (codes "devices") (yang_devices_at tree) whole devices (yang_devices_count tree) e)) (sym r.operators_are) in
-    good ScenarioKeeps (yang_scenario texts tree devices rest) (yang_keeps (counts_of whole) texts tree devices rest are few (in_devices.so devices e) r))))
+    (λ devices e. then_good (changes_in (data_edit tree) whole) _
+    (λ changes f. then_good (rest_at (data_edit tree) whole) _
+    (λ rest g. let in_devices : IsGood (DevicesKeep (DataKeeps tree)) (required (codes "devices") (yang_devices_at tree) whole) =
+    required_good (codes "devices") (yang_devices_at tree) whole (yang_devices_good tree sound.bounds) in
+    let in_changes : IsGood (ChangesKeep (DataEditKeeps tree) whole) (changes_in (data_edit tree) whole) = changes_good (data_edit tree) (DataEditKeeps tree) (data_edit_good tree) whole in
+    let in_rest : IsGood (RestKeeps (DataEditKeeps tree) (counts_of whole)) (rest_at (data_edit tree) whole) = rest_good (data_edit tree) (DataEditKeeps tree) (data_edits_hold tree) whole in
+    let d : DevicesKeep (DataKeeps tree) devices = in_devices.so devices e in
+    let k : ChangesKeep (DataEditKeeps tree) whole changes = in_changes.so changes f in
+    let r : RestKeeps (DataEditKeeps tree) (counts_of whole) rest = in_rest.so rest g in
+    let edits : All (DataEditKeeps tree) (edits_of changes ++ edits_of_events rest.events) = all_edits (DataEditKeeps tree) whole changes rest k r in
+    good ScenarioKeeps (scenario_of (Yang texts tree devices) (numbered changes rest))
+    (scenario_keeps (DataEditKeeps tree) (Yang texts tree devices) whole changes rest k r
+    (record { module_count = few; given = given; running = d.all; edited = are_edits tree (edits_of changes ++ edits_of_events rest.events) edits; few = are_few tree (edits_of changes ++ edits_of_events rest.events) edits })
+    (count_required (codes "devices") (yang_devices_at tree) whole devices (yang_devices_count tree) e) d.count))))
 
-given_good : (given : Result SchemaTree SchemaFault) (texts : List (List ℕ)) (whole : Data) → length texts ≤ module_limit → IsGood ScenarioKeeps (yang_scenario_at given texts whole)
+given_good : (modules : List ReadModule) (given : Result SchemaTree SchemaFault) (whole : Data) → Builds (statements_of modules) given → length (texts_of modules) ≤ module_limit
+    → IsGood ScenarioKeeps (yang_scenario_at given (texts_of modules) whole)
 unfolding yang_scenario_at
-given_good (Ok tree) texts whole few = yang_good tree texts whole few
-given_good (Err (Flawed flaw m place)) texts whole few = no_good _
-given_good (Err (TooLarge m place)) texts whole few = no_good _
+given_good modules (Ok tree) whole builds few =
+    yang_good tree (texts_of modules) whole (record { sound = modules_sound (statements_of modules) tree builds; marker = modules_marked (statements_of modules) tree builds }) few
+given_good modules (Err (Flawed flaw m place)) whole builds few = no_good _
+given_good modules (Err (TooLarge m place)) whole builds few = no_good _
 
 -- ---- the head
 
@@ -196,7 +229,7 @@ from_good whole (Ok head.Flat) e outcome reads = moved outcome (flat_scenario_at
 from_good whole (Ok (head.Yang modules)) e outcome reads =
     let g : IsGood HeadKeeps (head_at whole) = head_good whole in
     let few : length modules ≤ module_limit = g.so (head.Yang modules) e in
-    moved outcome (yang_scenario_at reads.given (texts_of modules) whole) reads.outcome_is (given_good reads.given (texts_of modules) whole (omega (arith, few, length-map modules (λ m. m.text))))
+    moved outcome (yang_scenario_at reads.given (texts_of modules) whole) reads.outcome_is (given_good modules reads.given whole reads.builds (omega (arith, few, length-map modules (λ m. m.text))))
 
 -- a scenario that was read is within its limits
 pub whole_keeps : (whole : Data) (scenario : Scenario) → Reads whole (Ok scenario) → ScenarioKeeps scenario
@@ -208,10 +241,3 @@ parsed_keeps (Ok whole) scenario reads = whole_keeps whole scenario reads
 
 pub bytes_keep : (bytes : List ℕ) (scenario : Scenario) → ReadsBytes bytes (Ok scenario) → ScenarioKeeps scenario
 bytes_keep bytes scenario reads = parsed_keeps (whole_of bytes) scenario reads
-
-flat_whole_good : (whole : Data) → IsGood ScenarioKeeps (flat_whole_at whole)
-unfolding flat_whole_at
-flat_whole_good whole = then_good (flat_head_at whole) _ (λ u e. flat_good whole)
-
-pub flat_bytes_good : (bytes : List ℕ) → IsGood ScenarioKeeps (flat_scenario_of bytes)
-flat_bytes_good bytes = then_good (whole_of bytes) flat_whole_at (λ whole e. flat_whole_good whole)

@@ -1,6 +1,7 @@
 pub mod Sound
 pub mod Parts
 pub mod Flats
+pub mod Data
 pub mod Heads
 pub mod ChangeSets
 pub mod Events

@@ -23,7 +23,7 @@ use Rattle.nm_refusals.specs.Members.{knows, Requires}
 use Rattle.nm_form.specs.Places.{stepped}
 use Rattle.nm_refusals.specs.Steps.{Below}
 use Rattle.nm_refusals.specs.Wrong.{Wrong, is_object_role, is_list_role, needs_item, limit_of, no_object, no_list, no_item, no_number, some_module, too_many_items, unbuilt_list}
-use Rattle.nm_refusals.specs.Told.{AllAbove, Ascending, Lacks, Strange, Tells, missing, unknown, inside, Told}
+use Rattle.nm_refusals.specs.Told.{AllAbove, Ascending, missing, unknown, inside, Told}
 use Rattle.nm_refusals.specs.Told as tells
 use Rattle.nm_refusals.proofs.Sound.{IsSound, is_read, is_told, then_so, by_test, Both, both}
 

@@ -4,6 +4,12 @@ use Rattle.std.proofs.lemmas.List.{length-map}
 use Rattle.std.specs.Prelude.{is_some, nat_lt}
 use Rattle.serde_json.specs.Data.{Data, null, boolean, number, string, array, object, Items, no_items, item, Members}
 use Rattle.serde_json.specs.Find.{get, at, get_member, get_item, as_object}
+use Rattle.nm_base.specs.declared.tag.Tag.{Tag}
+use Rattle.nm_base.specs.declared.tag.Tag.TheVariants.{InUse, InvalidValue, LockDenied, AccessDenied, DataExists, DataMissing, OperationFailed, ResourceDenied, UnknownElement, BadAttribute, MissingElement}
+use Rattle.nm_tree.specs.Nodes.{SchemaTree}
+use Rattle.nm_edit.specs.declared.edit.EditNode.{EditNode}
+use Rattle.nm_edit_json.specs.Whole.{edit_read}
+use Rattle.nm_proto.specs.Content.{Refusal}
 use Rattle.nm_proto.specs.declared.flat.FlatEdit.{FlatEdit}
 use Rattle.nm_proto.specs.declared.kind.ScenarioKind.{ScenarioKind}
 use Rattle.nm_proto.specs.declared.kind.ScenarioKind.TheVariants as kind
@@ -14,12 +20,12 @@ use Rattle.nm_reading.specs.Reading.{under, optional_from, count_of, plain}
 use Rattle.nm_reading.specs.Words.{item_count}
 use Rattle.nm_scenario.specs.declared.head.ReadModule.{ReadModule}
 use Rattle.nm_scenario.specs.Head.{module_limit, module_at, modules_at, statement_of, statements_of}
-use Rattle.nm_refusals.specs.Roles.{Role, Edits, flat_edits, no_edits}
-use Rattle.nm_form.specs.Form.{not_built}
-use Rattle.nm_form.proofs.InOrder.{leaf_in_order, unbuilt_in_order}
+use Rattle.nm_refusals.specs.Roles.{Role, Contents, cells, data_of}
+use Rattle.nm_form.proofs.InOrder.{leaf_in_order}
 use Rattle.nm_events.specs.declared.arguments.Counts.{Counts}
 use Rattle.nm_events.proofs.Order.{events_placed}
 use Rattle.nm_scenario.specs.Flat.{node_limit, member_count, is_change, all_members, flat_edit_of, flat_edit_said, flat_edit}
+use Rattle.nm_scenario.specs.Yang.{edit_cause, edit_from, data_edit_said, data_edit}
 use Rattle.nm_form.specs.Places.{stepped, walked, LacksMember, IsPlace, IsThere, InOrder}
 use Rattle.nm_refusals.specs.Wrong as wrong
 use Rattle.nm_refusals.specs.Wrong.{Wrong}
@@ -64,13 +70,34 @@ flat_edit_in_order : InOrder flat_edit
 unfolding flat_edit_said
 flat_edit_in_order = leaf_in_order _ (λ whole. edit_there (as_object whole))
 
+cause_there : (tag : Tag) → (edit_cause tag).kind ≡ kind.Missing → ⊥
+cause_there InUse e = cc
+cause_there InvalidValue e = cc
+cause_there LockDenied e = cc
+cause_there AccessDenied e = cc
+cause_there DataExists e = cc
+cause_there DataMissing e = cc
+cause_there OperationFailed e = cc
+cause_there ResourceDenied e = cc
+cause_there UnknownElement e = cc
+cause_there BadAttribute e = cc
+cause_there MissingElement e = cc
+
+data_there : (r : Result (List EditNode) Refusal) → IsThere (edit_from r)
+data_there (Ok nodes) = tt
+data_there (Err refusal) = cause_there refusal.tag
+
+data_edit_in_order : (tree : SchemaTree) → InOrder (data_edit tree)
+unfolding data_edit_said
+data_edit_in_order tree = leaf_in_order _ (λ whole. data_there (edit_read tree whole))
+
 -- the first fault of events has a place
-events_placed_so : (edits : Edits) (counts : Counts) (part : Data) (fault : Fault) → OfEvents edits counts part fault
+events_placed_so : (contents : Contents) (counts : Counts) (part : Data) (fault : Fault) → OfEvents contents counts part fault
     → IsPlace fault.cause.kind fault.place part
-events_placed_so flat_edits counts part fault is =
+events_placed_so cells counts part fault is =
     events_placed flat_edit flat_edit_in_order counts part fault.cause fault.place (is.spot, is.there)
-events_placed_so no_edits counts part fault is =
-    events_placed not_built (unbuilt_in_order (Unit {0})) counts part fault.cause fault.place (is.spot, is.there)
+events_placed_so (data_of tree) counts part fault is =
+    events_placed (data_edit tree) (data_edit_in_order tree) counts part fault.cause fault.place (is.spot, is.there)
 
 first_there : (k : ScenarioKind) (place : List Step) (part : Data) → IsPlace k place part → (k ≡ kind.Missing → ⊥) → is_some (walked place part) ≡ true
 first_there k place part (inl is) known = is.1
@@ -87,7 +114,7 @@ pub place_there : {r : Role} {part : Data} {k : ScenarioKind} {place : List Step
 place_there (here w) known = refl
 place_there (missing l) known = absurd (known refl)
 place_there (unknown {part = part} {name = name} s) known = ap (λ o. is_some (option_and_then (walked []) o)) (get_in part name s.members s.object_is ∙ s.there)
-place_there (in_events {edits = edits} {counts = counts} {part = part} fault is) known = first_there fault.cause.kind fault.place part (events_placed_so edits counts part fault is) known
+place_there (in_events {contents = contents} {counts = counts} {part = part} fault is) known = first_there fault.cause.kind fault.place part (events_placed_so contents counts part fault is) known
 place_there (inside {step = step} {place = place} inner child below there t) known = ap (λ o. is_some (option_and_then (walked place) o)) there ∙ place_there t known
 
 -- kinds of faults that are told of a part itself
@@ -103,20 +130,22 @@ own (wrong.no_number a) = refl
 own (wrong.no_switch a) = refl
 own (wrong.no_form a) = refl
 own (wrong.no_text a) = refl
-own (wrong.no_operation a b) = refl
+own (wrong.no_operation a) = refl
 own (wrong.no_user a) = refl
 own (wrong.some_module a) = refl
 own (wrong.too_many_items limit a b) = refl
 own (wrong.too_many_cells ms a b) = refl
 own (wrong.too_many_nodes ms a b) = refl
+own (wrong.too_many_named refusal a b) = refl
 own (wrong.too_many_rows a) = refl
 own (wrong.no_module text fault a b) = refl
 own (wrong.no_cells a) = refl
 own (wrong.no_edit a) = refl
+own (wrong.no_data_edit refusal a) = refl
 own (wrong.no_data k path a) = refl
 own (wrong.invalid found refusal a b) = refl
-own (wrong.unbuilt_form a) = refl
-own (wrong.unbuilt_operation a) = refl
+own (wrong.marked_data rows a b) = refl
+own (wrong.invalid_data rows refusal a b) = refl
 own (wrong.unbuilt_list a) = refl
 
 -- what lacks a member one step further in
@@ -139,7 +168,7 @@ member_lacks (here w) is = let t : is_own kind.Missing ≡ true = subst (λ m. i
 member_lacks (missing {part = part} {name = name} l) is =
     record { above = []; name = name; place_is = refl; part = part; part_is = refl; members = l.members; object_is = l.object_is; absent = l.absent }
 member_lacks (unknown s) is = cc
-member_lacks (in_events {edits = edits} {counts = counts} {part = part} fault first) is = first_lacks fault.cause.kind fault.place part (events_placed_so edits counts part fault first) is
+member_lacks (in_events {contents = contents} {counts = counts} {part = part} fault first) is = first_lacks fault.cause.kind fault.place part (events_placed_so contents counts part fault first) is
 member_lacks (inside {part = part} {step = step} {place = place} inner child below there t) is = below_lacks part child step place there (member_lacks t is)
 
 -- ---- whole scenarios
@@ -167,12 +196,12 @@ module_there (Some part) modules m e less =
     walked_one (at m part) ∙ some_there (at m part) (at_there part m (omega (arith, less, modules_count part modules read)))
 
 -- where a member isn't missing, the part is there
-pub whole_there : (built : Bool) (whole : Data) (k : ScenarioKind) (place : List Step) → TellsWhole built whole k place → (k ≡ kind.Missing → ⊥) → is_some (walked place whole) ≡ true
-whole_there built whole k place (in_part frame is t) known = place_there t known
-whole_there built whole k place (in_module fault is g) known =
+pub whole_there : (whole : Data) (k : ScenarioKind) (place : List Step) → TellsWhole whole k place → (k ≡ kind.Missing → ⊥) → is_some (walked place whole) ≡ true
+whole_there whole k place (in_part frame is t) known = place_there t known
+whole_there whole k place (in_module fault is g) known =
     module_there (get (codes "modules") whole) g.modules (module_of_fault fault) g.modules_are (omega (arith, fault_in_module (statements_of g.modules) fault g.builds, length-map g.modules statement_of))
 
 -- where a member is missing, the object is there and doesn't have it
-pub whole_lacks : (built : Bool) (whole : Data) (k : ScenarioKind) (place : List Step) → TellsWhole built whole k place → k ≡ kind.Missing → LacksMember whole place
-whole_lacks built whole k place (in_part frame is t) missed = member_lacks t missed
-whole_lacks built whole k place (in_module fault is g) missed = cc
+pub whole_lacks : (whole : Data) (k : ScenarioKind) (place : List Step) → TellsWhole whole k place → k ≡ kind.Missing → LacksMember whole place
+whole_lacks whole k place (in_part frame is t) missed = member_lacks t missed
+whole_lacks whole k place (in_module fault is g) missed = cc

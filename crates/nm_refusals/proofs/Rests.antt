@@ -13,22 +13,22 @@ use Rattle.nm_reading.specs.Words.{item_count}
 use Rattle.nm_events.specs.Limits.{operator_limit}
 use Rattle.nm_form.specs.Form.{Form}
 use Rattle.nm_form.specs.Read.{read}
-use Rattle.nm_form.specs.Exact.{IsFirstOf}
-use Rattle.nm_events.specs.declared.arguments.Counts.{Counts}
 use Rattle.nm_events.specs.Events.{events_form}
 use Rattle.nm_scenario.specs.Operators.{user_limit, knows_operator, user_of, user_at, operator_at, operators_at}
-use Rattle.nm_scenario.specs.Scenario.{knows_scenario, rest_at}
+use Rattle.nm_scenario.specs.Changes.{changes_read_at}
+use Rattle.nm_scenario.specs.Scenario.{knows_scenario, rest_at, changes_in}
 use Rattle.nm_refusals.specs.Roles as role
-use Rattle.nm_refusals.specs.Roles.{Frame}
+use Rattle.nm_refusals.specs.Roles.{Contents, Frame}
 use Rattle.nm_refusals.specs.Members as must
 use Rattle.nm_refusals.specs.Steps as step
 use Rattle.nm_scenario.specs.Counts.{items_of, count_in, counts_of}
-use Rattle.nm_refusals.specs.Steps.{edits_in}
+use Rattle.nm_refusals.specs.Steps.{Below}
 use Rattle.nm_refusals.specs.Wrong.{is_user, no_user, no_switch}
-use Rattle.nm_refusals.specs.Told.{Told, OfEvents}
-use Rattle.nm_refusals.proofs.Sound.{IsSound, is_read, then_so, by_test, both}
+use Rattle.nm_refusals.specs.Told.{Told}
+use Rattle.nm_refusals.proofs.Sound.{IsSound, is_read, then_so, by_test}
 use Rattle.nm_refusals.proofs.Parts.{wrong, IsObject, object_is, object_so, required_so, optional_so, known_so, each_so, Listed, list_read, nothing_so}
-use Rattle.nm_refusals.proofs.Events.{events_so}
+use Rattle.nm_refusals.proofs.ChangeSets.{AreEdits, changes_so}
+use Rattle.nm_refusals.proofs.Events.{AreEvents, events_so}
 
 -- ---- operators
 
@@ -102,20 +102,27 @@ some_is (x ∷ xs) ys e = cc
 pub some_count : {A : Type 0} (whole : Data) (limit : ℕ) (xs ys : List A) → Listed whole limit xs → some_of xs ≡ Ok ys → length ys ≡ item_count whole
 some_count whole limit xs ys l e = ap length (sym (some_is xs ys e)) ∙ l.count
 
+-- ---- the change sets
+
+pub changes_in_so : {E : Type 0} (contents : Contents) (form : Form E) → AreEdits contents form → (frame : Frame) (whole : Data)
+    → Below (role.scenario frame) whole (Name (codes "changes")) (role.changes contents (count_in (codes "devices") whole)) → IsSound (Told (role.scenario frame) whole) (changes_in form whole)
+changes_in_so contents form so frame whole below =
+    optional_so (role.scenario frame) whole (codes "changes") (role.changes contents (count_in (codes "devices") whole)) [] (changes_read_at form (count_in (codes "devices") whole)) below
+    (λ child e. changes_so contents form so (count_in (codes "devices") whole) child)
+
 -- ---- the members after the change sets
 
-pub rest_so : {E : Type 0} (built : Bool) (frame : Frame) (edit : Form E)
-    → ((counts : Counts) (part : Data) (fault : Fault) → IsFirstOf (events_form edit counts) part fault → OfEvents (edits_in frame) counts part fault)
-    → (whole : Data) → IsObject whole → IsSound (Told (role.scenario built frame) whole) (rest_at edit whole)
+pub rest_so : {E : Type 0} (contents : Contents) (form : Form E) → AreEvents contents form → (frame : Frame) (whole : Data)
+    → Below (role.scenario frame) whole (Name (codes "events")) (role.events contents (counts_of whole)) → IsObject whole → IsSound (Told (role.scenario frame) whole) (rest_at form whole)
 unfolding rest_at
-rest_so built frame edit so whole o =
+rest_so contents form so frame whole below o =
     then_so (optional (codes "operators") [] operators_at whole) _
-    (optional_so (role.scenario built frame) whole (codes "operators") role.operators [] operators_at step.all_operators (λ child e. operators_so child))
+    (optional_so (role.scenario frame) whole (codes "operators") role.operators [] operators_at step.all_operators (λ child e. operators_so child))
     (λ users e. then_so (optional (codes "faults") tt (empty_list_at (here kind.NotBuilt)) whole) _
-    (optional_so (role.scenario built frame) whole (codes "faults") role.nothing tt (empty_list_at (here kind.NotBuilt)) step.faults (λ child f. nothing_so child))
-    (λ faults f. then_so (optional (codes "events") [] (read (events_form edit (counts_of whole))) whole) _
-    (optional_so (role.scenario built frame) whole (codes "events") (role.events (edits_in frame) (counts_of whole)) [] (read (events_form edit (counts_of whole))) step.all_events
-    (λ child g. events_so (edits_in frame) edit so (counts_of whole) child))
-    (λ events g. then_so (optional (codes "drain") false switch_at whole) _ (optional_so (role.scenario built frame) whole (codes "drain") role.switch false switch_at step.drain (λ child h. switch_so child))
-    (λ drain h. then_so (optional (codes "trace") false switch_at whole) _ (optional_so (role.scenario built frame) whole (codes "trace") role.switch false switch_at step.trace (λ child i. switch_so child))
-    (λ trace i. then_so (only_known knows_scenario whole) _ (known_so (role.scenario built frame) whole o) (λ k j. is_read _))))))
+    (optional_so (role.scenario frame) whole (codes "faults") role.nothing tt (empty_list_at (here kind.NotBuilt)) step.faults (λ child f. nothing_so child))
+    (λ faults f. then_so (optional (codes "events") [] (read (events_form form (counts_of whole))) whole) _
+    (optional_so (role.scenario frame) whole (codes "events") (role.events contents (counts_of whole)) [] (read (events_form form (counts_of whole))) below
+    (λ child g. events_so contents form so (counts_of whole) child))
+    (λ events g. then_so (optional (codes "drain") false switch_at whole) _ (optional_so (role.scenario frame) whole (codes "drain") role.switch false switch_at step.drain (λ child h. switch_so child))
+    (λ drain h. then_so (optional (codes "trace") false switch_at whole) _ (optional_so (role.scenario frame) whole (codes "trace") role.switch false switch_at step.trace (λ child i. switch_so child))
+    (λ trace i. then_so (only_known knows_scenario whole) _ (known_so (role.scenario frame) whole o) (λ k j. is_read _))))))

@@ -1,6 +1,6 @@
 -- What holds of every scenario that was read (this project's own): no count is outside its limits, and no number of a change set, a
 -- device, an operator or a turn; and operators open sessions of their own users.
-use Rattle.std.specs.Prelude.{◌≡◌, ℕ, ◌-◌, ◌*◌, ◌^◌, ◌≤◌, ◌<◌, List, [], ◌∷◌, length, map, slice_get, true, Some, None}
+use Rattle.std.specs.Prelude.{◌≡◌, ℕ, ◌-◌, ◌^◌, ◌≤◌, ◌<◌, List, [], ◌∷◌, length, map, slice_get, true, false, Some, None}
 use Rattle.std.specs.List.{All, sum_by}
 use Rattle.std.specs.FinMap.{empty, len}
 use Rattle.nm_proto.specs.declared.flat.FlatEdit.{FlatEdit}
@@ -11,7 +11,14 @@ use Rattle.nm_proto.specs.declared.plan.Event.TheVariants.{Foreign}
 use Rattle.nm_proto.specs.declared.plan.ChangePlan.{ChangePlan}
 use Rattle.nm_proto.specs.declared.plan.PlannedEdit.{PlannedEdit}
 use Rattle.nm_proto.specs.Flat.{FlatState, flat_violation}
+use Rattle.nm_tree.specs.Nodes.{SchemaTree}
+use Rattle.nm_path.specs.Sound.{IsSound}
 use Rattle.nm_config.specs.Rows.{Rows}
+use Rattle.nm_schema.specs.Marker.{HasMarker}
+use Rattle.nm_rules.specs.Standing.{StandsIn}
+use Rattle.nm_check.specs.Told.{violation_told}
+use Rattle.nm_edit.specs.declared.edit.EditNode.{EditNode}
+use Rattle.nm_edit.specs.EditOf.{IsEditOf}
 use Rattle.nm_events.specs.declared.arguments.Counts.{Counts}
 use Rattle.nm_events.specs.Limits.{device_limit, change_limit, operator_limit, event_limit}
 use Rattle.nm_events.specs.Kept.{IsWithin, EventKeeps, weight}
@@ -20,6 +27,7 @@ use Rattle.nm_scenario.specs.declared.scenario.Body.TheVariants.{Flat, Yang}
 use Rattle.nm_scenario.specs.declared.scenario.Scenario.{Scenario}
 use Rattle.nm_scenario.specs.Flat.{row_limit, node_limit}
 use Rattle.nm_scenario.specs.Head.{module_limit}
+use Rattle.nm_scenario.specs.Yang.{holds_marks}
 use Rattle.nm_refusals.specs.Wrong.{is_user}
 
 -- ---- contents
@@ -33,17 +41,34 @@ pub record StateKeeps (state : FlatState) : Type 0 where
 abbrev pub EditKeeps : FlatEdit → Type 0
 EditKeeps edit = len edit.changes ≤ node_limit
 
-abbrev pub RowsKeep : Rows → Type 0
-RowsKeep rows = len rows ≤ row_limit
+-- a running configuration of YANG data: valid, without marks, and not too large
+pub record DataKeeps (tree : SchemaTree) (rows : Rows) : Type 0 where
+  pub stands : StandsIn tree rows
+  pub rows_few : len rows ≤ row_limit
+  pub unmarked : holds_marks rows ≡ false
+  pub valid : violation_told tree rows ≡ None
+
+-- a tree that modules give (RFC 7950 section 3)
+pub record IsGiven (tree : SchemaTree) : Type 0 where
+  pub sound : IsSound tree.nodes
+  pub marker : HasMarker tree
+
+-- YANG contents: their modules, running configurations and edits
+pub record DataAreKept (modules : List (List ℕ)) (tree : SchemaTree) (devices : List Rows) (edits : List (List EditNode)) : Type 0 where
+  pub module_count : length modules ≤ module_limit
+  pub given : IsGiven tree
+  pub running : All (DataKeeps tree) devices
+  pub edited : All (IsEditOf tree) edits
+  pub few : All (λ nodes. length nodes ≤ node_limit) edits
 
 -- how many devices there are
 abbrev pub devices_in : Body → ℕ
 devices_in (Flat devices edits) = length devices
-devices_in (Yang modules tree devices) = length devices
+devices_in (Yang modules tree devices edits) = length devices
 
 abbrev pub BodyKeeps : Body → Type 0
 BodyKeeps (Flat devices edits) = All StateKeeps devices × All EditKeeps edits
-BodyKeeps (Yang modules tree devices) = (length modules ≤ module_limit) × All RowsKeep devices
+BodyKeeps (Yang modules tree devices edits) = DataAreKept modules tree devices edits
 
 -- ---- change sets
 

@@ -1,5 +1,5 @@
 -- What stands where in a scenario (this project's own): the role of each part.
-use Rattle.std.specs.Prelude.{ℕ, Bool}
+use Rattle.std.specs.Prelude.{ℕ}
 use Rattle.nm_tree.specs.Nodes.{SchemaTree}
 use Rattle.nm_events.specs.declared.arguments.Counts.{Counts}
 
@@ -15,36 +15,31 @@ pub data Frame : Type 0 where
   yang : Frame
   with_tree : SchemaTree → Frame
 
--- whether operators' edits are flat or aren't built
-pub data Edits : Type 0 where
-  flat_edits : Edits
-  no_edits : Edits
-
 -- what a part of a scenario is
 pub data Role : Type 0 where
-  -- the whole, where YANG contents are built or aren't
-  scenario : Bool → Frame → Role
+  -- the whole
+  scenario : Frame → Role
   -- the word of the form of the contents
-  form : Bool → Role
+  form : Role
   modules : Role
   module_text : Role
   devices : Contents → Role
   device : Contents → Role
   running : Contents → Role
   -- the change sets of a scenario of so many devices
-  changes : ℕ → Role
-  change : ℕ → Role
-  entries : ℕ → Role
+  changes : Contents → ℕ → Role
+  change : Contents → ℕ → Role
+  entries : Contents → ℕ → Role
   -- an edit of a change set, with its device: of so many, and of this number or above
-  entry : ℕ → ℕ → Role
+  entry : Contents → ℕ → ℕ → Role
   -- what it changes
-  change_edit : Role
+  change_edit : Contents → Role
   operation : Role
   operators : Role
   operator : Role
   user : Role
   -- the events, which have a table of their own
-  events : Edits → Counts → Role
+  events : Contents → Counts → Role
   -- a number from the first to the second
   number : ℕ → ℕ → Role
   -- the modules of flat contents: none

@@ -1,6 +1,6 @@
 -- Which faults a scenario has where (this project's own): a place leads from the whole to one of its parts, and the kind of the
 -- fault says what is wrong there.
-use Rattle.std.specs.Prelude.{◌≡◌, ℕ, ◌<◌, ◌≤◌, List, [], ◌∷◌, ◌++◌, length, Bool, true, false, Some, None, Result, Ok, Err, codes}
+use Rattle.std.specs.Prelude.{◌≡◌, ℕ, ◌<◌, ◌≤◌, List, [], ◌∷◌, length, false, Some, None, Result, Ok, Err, codes}
 use Rattle.std.specs.Ordering.{nat_cmp}
 use Rattle.std.specs.Cmp.Lexicographic.{slice_cmp}
 use Rattle.std.specs.declared.cmp.Ordering.TheVariants.{Less}
@@ -16,17 +16,17 @@ use Rattle.nm_reading.specs.declared.fault.Step.{Step}
 use Rattle.nm_reading.specs.declared.fault.Step.TheVariants.{Name, Item}
 use Rattle.nm_reading.specs.declared.fault.Fault.{Fault}
 use Rattle.nm_reading.specs.Reading.{required, optional}
-use Rattle.nm_form.specs.Form.{not_built}
 use Rattle.nm_form.specs.Exact.{IsFirstOf}
 use Rattle.nm_form.specs.Places.{stepped}
 use Rattle.nm_events.specs.declared.arguments.Counts.{Counts}
 use Rattle.nm_events.specs.Events.{events_form}
 use Rattle.nm_scenario.specs.Flat.{flat_edit}
+use Rattle.nm_scenario.specs.Yang.{data_edit}
 use Rattle.nm_scenario.specs.declared.head.Form.TheVariants as form
 use Rattle.nm_scenario.specs.declared.head.ReadModule.{ReadModule}
 use Rattle.nm_scenario.specs.Head.{form_at, modules_at, statements_of}
 use Rattle.nm_scenario.specs.Scenario.{byte_limit, json_of}
-use Rattle.nm_refusals.specs.Roles.{Frame, Edits, flat_edits, no_edits, Role, scenario, events, unread, flat, yang, with_tree}
+use Rattle.nm_refusals.specs.Roles.{Contents, cells, data_of, Frame, Role, scenario, events, unread, flat, yang, with_tree}
 use Rattle.nm_refusals.specs.Members.{knows, Requires}
 use Rattle.nm_refusals.specs.Steps.{Below}
 use Rattle.nm_refusals.specs.Wrong.{Wrong}
@@ -59,9 +59,9 @@ pub record Strange (role : Role) (part : Data) (name : List ℕ) : Type 0 where
   pub least : (other : List ℕ) (part : Data) → Ascending members → get_member other members ≡ Some part → knows role other ≡ false → slice_cmp nat_cmp other name ≡ Less → ⊥
 
 -- the first fault of the events of a scenario by their table, where the edits of operators are so
-abbrev pub OfEvents : Edits → Counts → Data → Fault → Type 0
-OfEvents flat_edits counts part fault = IsFirstOf (events_form flat_edit counts) part fault
-OfEvents no_edits counts part fault = IsFirstOf (events_form {E = Unit {0}} not_built counts) part fault
+abbrev pub OfEvents : Contents → Counts → Data → Fault → Type 0
+OfEvents cells counts part fault = IsFirstOf (events_form flat_edit counts) part fault
+OfEvents (data_of tree) counts part fault = IsFirstOf (events_form (data_edit tree) counts) part fault
 
 -- a part of a role has a fault of a kind at a place
 pub data Tells : Role → Data → ScenarioKind → List Step → Type 0 where
@@ -72,8 +72,8 @@ pub data Tells : Role → Data → ScenarioKind → List Step → Type 0 where
   -- the place names a member that is there
   unknown : {role : Role} {part : Data} {name : List ℕ} → Strange role part name → Tells role part kind.Unknown (Name name ∷ [])
   -- the fault is the first of the events
-  in_events : {edits : Edits} {counts : Counts} {part : Data} (fault : Fault) → OfEvents edits counts part fault
-      → Tells (events edits counts) part fault.cause.kind fault.place
+  in_events : {contents : Contents} {counts : Counts} {part : Data} (fault : Fault) → OfEvents contents counts part fault
+      → Tells (events contents counts) part fault.cause.kind fault.place
   -- the fault is that of what stands one step further in
   inside : {role : Role} {part : Data} {k : ScenarioKind} {step : Step} {place : List Step} (inner : Role) (child : Data) → Below role part step inner → stepped step part ≡ Some child → Tells inner child k place
       → Tells role part k (step ∷ place)
@@ -102,23 +102,23 @@ abbrev pub module_of_fault : SchemaFault → ℕ
 module_of_fault (Flawed flaw m place) = m
 module_of_fault (TooLarge m place) = m
 
--- a scenario has a fault of a kind at a place, where YANG contents are built or aren't
-pub data TellsWhole : Bool → Data → ScenarioKind → List Step → Type 0 where
-  in_part : {built : Bool} {whole : Data} {k : ScenarioKind} {place : List Step} (frame : Frame) → IsFrame whole frame → Tells (scenario built frame) whole k place → TellsWhole built whole k place
+-- a scenario has a fault of a kind at a place
+pub data TellsWhole : Data → ScenarioKind → List Step → Type 0 where
+  in_part : {whole : Data} {k : ScenarioKind} {place : List Step} (frame : Frame) → IsFrame whole frame → Tells (scenario frame) whole k place → TellsWhole whole k place
   -- the texts of the modules are read, and one of them has another fault
   in_module : {whole : Data} (fault : SchemaFault) → required (codes "contents") form_at whole ≡ Ok form.Yang → Gives whole (Err fault)
-      → TellsWhole true whole kind.Schema (Name (codes "modules") ∷ Item (module_of_fault fault) ∷ [])
+      → TellsWhole whole kind.Schema (Name (codes "modules") ∷ Item (module_of_fault fault) ∷ [])
 
 -- a fault of a scenario
-abbrev pub ToldOfWhole : Bool → Data → Fault → Type 0
-ToldOfWhole built whole fault = TellsWhole built whole fault.cause.kind fault.place
+abbrev pub ToldOfWhole : Data → Fault → Type 0
+ToldOfWhole whole fault = TellsWhole whole fault.cause.kind fault.place
 
 -- bytes have a fault as a scenario
-pub data TellsBytes : Bool → List ℕ → ScenarioKind → List Step → Type 0 where
-  too_long : {built : Bool} {bytes : List ℕ} → byte_limit < length bytes → TellsBytes built bytes kind.TooLong []
-  not_json : {built : Bool} {bytes : List ℕ} → length bytes ≤ byte_limit → json_of bytes ≡ None → TellsBytes built bytes kind.NotJson []
-  in_whole : {built : Bool} {bytes : List ℕ} {k : ScenarioKind} {place : List Step} (whole : Data) → length bytes ≤ byte_limit → json_of bytes ≡ Some whole → TellsWhole built whole k place → TellsBytes built bytes k place
+pub data TellsBytes : List ℕ → ScenarioKind → List Step → Type 0 where
+  too_long : {bytes : List ℕ} → byte_limit < length bytes → TellsBytes bytes kind.TooLong []
+  not_json : {bytes : List ℕ} → length bytes ≤ byte_limit → json_of bytes ≡ None → TellsBytes bytes kind.NotJson []
+  in_whole : {bytes : List ℕ} {k : ScenarioKind} {place : List Step} (whole : Data) → length bytes ≤ byte_limit → json_of bytes ≡ Some whole → TellsWhole whole k place → TellsBytes bytes k place
 
 -- a fault of bytes as a scenario
-abbrev pub ToldOfBytes : Bool → List ℕ → Fault → Type 0
-ToldOfBytes built bytes fault = TellsBytes built bytes fault.cause.kind fault.place
+abbrev pub ToldOfBytes : List ℕ → Fault → Type 0
+ToldOfBytes bytes fault = TellsBytes bytes fault.cause.kind fault.place

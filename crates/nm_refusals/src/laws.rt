@@ -1,6 +1,6 @@
 //! Laws of what is read and of what is refused. Each function does nothing: its contract is the law.
 
-ghost use Rattle.std.specs.Prelude.{◌≡◌, ◌↔◌, ℕ, List, Bool, true, Some, is_some, Result, Ok, Err};
+ghost use Rattle.std.specs.Prelude.{◌≡◌, ◌↔◌, ℕ, List, true, Some, is_some, Result, Ok, Err};
 ghost use Rattle.json.specs.Json.{Json};
 ghost use Rattle.serde_json.specs.Data.{Data, Members};
 ghost use Rattle.serde_json.specs.Find.{as_object};
@@ -17,13 +17,13 @@ ghost use Rattle.nm_refusals.specs.Order.{Reordered, Spells};
 
 /// A fault is told of the part that its place leads to, and comes only where its kind says so of that part.
 pub fn kind_by_its_line()
-    ensures { (whole : Data) (fault : Fault) → Reads whole (Err fault) → ToldOfWhole true whole fault }
+    ensures { (whole : Data) (fault : Fault) → Reads whole (Err fault) → ToldOfWhole whole fault }
 {}
 
 /// The place of a fault leads to a part of the scenario; that of a missing member to an object that doesn't have it.
 pub fn place_is_a_part()
-    ensures there { (built : Bool) (whole : Data) (kind : ScenarioKind) (place : List Step) → TellsWhole built whole kind place → (kind ≡ Missing → ⊥) → is_some (walked place whole) ≡ true }
-    ensures missing { (built : Bool) (whole : Data) (kind : ScenarioKind) (place : List Step) → TellsWhole built whole kind place → kind ≡ Missing → LacksMember whole place }
+    ensures there { (whole : Data) (kind : ScenarioKind) (place : List Step) → TellsWhole whole kind place → (kind ≡ Missing → ⊥) → is_some (walked place whole) ≡ true }
+    ensures missing { (whole : Data) (kind : ScenarioKind) (place : List Step) → TellsWhole whole kind place → kind ≡ Missing → LacksMember whole place }
 {}
 
 /// A scenario that is read is within all limits.

@@ -9,7 +9,7 @@
 pub mod laws;
 mod read;
 
-pub use read::{read_flat_scenario, read_scenario};
+pub use read::read_scenario;
 
 #[cfg(test)]
 mod tests;

@@ -1,10 +1,9 @@
 //! Reading the scenario of bytes, with what is known of the answer.
 
-ghost use Rattle.std.specs.Prelude.{◌≡◌, true, false, IfOk, IsTrue, Err};
+ghost use Rattle.std.specs.Prelude.{◌≡◌, IfOk, Err};
 ghost use Rattle.nm_reading.specs.declared.fault.Fault.{Fault as Refused};
 ghost use Rattle.nm_reading.specs.declared.fault.ReadError.TheVariants.{Bad};
-ghost use Rattle.nm_reading.specs.Reading.{Gives};
-ghost use Rattle.nm_scenario.specs.Scenario.{Answers, ReadsBytes, flat_scenario_of, is_flat};
+ghost use Rattle.nm_scenario.specs.Scenario.{Answers, ReadsBytes};
 ghost use Rattle.nm_refusals.specs.Told.{ToldOfBytes};
 ghost use Rattle.nm_refusals.specs.Kept.{ScenarioKeeps};
 
@@ -16,21 +15,8 @@ use std::alloc::Global;
 /// What is told of the fault is so of the part that its place leads to. A scenario that is read is within all limits.
 pub fn read_scenario(alloc: Global, bytes: &[u8]) -> Result<Scenario, ReadError>
     ensures read { Answers (ReadsBytes bytes.now) result }
-    ensures told { (fault : Refused) → result ≡ Err (Bad fault) → ToldOfBytes true bytes.now fault }
+    ensures told { (fault : Refused) → result ≡ Err (Bad fault) → ToldOfBytes bytes.now fault }
     ensures limits { IfOk result ScenarioKeeps }
 {
     nm_scenario::read_scenario(alloc, bytes)
-}
-
-/// The scenario of bytes where only flat contents are built, or the first fault met with its kind and its place, as
-/// `nm_scenario::read_flat_scenario` reads it.
-///
-/// What is told of the fault is so of the part that its place leads to. A scenario that is read is within all limits.
-pub fn read_flat_scenario(alloc: Global, bytes: &[u8]) -> Result<Scenario, ReadError>
-    ensures read { Gives result (flat_scenario_of bytes.now) }
-    ensures flat { IfOk result (λ scenario. IsTrue (is_flat scenario.body)) }
-    ensures told { (fault : Refused) → result ≡ Err (Bad fault) → ToldOfBytes false bytes.now fault }
-    ensures limits { IfOk result ScenarioKeeps }
-{
-    nm_scenario::read_flat_scenario(alloc, bytes)
 }

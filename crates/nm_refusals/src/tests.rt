@@ -17,10 +17,6 @@ fn told(alloc: Global, text: &str) -> Result<Option<(ScenarioKind, usize)>, NoMe
     met(read_scenario(alloc, text.as_bytes()))
 }
 
-fn flat_told(alloc: Global, text: &str) -> Result<Option<(ScenarioKind, usize)>, NoMemory> {
-    met(read_flat_scenario(alloc, text.as_bytes()))
-}
-
 // The examples of docs/FORMATS.md, "Faults".
 #[test]
 fn faults_are_told(rt: HostRuntime) -> Result<(), Fail> {
@@ -44,23 +40,13 @@ fn faults_are_told(rt: HostRuntime) -> Result<(), Fail> {
             r#"{"netm":1,"contents":"yang","modules":["x"]}"#,
             Some((ScenarioKind::Yang, 2)),
         ),
+        (
+            r#"{"netm":1,"contents":"yang","devices":[{"running":{}}],"changes":[{"edits":[{"device":1,"edit":{"a:b":1}}]}]}"#,
+            Some((ScenarioKind::Content, 5)),
+        ),
     ] {
         assert_eq!(rt; told(rt.alloc(), text)?, want, "{text}");
     }
-    Ok(())
-}
-
-// Where only flat contents are built, YANG contents are told at their word.
-#[test]
-fn unbuilt_contents_are_told(rt: HostRuntime) -> Result<(), Fail> {
-    let yang = r#"{"netm":1,"contents":"yang"}"#;
-    assert_eq!(rt; told(rt.alloc(), yang)?, Some((ScenarioKind::Missing, 1)));
-    assert_eq!(rt;
-        flat_told(rt.alloc(), yang)?,
-        Some((ScenarioKind::NotBuilt, 1))
-    );
-    let flat = r#"{"netm":1,"contents":"flat","devices":[{"running":{}}]}"#;
-    assert_eq!(rt; flat_told(rt.alloc(), flat)?, None);
     Ok(())
 }
 

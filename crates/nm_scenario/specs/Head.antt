@@ -77,21 +77,3 @@ head_at part = do
   version ← required (codes "netm") (number_within 1 1) part
   form ← required (codes "contents") form_at part
   head_in form part
-
--- ---- flat contents alone
-
-abbrev pub flat_only : Form → Result (Unit {0}) Fault
-flat_only form.Flat = Ok tt
-flat_only form.Yang = here kind.NotBuilt
-
--- where only flat contents are built, YANG contents are told at their word
-unfoldable pub flat_contents_at : Data → Result (Unit {0}) Fault
-flat_contents_at part = do
-  form ← form_at part
-  flat_only form
-
-unfoldable pub flat_head_at : Data → Result (Unit {0}) Fault
-flat_head_at part = do
-  whole ← object_at part
-  version ← required (codes "netm") (number_within 1 1) part
-  required (codes "contents") flat_contents_at part

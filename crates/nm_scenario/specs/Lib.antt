@@ -1,7 +1,9 @@
 pub mod Flat
 pub mod Devices
+pub mod Yang
 pub mod Changes
 pub mod Operators
 pub mod Counts
 pub mod Head
+pub mod Numbered
 pub mod Scenario

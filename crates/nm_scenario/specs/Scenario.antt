@@ -1,13 +1,10 @@
 -- The scenario of bytes, or their first fault: the members of each object in the order of the format, unknown members last
 -- (this project's own). The code reads forward once; these are functions of the whole value.
-use Rattle.std.specs.Prelude.{◌≡◌, ℕ, List, [], ◌++◌, Bool, true, false, ◌||◌, nat_lt, length, Option, Some, None, Result, Ok, Err, codes, if◌then◌else◌}
+use Rattle.std.specs.Prelude.{◌≡◌, ℕ, List, [], Bool, false, ◌||◌, nat_lt, length, Option, Some, None, Result, Ok, Err, codes, if◌then◌else◌}
 use Rattle.std.specs.Str.{bytes_eq, is_utf8}
 use Rattle.serde_json.specs.Data.{Data}
 use Rattle.serde_json.specs.Read.{read}
-use Rattle.nm_proto.specs.declared.flat.FlatEdit.{FlatEdit}
-use Rattle.nm_proto.specs.Flat.{FlatState}
 use Rattle.nm_tree.specs.Nodes.{SchemaTree}
-use Rattle.nm_config.specs.Rows.{Rows}
 use Rattle.nm_flaws.specs.declared.fault.Fault.{Fault as SchemaFault}
 use Rattle.nm_flaws.specs.declared.fault.Fault.TheVariants.{Flawed, TooLarge}
 use Rattle.nm_schema.specs.Built.{Builds}
@@ -17,10 +14,9 @@ use Rattle.nm_reading.specs.declared.fault.Fault.{Fault}
 use Rattle.nm_reading.specs.declared.fault.ReadError.{ReadError}
 use Rattle.nm_reading.specs.declared.fault.ReadError.TheVariants as error
 use Rattle.nm_reading.specs.Reading.{◌>>=◌, here, there, under, required, optional, only_known, empty_list_at, switch_at}
-use Rattle.nm_form.specs.Form.{Form, not_built}
+use Rattle.nm_form.specs.Form.{Form}
 use Rattle.nm_form.specs.Read.{read as form_read}
 use Rattle.nm_events.specs.Events.{events_form}
-use Rattle.nm_events.specs.Numbered.{events_from, edits_of_events, selects_of_events}
 use Rattle.nm_scenario.specs.declared.scenario.Body.{Body}
 use Rattle.nm_scenario.specs.declared.scenario.Body.TheVariants.{Flat, Yang}
 use Rattle.nm_scenario.specs.declared.scenario.Scenario.{Scenario}
@@ -29,10 +25,13 @@ use Rattle.nm_scenario.specs.declared.rest.Rest.{Rest}
 use Rattle.nm_scenario.specs.declared.head.Head.{Head}
 use Rattle.nm_scenario.specs.declared.head.Head.TheVariants as head
 use Rattle.nm_scenario.specs.declared.head.ReadModule.{ReadModule}
-use Rattle.nm_scenario.specs.Head.{head_at, flat_head_at, texts_of, statements_of}
+use Rattle.nm_scenario.specs.Head.{head_at, texts_of, statements_of}
 use Rattle.nm_scenario.specs.Flat.{flat_edit}
-use Rattle.nm_scenario.specs.Devices.{devices_at, yang_devices_at}
-use Rattle.nm_scenario.specs.Changes.{changes_read_at, plans_from, edits_of}
+use Rattle.nm_scenario.specs.Devices.{devices_at}
+use Rattle.nm_scenario.specs.Yang.{data_edit, yang_devices_at}
+use Rattle.nm_scenario.specs.Changes.{changes_read_at}
+use Rattle.nm_scenario.specs.declared.numbering.Numbered.{Numbered}
+use Rattle.nm_scenario.specs.Numbered.{numbered}
 use Rattle.nm_scenario.specs.Operators.{operators_at}
 use Rattle.nm_scenario.specs.Counts.{count_in, counts_of}
 
@@ -54,27 +53,27 @@ rest_at edit part = do
   known ← only_known knows_scenario part
   Ok (record { operators = operators; events = events; drain = drain; trace = trace })
 
--- ---- flat contents
+-- the change sets of a scenario whose edits are written so
+abbrev pub changes_in : {E : Type 0} → Form E → Data → Result (List (ReadChange E)) Fault
+changes_in edit part = optional (codes "changes") [] (changes_read_at edit (count_in (codes "devices") part)) part
 
--- the scenario of what was read: the edits of the events come after those of the change sets
-abbrev pub flat_scenario : List FlatState → List ReadChange → Rest FlatEdit → Scenario
-flat_scenario devices changes rest =
-    record { body = Flat devices (edits_of changes ++ edits_of_events rest.events); changes = plans_from 0 changes; operators = rest.operators; events = events_from rest.operators (length (edits_of changes)) 0 rest.events; selects = selects_of_events rest.events; drain = rest.drain; trace = rest.trace }
+-- the scenario of what is numbered, with these contents
+abbrev pub scenario_of : {E : Type 0} → (List E → Body) → Numbered E → Scenario
+scenario_of body n =
+    record { body = body n.edits; changes = n.changes; operators = n.operators; events = n.events; selects = n.selects; drain = n.drain; trace = n.trace }
+
+-- ---- flat contents
 
 -- a scenario of flat contents, after its head
 unfoldable pub flat_scenario_at : Data → Result Scenario Fault
 flat_scenario_at part = do
   modules ← optional (codes "modules") tt (empty_list_at (here kind.BadValue)) part
   devices ← required (codes "devices") devices_at part
-  changes ← optional (codes "changes") [] (changes_read_at (count_in (codes "devices") part)) part
+  changes ← changes_in flat_edit part
   rest ← rest_at flat_edit part
-  Ok (flat_scenario devices changes rest)
+  Ok (scenario_of (Flat devices) (numbered changes rest))
 
-abbrev pub is_flat : Body → Bool
-is_flat (Flat devices edits) = true
-is_flat (Yang modules schema devices) = false
-
--- ---- YANG contents: change sets and edits of data aren't built
+-- ---- YANG contents
 
 -- a fault of the module of a number, as a part of the whole
 abbrev pub at_module : {A : Type 0} → ℕ → Result A Fault
@@ -86,18 +85,13 @@ tree_from (Ok tree) = Ok tree
 tree_from (Err (Flawed flaw m place)) = at_module m
 tree_from (Err (TooLarge m place)) = at_module m
 
--- the scenario of what was read. No edit has been, so none has a number
-abbrev pub yang_scenario : List (List ℕ) → SchemaTree → List Rows → Rest (Unit {0}) → Scenario
-yang_scenario texts tree devices rest =
-    record { body = Yang texts tree devices; changes = []; operators = rest.operators; events = events_from rest.operators 0 0 rest.events; selects = selects_of_events rest.events; drain = rest.drain; trace = rest.trace }
-
 -- a scenario of YANG contents, after its head, by the tree of its modules
 unfoldable pub yang_rest_at : SchemaTree → List (List ℕ) → Data → Result Scenario Fault
 yang_rest_at tree texts part = do
   devices ← required (codes "devices") (yang_devices_at tree) part
-  changes ← optional (codes "changes") tt (empty_list_at (here kind.NotBuilt)) part
-  rest ← rest_at not_built part
-  Ok (yang_scenario texts tree devices rest)
+  changes ← changes_in (data_edit tree) part
+  rest ← rest_at (data_edit tree) part
+  Ok (scenario_of (Yang texts tree devices) (numbered changes rest))
 
 -- the same, by what its modules give
 unfoldable pub yang_scenario_at : Result SchemaTree SchemaFault → List (List ℕ) → Data → Result Scenario Fault
@@ -122,12 +116,6 @@ ReadsFrom whole (Ok (head.Yang modules)) outcome = ReadsYang whole modules outco
 -- a JSON value reads as this scenario, or this is its first fault
 abbrev pub Reads : Data → Result Scenario Fault → Type 0
 Reads whole outcome = ReadsFrom whole (head_at whole) outcome
-
--- the scenario of a JSON value where only flat contents are built, or its first fault
-unfoldable pub flat_whole_at : Data → Result Scenario Fault
-flat_whole_at part = do
-  front ← flat_head_at part
-  flat_scenario_at part
 
 -- ---- bytes
 
@@ -154,10 +142,6 @@ ReadsWhole (Ok whole) outcome = Reads whole outcome
 -- bytes read as this scenario, or this is their first fault
 abbrev pub ReadsBytes : List ℕ → Result Scenario Fault → Type 0
 ReadsBytes bytes outcome = ReadsWhole (whole_of bytes) outcome
-
--- the scenario of bytes where only flat contents are built, or their first fault
-abbrev pub flat_scenario_of : List ℕ → Result Scenario Fault
-flat_scenario_of bytes = whole_of bytes >>= flat_whole_at
 
 -- what is read so is answered, unless memory ran out
 abbrev pub Answers : (Result Scenario Fault → Type 0) → Result Scenario ReadError → Type 0

@@ -3,12 +3,11 @@ ghost use Rattle.nm_reading.specs.Reading.{number_within};
 ghost use Rattle.nm_events.specs.Limits.{device_limit};
 ghost use Rattle.nm_scenario.specs.Changes.{knows_change, knows_edit, last_device, device_within, entry_at, entries_at, change_at, changes_read_at};
 
-use crate::flat::FlatEdits;
 use crate::scenario::{ReadChange, ReadEdit};
 use nm_base::{DEFAULT_TIMEOUT, DeviceNo};
 use nm_events::Operation;
 use nm_events::limits::{CHANGE_LIMIT, DEVICE_LIMIT};
-use nm_form::ByForm;
+use nm_form::{ByForm, Reader as FormReader};
 use nm_proto::{DefaultOperation, Listed};
 use nm_reading::reader::{
     ItemReader, Names, Reader, fault_here, optional_member, read_list, read_object,
@@ -65,7 +64,7 @@ impl DeviceWithin {
     }
 }
 
-fn last_device(before: &Listed<ReadEdit>) -> u64
+fn last_device<E: Drop>(before: &Listed<ReadEdit<E>>) -> u64
     ensures value { result ≡ last_device before.now }
     ensures small { result ≤ 32 }
 {
@@ -77,22 +76,23 @@ fn last_device(before: &Listed<ReadEdit>) -> u64
 
 /// One edit of a change set, in a scenario of so many devices.
 #[derive(Drop)]
-struct Entry {
+struct Entry<'a, R> {
     devices: usize,
+    edits: &'a R,
 }
 
-impl ItemReader for Entry {
-    type Out = ReadEdit;
+impl<'a, R: FormReader> ItemReader for Entry<'a, R> {
+    type Out = ReadEdit<R::Out>;
 
-    ghost reads = { λ r. entry_at r.devices };
+    ghost reads = { λ r. entry_at (R.form r.edits.now) r.devices };
 
     #[tactic(auto, unfolding(crate::specs::Changes::entry_at))]
     fn read(
         &self,
         alloc: Global,
-        before: &Listed<ReadEdit>,
+        before: &Listed<ReadEdit<R::Out>>,
         part: &Value,
-    ) -> Result<ReadEdit, ReadError> {
+    ) -> Result<ReadEdit<R::Out>, ReadError> {
         read_object(alloc, part)?;
         let device = required_member(
             alloc,
@@ -110,7 +110,7 @@ impl ItemReader for Entry {
             DefaultOperation::Merge,
             &ByForm { reader: &Operation },
         )?;
-        let edit = required_member(alloc, part, "edit", &ByForm { reader: &FlatEdits })?;
+        let edit = required_member(alloc, part, "edit", &ByForm { reader: self.edits })?;
         read_only_known(alloc, part, &EditNames)?;
         Ok(ReadEdit {
             device,
@@ -122,19 +122,21 @@ impl ItemReader for Entry {
 
 /// The member `edits` of a change set.
 #[derive(Drop)]
-struct Edits {
+struct Edits<'a, R> {
     devices: usize,
+    edits: &'a R,
 }
 
-impl Reader for Edits {
-    type Out = Listed<ReadEdit>;
+impl<'a, R: FormReader> Reader for Edits<'a, R> {
+    type Out = Listed<ReadEdit<R::Out>>;
 
-    ghost reads = { λ r. entries_at r.devices };
+    ghost reads = { λ r. entries_at (R.form r.edits.now) r.devices };
 
     #[tactic(auto, unfolding(crate::specs::Changes::entries_at))]
-    fn read(&self, alloc: Global, part: &Value) -> Result<Listed<ReadEdit>, ReadError> {
+    fn read(&self, alloc: Global, part: &Value) -> Result<Listed<ReadEdit<R::Out>>, ReadError> {
         let entry = Entry {
             devices: self.devices,
+            edits: self.edits,
         };
         let edits = read_list(alloc, part, usize::MAX, &entry)?;
         at_least_one(alloc, edits)
@@ -172,26 +174,28 @@ impl Reader for Timeout {
 
 /// One element of the member `changes`.
 #[derive(Drop)]
-struct Change {
+struct Change<'a, R> {
     devices: usize,
+    edits: &'a R,
 }
 
-impl ItemReader for Change {
-    type Out = ReadChange;
+impl<'a, R: FormReader> ItemReader for Change<'a, R> {
+    type Out = ReadChange<R::Out>;
 
-    ghost reads = { λ r. change_at r.devices };
+    ghost reads = { λ r. change_at (R.form r.edits.now) r.devices };
 
     #[tactic(auto, unfolding(crate::specs::Changes::change_at))]
     fn read(
         &self,
         alloc: Global,
-        _before: &Listed<ReadChange>,
+        _before: &Listed<ReadChange<R::Out>>,
         part: &Value,
-    ) -> Result<ReadChange, ReadError> {
+    ) -> Result<ReadChange<R::Out>, ReadError> {
         read_object(alloc, part)?;
         let timeout = optional_member(alloc, part, "timeout", DEFAULT_TIMEOUT, &Timeout)?;
         let edits = Edits {
             devices: self.devices,
+            edits: self.edits,
         };
         let edits = required_member(alloc, part, "edits", &edits)?;
         read_only_known(alloc, part, &ChangeNames)?;
@@ -199,21 +203,23 @@ impl ItemReader for Change {
     }
 }
 
-/// The member `changes`, in a scenario of so many devices.
+/// The member `changes`, in a scenario of so many devices whose edits are read so.
 #[derive(Drop)]
-pub struct Changes {
+pub struct Changes<'a, R> {
     pub devices: usize,
+    pub edits: &'a R,
 }
 
-impl Reader for Changes {
-    type Out = Listed<ReadChange>;
+impl<'a, R: FormReader> Reader for Changes<'a, R> {
+    type Out = Listed<ReadChange<R::Out>>;
 
-    ghost reads = { λ r. changes_read_at r.devices };
+    ghost reads = { λ r. changes_read_at (R.form r.edits.now) r.devices };
 
     #[tactic(auto, unfolding(crate::specs::Changes::changes_read_at))]
-    fn read(&self, alloc: Global, part: &Value) -> Result<Listed<ReadChange>, ReadError> {
+    fn read(&self, alloc: Global, part: &Value) -> Result<Listed<ReadChange<R::Out>>, ReadError> {
         let change = Change {
             devices: self.devices,
+            edits: self.edits,
         };
         read_list(alloc, part, CHANGE_LIMIT, &change)
     }

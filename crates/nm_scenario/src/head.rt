@@ -4,7 +4,7 @@ ghost use Rattle.std.specs.Prelude.{◌≡◌, IfOk};
 ghost use Rattle.serde_json.specs.View.{view};
 ghost use Rattle.nm_yang.specs.Module.{reading};
 ghost use Rattle.nm_reading.specs.Reading.{Gives};
-ghost use Rattle.nm_scenario.specs.Head.{flat_contents_at, flat_head_at, flat_only, form_at, head_at, head_in, module_at, module_read, modules_at, statements_of, texts_of, yang_head_at};
+ghost use Rattle.nm_scenario.specs.Head.{form_at, head_at, head_in, module_at, module_read, modules_at, statements_of, texts_of, yang_head_at};
 
 use nm_base::{Label, NoMemory};
 use nm_proto::Listed;
@@ -146,41 +146,6 @@ fn read_modules(alloc: Global, whole: &Value) -> Result<Head, ReadError>
 {
     let modules = optional_member(alloc, whole, "modules", Listed::new(alloc), &Modules)?;
     Ok(Head::Yang { modules })
-}
-
-/// The member `contents` where only flat contents are built.
-#[derive(Drop)]
-struct FlatWord;
-
-impl Reader for FlatWord {
-    type Out = ();
-
-    ghost reads = { λ _. flat_contents_at };
-
-    #[tactic(auto, unfolding(crate::specs::Head::flat_contents_at))]
-    fn read(&self, alloc: Global, part: &Value) -> Result<(), ReadError> {
-        let form = FormWord.read(alloc, part)?;
-        only_flat(alloc, form)
-    }
-}
-
-fn only_flat(alloc: Global, form: Form) -> Result<(), ReadError>
-    ensures { Gives result (flat_only form) }
-{
-    match form {
-        Form::Flat => Ok(()),
-        Form::Yang => fault_here(alloc, ScenarioKind::NotBuilt),
-    }
-}
-
-/// What comes first in a scenario where only flat contents are built.
-#[tactic(auto, unfolding(crate::specs::Head::flat_head_at))]
-pub fn read_flat_head(alloc: Global, whole: &Value) -> Result<(), ReadError>
-    ensures { Gives result (flat_head_at (view whole.now)) }
-{
-    read_object(alloc, whole)?;
-    required_member(alloc, whole, "netm", &NumberWithin { low: 1, high: 1 })?;
-    required_member(alloc, whole, "contents", &FlatWord)
 }
 
 /// The texts of modules, and their statements.

@@ -2,12 +2,12 @@
 //! place.
 //!
 //! Stands on the messages and the flat contents of `nm_proto`, on `nm_reading` and `nm_events`, which read the parts of JSON
-//! values and events, and for YANG contents on `nm_yang`, `nm_schema` and `nm_json`. The layer above relies on
-//! `read_scenario`, which answers what `specs/Scenario.antt` reads of the bytes, and on `read_flat_scenario`, which is the
-//! same where only flat contents are built.
+//! values and events, and for YANG contents on `nm_yang`, `nm_schema`, `nm_json`, `nm_edit_json` and `nm_check`. The layer
+//! above relies on `read_scenario`, which answers what `specs/Scenario.antt` reads of the bytes.
 #![tactic(auto)]
 
 mod changes;
+mod data;
 mod devices;
 mod flat;
 mod flat_scenario;
@@ -23,5 +23,5 @@ mod tests;
 mod yang;
 
 pub use nm_reading::{Fault, ReadError, ScenarioKind, Step};
-pub use read::{BYTE_LIMIT, read_flat_scenario, read_scenario};
+pub use read::{BYTE_LIMIT, read_scenario};
 pub use scenario::{Body, Scenario};

@@ -1,14 +1,14 @@
 //! Reading the scenario of bytes.
 
-ghost use Rattle.std.specs.Prelude.{◌≡◌, IfOk, IsTrue, Ok, Err};
+ghost use Rattle.std.specs.Prelude.{◌≡◌, IfOk, Ok, Err};
 ghost use Rattle.serde_json.specs.View.{view};
 ghost use Rattle.nm_reading.specs.declared.fault.Fault.{Fault as Told};
 ghost use Rattle.nm_reading.specs.declared.fault.ReadError.TheVariants.{Bad};
 ghost use Rattle.nm_reading.specs.Reading.{Gives};
-ghost use Rattle.nm_scenario.specs.Scenario.{Answers, Reads, ReadsBytes, flat_scenario_of, flat_whole_at, is_flat, json_of, parsed, whole_of};
+ghost use Rattle.nm_scenario.specs.Scenario.{Answers, Reads, ReadsBytes, json_of, parsed, whole_of};
 
 use crate::flat_scenario::read_flat;
-use crate::head::{Head, read_flat_head, read_head};
+use crate::head::{Head, read_head};
 use crate::scenario::Scenario;
 use crate::yang::read_yang;
 use nm_reading::reader::fault_here;
@@ -23,24 +23,12 @@ pub const BYTE_LIMIT: usize = 16_777_216;
 ///
 /// The bytes are one JSON object (RFC 8259), nested at most 127 deep. Where an object has a name twice, its last
 /// value stands. Of YANG contents all module texts are read (RFC 7950 section 6) before the modules give a schema tree, by
-/// which the configurations of the devices are read (RFC 7951).
+/// which the configurations of the devices and all edits are read (RFC 7951).
 pub fn read_scenario(alloc: Global, bytes: &[u8]) -> Result<Scenario, ReadError>
     ensures read { Answers (ReadsBytes bytes.now) result }
 {
     match parse(alloc, bytes) {
         Ok(whole) => read_whole(alloc, &whole),
-        Err(error) => Err(error),
-    }
-}
-
-/// The scenario of bytes where only flat contents are built, or the first fault met with its kind and its place: YANG
-/// contents are told at the member `contents`.
-pub fn read_flat_scenario(alloc: Global, bytes: &[u8]) -> Result<Scenario, ReadError>
-    ensures read { Gives result (flat_scenario_of bytes.now) }
-    ensures flat { IfOk result (λ scenario. IsTrue (is_flat scenario.body)) }
-{
-    match parse(alloc, bytes) {
-        Ok(whole) => read_flat_whole(alloc, &whole),
         Err(error) => Err(error),
     }
 }
@@ -78,14 +66,4 @@ fn read_whole(alloc: Global, whole: &Value) -> Result<Scenario, ReadError>
         Ok(Head::Yang { modules }) => read_yang(alloc, whole, modules),
         Err(error) => Err(error),
     }
-}
-
-// The scenario of a JSON value where only flat contents are built.
-#[tactic(auto, unfolding(crate::specs::Scenario::flat_whole_at))]
-fn read_flat_whole(alloc: Global, whole: &Value) -> Result<Scenario, ReadError>
-    ensures value { Gives result (flat_whole_at (view whole.now)) }
-    ensures flat { IfOk result (λ scenario. IsTrue (is_flat scenario.body)) }
-{
-    read_flat_head(alloc, whole)?;
-    read_flat(alloc, whole)
 }

@@ -1,12 +1,14 @@
-//! The members that both contents have after the change sets.
+//! The members that both contents have: the change sets and what comes after them.
 
 ghost use Rattle.std.specs.Prelude.{◌≡◌};
 ghost use Rattle.serde_json.specs.View.{view};
 ghost use Rattle.nm_reading.specs.Reading.{Gives};
 ghost use Rattle.nm_scenario.specs.Counts.{count_in, counts_of};
-ghost use Rattle.nm_scenario.specs.Scenario.{knows_scenario, rest_at};
+ghost use Rattle.nm_scenario.specs.Scenario.{changes_in, knows_scenario, rest_at};
 
+use crate::changes::Changes;
 use crate::operators::Operators;
+use crate::scenario::ReadChange;
 use nm_base::Label;
 use nm_events::{Counts, Events, ReadEvent};
 use nm_form::{ByForm, Reader};
@@ -48,8 +50,8 @@ impl Names for ScenarioNames {
     }
 }
 
-/// How many items a member has.
-pub fn count_in(whole: &Value, name: &str) -> usize
+// How many items a member has.
+fn count_in(whole: &Value, name: &str) -> usize
     ensures { result ≡ count_in name.now (view whole.now) }
 {
     match whole.get(name) {
@@ -67,6 +69,21 @@ fn counts_of(whole: &Value) -> Counts
         devices: count_in(whole, "devices"),
         operators: count_in(whole, "operators"),
     }
+}
+
+/// The change sets of a scenario whose edits are read so.
+pub fn read_changes<R: Reader>(
+    alloc: Global,
+    whole: &Value,
+    edits: &R,
+) -> Result<Listed<ReadChange<R::Out>>, ReadError>
+    ensures { Gives result (changes_in (R.form edits.now) (view whole.now)) }
+{
+    let reader = Changes {
+        devices: count_in(whole, "devices"),
+        edits,
+    };
+    optional_member(alloc, whole, "changes", Listed::new(alloc), &reader)
 }
 
 /// The members after the change sets, of a scenario whose edits are read so.

@@ -2,8 +2,9 @@
 
 use nm_base::{DeviceNo, Label};
 use nm_config::Config;
+use nm_content::YangContent;
+use nm_edit::Edit;
 use nm_proto::{ChangePlan, DefaultOperation, Event, FlatConfig, FlatEdit, Listed};
-use nm_tree::Schema;
 
 /// What a scenario holds.
 #[derive(Drop)]
@@ -34,28 +35,30 @@ pub enum Body {
         /// The edits of the change sets and then those of the events, numbered from 0 by `EditNo`.
         edits: Listed<FlatEdit>,
     },
-    /// Data of YANG modules (RFC 7950). No edit of it is read yet.
+    /// Data of YANG modules (RFC 7950).
     Yang {
         /// The texts of the modules, in their order.
         modules: Listed<Label>,
-        /// The tree of the modules.
-        schema: Schema,
+        /// The content of the modules' tree.
+        content: YangContent,
         /// The running configuration of each device; the first is device 1.
         devices: Listed<Config>,
+        /// The edits of the change sets and then those of the events, numbered from 0 by `EditNo`.
+        edits: Listed<Edit>,
     },
 }
 
 /// A change set as it was read, before its edits have numbers.
 #[derive(Drop)]
-pub struct ReadChange {
+pub struct ReadChange<E> {
     pub timeout: u32,
-    pub edits: Listed<ReadEdit>,
+    pub edits: Listed<ReadEdit<E>>,
 }
 
 /// One edit of a change set as it was read.
 #[derive(Drop)]
-pub struct ReadEdit {
+pub struct ReadEdit<E> {
     pub device: DeviceNo,
     pub default_operation: DefaultOperation,
-    pub edit: FlatEdit,
+    pub edit: E,
 }

@@ -1,5 +1,5 @@
 use super::*;
-use crate::head::{Head, parts_of, read_flat_head, read_head};
+use crate::head::{Head, parts_of, read_head};
 use nm_base::{DeviceNo, EditNo, Label};
 use nm_proto::{DefaultOperation, Event, PlannedEdit, Request};
 use nm_reading::write_place;
@@ -7,8 +7,8 @@ use serde_json::Value;
 use std::alloc::Global;
 use std::test::Fail;
 
-/// A scenario, what is told of it, and what is told where only flat contents are built.
-struct Case(&'static str, &'static str, &'static str);
+/// A scenario, and what is told of it.
+struct Case(&'static str, &'static str);
 
 // `read`, or the first fault as `bad-value /changes/0`.
 fn told(alloc: Global, read: Result<Scenario, ReadError>) -> Result<Vec<u8>, Fail> {
@@ -28,99 +28,93 @@ fn fault_text(alloc: Global, fault: &Fault) -> Result<Vec<u8>, Fail> {
 
 // A fault of each part, in the order in which they are looked at. The faults of a whole program's input stand in the tests
 // of the crate `netm`.
-static CASES: [Case; 19] = [
-    Case("{", "not-json /", "not-json /"),
-    Case("[]", "bad-value /", "bad-value /"),
-    Case("{}", "missing /netm", "missing /netm"),
+static CASES: [Case; 22] = [
+    Case("{", "not-json /"),
+    Case("[]", "bad-value /"),
+    Case("{}", "missing /netm"),
     Case(
         r#"{"netm":1,"contents":"flat","modules":[7]}"#,
-        "bad-value /modules",
         "bad-value /modules",
     ),
     Case(
         r#"{"netm":1,"contents":"flat","devices":[{"running":{"07":1}}]}"#,
         "content /devices/0/running",
-        "content /devices/0/running",
     ),
     Case(
         r#"{"netm":1,"contents":"flat","devices":[{"running":{"7":1000001}}]}"#,
-        "invalid /devices/0/running",
         "invalid /devices/0/running",
     ),
     Case(
         r#"{"netm":1,"contents":"flat","devices":[{"running":{},"a/b":1}]}"#,
         "unknown /devices/0/a~1b",
-        "unknown /devices/0/a~1b",
     ),
     Case(
         r#"{"netm":1,"contents":"flat","devices":[{"running":{}}],"changes":[{"timeout":0}]}"#,
-        "bad-value /changes/0/timeout",
         "bad-value /changes/0/timeout",
     ),
     Case(
         r#"{"netm":1,"contents":"flat","devices":[{"running":{}}],"operators":[{"user":"netm"}]}"#,
         "bad-value /operators/0/user",
-        "bad-value /operators/0/user",
     ),
     Case(
         r#"{"netm":1,"contents":"flat","devices":[{"running":{}}],"changes":[{"edits":[{"device":2}]}]}"#,
-        "bad-value /changes/0/edits/0/device",
         "bad-value /changes/0/edits/0/device",
     ),
     Case(
         r#"{"netm":1,"contents":"flat","devices":[{"running":{}}],"faults":[7]}"#,
         "not-built /faults",
-        "not-built /faults",
     ),
     Case(
         r#"{"netm":1,"contents":"flat","devices":[{"running":{}}],"events":[["crash",1]]}"#,
-        "bad-value /events/0",
         "bad-value /events/0",
     ),
     Case(
         r#"{"netm":1,"contents":"flat","devices":[{"running":{}}],"drain":1}"#,
         "bad-value /drain",
-        "bad-value /drain",
     ),
     Case(
         r#"{"netm":1,"contents":"flat","devices":[{"running":{}}]}"#,
-        "read",
         "read",
     ),
     Case(
         r#"{"netm":1,"contents":"yang","modules":["x"]}"#,
         "yang /modules/0",
-        "not-built /contents",
     ),
     Case(
         r#"{"netm":1,"contents":"yang","modules":["module a {namespace 'u:a';prefix a;}","module b {}"]}"#,
         "schema /modules/1",
-        "not-built /contents",
     ),
     Case(
         r#"{"netm":1,"contents":"yang","devices":[{"running":{"a:b":1}}]}"#,
         "content /devices/0/running",
-        "not-built /contents",
     ),
     Case(
         r#"{"netm":1,"contents":"yang","devices":[{"running":{}}],"changes":[7]}"#,
-        "not-built /changes",
-        "not-built /contents",
+        "bad-value /changes/0",
+    ),
+    Case(
+        r#"{"netm":1,"contents":"yang","modules":["module m {namespace 'u:m';prefix m;leaf a {type uint8;mandatory true;}}"],"devices":[{"running":{}}]}"#,
+        "invalid /devices/0/running",
+    ),
+    Case(
+        r#"{"netm":1,"contents":"yang","devices":[{"running":{"netm-marker:changes":{"applied":[{"change":1}]}}}]}"#,
+        "invalid /devices/0/running",
+    ),
+    Case(
+        r#"{"netm":1,"contents":"yang","devices":[{"running":{}}],"changes":[{"edits":[{"device":1,"edit":{"m:a":1}}]}]}"#,
+        "content /changes/0/edits/0/edit",
     ),
     Case(
         r#"{"netm":1,"contents":"yang","devices":[{"running":{}}]}"#,
         "read",
-        "not-built /contents",
     ),
 ];
 
 #[test]
 fn faults_are_told(rt: HostRuntime) -> Result<(), Fail> {
-    for Case(text, any, flat) in &CASES {
+    for Case(text, want) in &CASES {
         let found = told(rt.alloc(), read_scenario(rt.alloc(), text.as_bytes()))?;
-        assert_eq!(rt; found.as_slice(), any.as_bytes(), "{text}");
-        let found = told(rt.alloc(), read_flat_scenario(rt.alloc(), text.as_bytes()))?;
-        assert_eq!(rt; found.as_slice(), flat.as_bytes(), "{text}");
+        assert_eq!(rt; found.as_slice(), want.as_bytes(), "{text}");
     }
     Ok(())
 }
@@ -141,7 +135,7 @@ fn planned(number: u32) -> Option<PlannedEdit> {
 // Operators and what happens to devices may stand beside change sets.
 #[test]
 fn change_sets_are_read(rt: HostRuntime) -> Result<(), Fail> {
-    let Ok(scenario) = read_flat_scenario(rt.alloc(), CHANGED.as_bytes()) else {
+    let Ok(scenario) = read_scenario(rt.alloc(), CHANGED.as_bytes()) else {
         return Err(Fail::new("refused"));
     };
     let first = scenario.changes.get(0).ok_or("change set 1")?;
@@ -158,11 +152,11 @@ fn change_sets_are_read(rt: HostRuntime) -> Result<(), Fail> {
 // A world is brought to rest where that is asked for.
 #[test]
 fn drain_is_read(rt: HostRuntime) -> Result<(), Fail> {
-    let Ok(asked) = read_flat_scenario(rt.alloc(), CHANGED.as_bytes()) else {
+    let Ok(asked) = read_scenario(rt.alloc(), CHANGED.as_bytes()) else {
         return Err(Fail::new("refused"));
     };
     assert!(rt; asked.drain && !asked.trace);
-    let Ok(unasked) = read_flat_scenario(rt.alloc(), OPERATED.as_bytes()) else {
+    let Ok(unasked) = read_scenario(rt.alloc(), OPERATED.as_bytes()) else {
         return Err(Fail::new("refused"));
     };
     assert!(rt; !unasked.drain);
@@ -182,7 +176,7 @@ fn asks(event: &Event, want: &Request) -> bool {
 // The user of a session is that of the operator who opens it.
 #[test]
 fn requests_are_read(rt: HostRuntime) -> Result<(), Fail> {
-    let Ok(scenario) = read_flat_scenario(rt.alloc(), OPERATED.as_bytes()) else {
+    let Ok(scenario) = read_scenario(rt.alloc(), OPERATED.as_bytes()) else {
         return Err(Fail::new("refused"));
     };
     let user = Label::new(rt.alloc(), "bob")?;
@@ -192,16 +186,21 @@ fn requests_are_read(rt: HostRuntime) -> Result<(), Fail> {
 }
 
 const YANG: &str =
-    r#"{"netm":1,"contents":"yang","modules":["module l {namespace 'u:l';prefix l;leaf-list n {type uint32;}}","module m {namespace 'u:m';prefix m;}"],"devices":[{"running":{}},{"running":{"l:n":[3,2,1]}}]}"#;
+    r#"{"netm":1,"contents":"yang","modules":["module l {namespace 'u:l';prefix l;leaf-list n {type uint32;}}","module m {namespace 'u:m';prefix m;}"],"devices":[{"running":{}},{"running":{"l:n":[3,2,1]}}],"changes":[{"edits":[{"device":1,"default":"replace","edit":{"l:n":[4,5]}}]}],"operators":[{"user":"ann"}],"events":[["foreign",1,2,["edit",{"edit":{"l:n":[3],"@l:n":[{"ietf-netconf:operation":"delete"}]}}]]]}"#;
 
-// How many modules there are, and how many rows the second device has.
-fn counts(scenario: &Scenario) -> Option<(usize, usize)> {
+// How many modules there are, how many rows the second device has, and how many nodes each edit: that of the change set first.
+fn counts(scenario: &Scenario) -> Option<(usize, usize, usize, usize)> {
     match &scenario.body {
         Body::Yang {
             modules,
             devices,
+            edits,
             ..
-        } => Some((modules.len(), devices.get(1)?.len())),
+        } => {
+            let change_set = edits.get(0)?.nodes.len();
+            let event = edits.get(1)?.nodes.len();
+            Some((modules.len(), devices.get(1)?.len(), change_set, event))
+        }
         Body::Flat { .. } => None,
     }
 }
@@ -211,7 +210,15 @@ fn yang_contents_are_read(rt: HostRuntime) -> Result<(), Fail> {
     let Ok(scenario) = read_scenario(rt.alloc(), YANG.as_bytes()) else {
         return Err(Fail::new("refused"));
     };
-    assert_eq!(rt; counts(&scenario), Some((2, 3)));
+    assert!(rt; counts(&scenario) == Some((2, 3, 2, 1)));
+    let planned = scenario
+        .changes
+        .get(0)
+        .ok_or("change set 1")?
+        .edits
+        .get(0)
+        .ok_or("edit")?;
+    assert!(rt; planned.default_operation == DefaultOperation::Replace);
     Ok(())
 }
 
@@ -240,6 +247,5 @@ fn heads_are_read(rt: HostRuntime) -> Result<(), Fail> {
 fn flat_heads_are_read(rt: HostRuntime) -> Result<(), Fail> {
     let whole = parsed(rt.alloc(), CHANGED)?;
     assert!(rt; matches!(read_head(rt.alloc(), &whole), Ok(Head::Flat)));
-    assert!(rt; read_flat_head(rt.alloc(), &whole).is_ok());
     Ok(())
 }

@@ -1,68 +1,43 @@
 //! A scenario of YANG contents, after its head.
 
-ghost use Rattle.std.specs.Prelude.{◌≡◌, IfOk, Ok};
 ghost use Rattle.serde_json.specs.View.{view};
 ghost use Rattle.nm_reading.specs.Reading.{Gives};
-ghost use Rattle.nm_scenario.specs.Devices.{data_at, yang_device_at, yang_devices_at};
-ghost use Rattle.nm_scenario.specs.Scenario.{Answers, ReadsYang, at_module, yang_rest_at, yang_scenario};
+ghost use Rattle.nm_scenario.specs.Yang.{yang_device_at, yang_devices_at};
+ghost use Rattle.nm_scenario.specs.Scenario.{Answers, ReadsYang, at_module, yang_rest_at};
 
+use crate::data::{DataEdits, Running};
 use crate::devices::DeviceNames;
 use crate::head::{ModuleParts, ReadModule, parts_of};
-use crate::rest::{Rest, read_rest};
+use crate::numbering::{Numbered, number_all};
+use crate::rest::{read_changes, read_rest};
 use crate::scenario::{Body, Scenario};
-use nm_base::{Label, NoMemory};
+use nm_base::Label;
 use nm_config::Config;
+use nm_content::{YangContent, yang_content};
 use nm_events::limits::DEVICE_LIMIT;
-use nm_events::with_event_numbers;
-use nm_form::Unbuilt;
-use nm_json::{JsonFault, config_of};
 use nm_proto::Listed;
 use nm_reading::reader::{
-    ItemReader, Reader, fault_at, fault_here, optional_member, read_list, read_object,
-    read_only_known, required_member, seen_from_outside,
+    ItemReader, Reader, fault_at, read_list, read_object, read_only_known, required_member,
+    seen_from_outside,
 };
-use nm_reading::values::{EmptyList, at_least_one};
+use nm_reading::values::at_least_one;
 use nm_reading::{ReadError, ScenarioKind, Step};
 use nm_schema::{SchemaFault, build};
-use nm_tree::Schema;
 use serde_json::Value;
 use std::alloc::Global;
-
-/// The member `running` of a device: data by a schema.
-#[derive(Drop)]
-struct Running<'a> {
-    schema: &'a Schema,
-}
-
-impl<'a> Reader for Running<'a> {
-    type Out = Config;
-
-    ghost reads = { λ r. data_at r.schema.now };
-
-    #[tactic(auto, unfolding(crate::specs::Devices::data_at))]
-    fn read(&self, alloc: Global, part: &Value) -> Result<Config, ReadError> {
-        match config_of(alloc, self.schema, part) {
-            Ok(config) => Ok(config),
-            Err(JsonFault::TooManyRows) => fault_here(alloc, ScenarioKind::TooMany),
-            Err(JsonFault::NoMemory) => Err(ReadError::NoMemory),
-            Err(JsonFault::Bad { .. }) => fault_here(alloc, ScenarioKind::Content),
-            Err(JsonFault::NotJson) => fault_here(alloc, ScenarioKind::Content),
-        }
-    }
-}
 
 /// One element of the member `devices`.
 #[derive(Drop)]
 struct Device<'a> {
-    schema: &'a Schema,
+    content: &'a YangContent,
 }
 
 impl<'a> ItemReader for Device<'a> {
     type Out = Config;
 
-    ghost reads = { λ r. yang_device_at r.schema.now };
+    ghost reads = { λ r. yang_device_at r.content.now };
 
-    #[tactic(auto, unfolding(crate::specs::Devices::yang_device_at))]
+    #[tactic(auto, unfolding(crate::specs::Yang::yang_device_at))]
     fn read(
         &self,
         alloc: Global,
@@ -71,7 +46,7 @@ impl<'a> ItemReader for Device<'a> {
     ) -> Result<Config, ReadError> {
         read_object(alloc, part)?;
         let reader = Running {
-            schema: self.schema,
+            content: self.content,
         };
         let running = required_member(alloc, part, "running", &reader)?;
         read_only_known(alloc, part, &DeviceNames)?;
@@ -82,18 +57,18 @@ impl<'a> ItemReader for Device<'a> {
 /// The member `devices`.
 #[derive(Drop)]
 struct Devices<'a> {
-    schema: &'a Schema,
+    content: &'a YangContent,
 }
 
 impl<'a> Reader for Devices<'a> {
     type Out = Listed<Config>;
 
-    ghost reads = { λ r. yang_devices_at r.schema.now };
+    ghost reads = { λ r. yang_devices_at r.content.now };
 
-    #[tactic(auto, unfolding(crate::specs::Devices::yang_devices_at))]
+    #[tactic(auto, unfolding(crate::specs::Yang::yang_devices_at))]
     fn read(&self, alloc: Global, part: &Value) -> Result<Listed<Config>, ReadError> {
         let device = Device {
-            schema: self.schema,
+            content: self.content,
         };
         let devices = read_list(alloc, part, DEVICE_LIMIT, &device)?;
         at_least_one(alloc, devices)
@@ -110,7 +85,7 @@ pub fn read_yang(
 {
     let ModuleParts { texts, statements } = parts_of(alloc, modules)?;
     match build(alloc, statements.as_slice()) {
-        Ok(schema) => read_built(alloc, whole, texts, schema),
+        Ok(schema) => read_built(alloc, whole, texts, yang_content(alloc, schema)),
         Err(SchemaFault::Flawed { module: number, .. }) => fault_in(alloc, number),
         Err(SchemaFault::TooLarge { module: number, .. }) => fault_in(alloc, number),
         Err(SchemaFault::NoMemory) => Err(ReadError::NoMemory),
@@ -135,44 +110,32 @@ fn read_built(
     alloc: Global,
     whole: &Value,
     texts: Listed<Label>,
-    schema: Schema,
+    content: YangContent,
 ) -> Result<Scenario, ReadError>
-    ensures { Gives result (yang_rest_at schema texts (view whole.now)) }
+    ensures { Gives result (yang_rest_at content texts (view whole.now)) }
 {
-    let devices = required_member(alloc, whole, "devices", &Devices { schema: &schema })?;
-    let none = EmptyList {
-        otherwise: ScenarioKind::NotBuilt,
-    };
-    optional_member(alloc, whole, "changes", (), &none)?;
-    let rest = read_rest(alloc, whole, &Unbuilt)?;
-    Ok(put_together(alloc, texts, schema, devices, rest)?)
-}
-
-fn put_together(
-    alloc: Global,
-    modules: Listed<Label>,
-    schema: Schema,
-    devices: Listed<Config>,
-    rest: Rest<()>,
-) -> Result<Scenario, NoMemory>
-    ensures { IfOk result (λ scenario. scenario ≡ yang_scenario modules schema devices rest) }
-{
-    let mut edits = Listed::new(alloc);
-    let Rest {
+    let reader = Devices { content: &content };
+    let devices = required_member(alloc, whole, "devices", &reader)?;
+    let reader = DataEdits { content: &content };
+    let changes = read_changes(alloc, whole, &reader)?;
+    let rest = read_rest(alloc, whole, &reader)?;
+    let Numbered {
+        edits,
+        changes,
         operators,
         events,
+        selects,
         drain,
         trace,
-    } = rest;
-    let mut selects = Listed::new(alloc);
-    let events = with_event_numbers(alloc, &operators, events, &mut edits, &mut selects)?;
+    } = number_all(alloc, changes, rest)?;
     Ok(Scenario {
         body: Body::Yang {
-            modules,
-            schema,
+            modules: texts,
+            content,
             devices,
+            edits,
         },
-        changes: Listed::new(alloc),
+        changes,
         operators,
         events,
         selects,

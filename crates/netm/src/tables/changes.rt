@@ -290,17 +290,17 @@ static ENTRIES: [Row; 33] = [
     Row(
         "replace",
         r#"{"device":1,"default":"replace","edit":{}}"#,
-        "scenario not-built /changes/0/edits/0/default",
+        "changes 1 operators 0 events 0",
     ),
     Row(
         "replace before edit",
         r#"{"device":1,"default":"replace"}"#,
-        "scenario not-built /changes/0/edits/0/default",
+        "scenario missing /changes/0/edits/0/edit",
     ),
     Row(
         "none before edit",
         r#"{"device":1,"default":"none","edit":7,"a":1}"#,
-        "scenario not-built /changes/0/edits/0/default",
+        "scenario content /changes/0/edits/0/edit",
     ),
     Row(
         "create",

@@ -11,7 +11,6 @@ static WHOLE: Frame = Frame {
     tail: "differ none\nunsettled none\n",
 };
 
-// YANG contents aren't run, whatever else they are.
 static WHOLES: [Row; 16] = [
     Row("nothing", "", "scenario not-json /"),
     Row("a list", "[]", "scenario bad-value /"),
@@ -34,22 +33,22 @@ static WHOLES: [Row; 16] = [
     Row(
         "YANG contents",
         r#"{"netm":1,"contents":"yang","devices":[{"running":{}}]}"#,
-        "scenario not-built /contents",
+        "running 1 {}\n",
     ),
     Row(
         "YANG contents without devices",
         r#"{"netm":1,"contents":"yang"}"#,
-        "scenario not-built /contents",
+        "scenario missing /devices",
     ),
     Row(
         "YANG contents with bad modules",
         r#"{"netm":1,"contents":"yang","modules":["x",7]}"#,
-        "scenario not-built /contents",
+        "scenario yang /modules/0",
     ),
     Row(
         "YANG contents with others",
         r#"{"a":1,"netm":1,"contents":"yang"}"#,
-        "scenario not-built /contents",
+        "scenario missing /devices",
     ),
     Row(
         "no devices",

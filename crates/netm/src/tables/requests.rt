@@ -223,24 +223,24 @@ static EDITS: [Row; 29] = [
         "scenario missing /events/0/3/1/edit",
     ),
     Row(
-        "replace",
-        r#"["edit",{"default":"replace","edit":{}}]"#,
-        "scenario not-built /events/0/3/1/default",
+        "replace by what is no change",
+        r#"["edit",{"default":"replace","edit":{"7":"8"}}]"#,
+        "scenario content /events/0/3/1/edit",
     ),
     Row(
         "replace alone",
         r#"["edit",{"default":"replace"}]"#,
-        "scenario not-built /events/0/3/1/default",
+        "scenario missing /events/0/3/1/edit",
     ),
     Row(
         "none before content",
         r#"["edit",{"default":"none","edit":7}]"#,
-        "scenario not-built /events/0/3/1/default",
+        "scenario content /events/0/3/1/edit",
     ),
     Row(
         "none before others",
         r#"["edit",{"default":"none","edit":{},"a":1}]"#,
-        "scenario not-built /events/0/3/1/default",
+        "scenario unknown /events/0/3/1/a",
     ),
     Row(
         "create",

@@ -11,24 +11,24 @@ static MEMBERS: Frame = Frame {
     tail: "\n",
 };
 
-// Change sets and edits aren't built; all other members are read as those of flat contents are.
+// The members are read as those of flat contents are.
 static AFTER_DEVICES: [Row; 37] = [
     Row("nothing more", "", "1 events 0"),
     Row("no change sets", r#","changes":[]"#, "1 events 0"),
     Row(
-        "a change set",
-        r#","changes":[{"edits":[{"device":1,"edit":{}}]}]"#,
-        "scenario not-built /changes",
+        "a change set whose edit names nothing that there is",
+        r#","changes":[{"edits":[{"device":1,"edit":{"m:a":1}}]}]"#,
+        "scenario content /changes/0/edits/0/edit",
     ),
     Row(
         "a change set that is none",
         r#","changes":[7]"#,
-        "scenario not-built /changes",
+        "scenario bad-value /changes/0",
     ),
     Row(
         "two change sets",
         r#","changes":[{},{}]"#,
-        "scenario not-built /changes",
+        "scenario missing /changes/0/edits",
     ),
     Row(
         "changes an object",
@@ -43,7 +43,7 @@ static AFTER_DEVICES: [Row; 37] = [
     Row(
         "change sets before operators",
         r#","changes":[7],"operators":7"#,
-        "scenario not-built /changes",
+        "scenario bad-value /changes/0",
     ),
     Row("no operators", r#","operators":[]"#, "0 events 0"),
     Row(
@@ -106,12 +106,12 @@ static AFTER_DEVICES: [Row; 37] = [
     Row(
         "an edit",
         r#","events":[["foreign",1,1,["edit",{"edit":{}}]]]"#,
-        "scenario not-built /events/0/3/1/edit",
+        "1 events 1",
     ),
     Row(
         "an edit that is none",
         r#","events":[["foreign",1,1,["edit",{"edit":7,"a":1}]]]"#,
-        "scenario not-built /events/0/3/1/edit",
+        "scenario content /events/0/3/1/edit",
     ),
     Row(
         "no edit",
@@ -119,9 +119,9 @@ static AFTER_DEVICES: [Row; 37] = [
         "scenario missing /events/0/3/1/edit",
     ),
     Row(
-        "default before the edit",
+        "default none",
         r#","events":[["foreign",1,1,["edit",{"default":"none","edit":{}}]]]"#,
-        "scenario not-built /events/0/3/1/default",
+        "1 events 1",
     ),
     Row(
         "a bad default",
@@ -382,8 +382,8 @@ static FORMS: [Row; 40] = [
     ),
     Row(
         "a name with its module",
-        r#"{"ex:sys":{"ex:uplink":"a"}}"#,
-        "1",
+        r#"{"ex:sys":{"ex:uplink":"a","iface":[{"name":"a"}]}}"#,
+        "2",
     ),
     Row(
         "a name of another module",
@@ -398,7 +398,7 @@ static FORMS: [Row; 40] = [
     Row(
         "a reference to nothing",
         r#"{"ex:sys":{"uplink":"eth9"}}"#,
-        "1",
+        "scenario invalid /devices/0/running",
     ),
     Row(
         "a reference that its target can't be",
@@ -425,7 +425,7 @@ static FORMS: [Row; 40] = [
     Row(
         "two with one address",
         r#"{"ex:sys":{"iface":[{"name":"a","address":"x"},{"name":"b","address":"x"}]}}"#,
-        "4",
+        "scenario invalid /devices/0/running",
     ),
     Row(
         "an entry twice",
@@ -511,17 +511,17 @@ fn forms(rt: HostRuntime) -> Result<(), Fail> {
     all_answer(rt.alloc(), &DATA, &FORMS)
 }
 
-// The rows of the list of applied change sets aren't counted, and whether it may be there isn't looked at yet.
+// A running configuration holds no marks of change sets.
 static OTHERS: [Row; 10] = [
     Row(
         "a mark",
         r#"{"netm-marker:changes":{"applied":[{"change":1}]}}"#,
-        "0",
+        "scenario invalid /devices/0/running",
     ),
     Row(
         "a mark and an entry",
         r#"{"netm-marker:changes":{"applied":[{"change":64}]},"ex:sys":{"iface":[{"name":"a"}]}}"#,
-        "1",
+        "scenario invalid /devices/0/running",
     ),
     Row(
         "a mark that is a text",
@@ -555,7 +555,7 @@ static OTHERS: [Row; 10] = [
     ),
     Row(
         "a second device",
-        r#"{"ex:sys":{"uplink":"a"}}},{"running":{"ex:sys":{"on":{}}}"#,
+        r#"{"ex:sys":{"iface":[{"name":"a"}]}}},{"running":{"ex:sys":{"on":{}}}"#,
         "1\ndevice 2 rows 1",
     ),
     Row(

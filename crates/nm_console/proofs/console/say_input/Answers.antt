@@ -1,6 +1,7 @@
 use Rattle.std.proofs.Common.{subst, Some}
-use Rattle.nm_console.specs.Console.{TellsOver}
-use Rattle.nm_console.proofs.Crashes.{not_read}
+use Rattle.nm_disk.specs.Image.{AnyMoment}
+use Rattle.nm_console.specs.Console.{LeavesSoFarBy, TellsOver}
+use Rattle.nm_console.proofs.Crashes.{input_so, not_read}
 use Rattle.nm_console.proofs.Saying.{bytes_say}
 use Rattle.nm_console.proofs.console.say_input.Goals as goal
 
@@ -11,6 +12,11 @@ returns-in-Ok-say_bytes-clause-says g c =
     let after = g.D.Disk.told c.say_bytes.new.journal in
     bytes_say (record { left = g.S.Source.left c.args.input.now; stored = stored; after = after }) c.args.command c.in-Ok.bytes.items said.status said.text.items c.in-Ok.ensures.whole
     (subst (λ b. TellsOver (Some c.args.command) b stored after said.status said.text.items) c.as_slice.ensures.value c.in-Ok-say_bytes.ensures.told)
+
+pub returns-in-Ok-say_bytes-clause-any_moment : goal.returns-in-Ok-say_bytes-clause-any_moment
+returns-in-Ok-say_bytes-clause-any_moment g c = λ replays there empty.
+    input_so g.D.Disk.told g.D.Disk.may_leave g.D.Disk.moment g.D.Disk.might_have_left (g.S.Source.left c.args.input.now) c.in-Ok.bytes.items c.args.journal.now c.say_bytes.new.journal c.in-Ok.ensures.whole
+    (subst (λ b. AnyMoment g.D.Disk.moment g.D.Disk.might_have_left c.args.journal.now c.say_bytes.new.journal (LeavesSoFarBy b)) c.as_slice.ensures.value (c.say_bytes.ensures.any_moment replays there empty))
 
 pub returns-in-Ok-say_whole_fault-clause-any_moment : goal.returns-in-Ok-say_whole_fault-clause-any_moment
 returns-in-Ok-say_whole_fault-clause-any_moment g c = λ replays there empty.

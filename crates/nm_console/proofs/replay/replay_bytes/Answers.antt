@@ -1,16 +1,25 @@
-use Rattle.std.proofs.Common.{◌≡◌, Err, sym, subst}
-use Rattle.nm_reading.specs.Reading.{Gives}
+use Rattle.std.proofs.Common.{◌≡◌, Ok, Err, subst}
 use Rattle.nm_reading.specs.declared.fault.ReadError.TheVariants.{Bad}
-use Rattle.nm_scenario.specs.Scenario.{flat_scenario_of}
-use Rattle.nm_console.specs.Console.{TellsReplay}
-use Rattle.nm_console.proofs.Replays.{fault_replays}
+use Rattle.nm_scenario.specs.Scenario.{Answers, ReadsBytes}
+use Rattle.nm_console.proofs.Crashes.{not_led, read_so}
+use Rattle.nm_console.proofs.Replays.{fault_told, read_told}
 use Rattle.nm_console.proofs.replay.replay_bytes.Goals as goal
+
+pub returns-in-Ok-clause-told : goal.returns-in-Ok-clause-told
+returns-in-Ok-clause-told g c =
+    let is : c.read_scenario.result ≡ Ok c.in-Ok.scenario = cc in
+    read_told c.args.bytes.now (Ok c.in-Ok.scenario) (g.D.Disk.told c.args.disk.now) (g.D.Disk.told c.say_scenario.new.disk) c.say_scenario.result
+    (subst (Answers (ReadsBytes c.args.bytes.now)) is c.read_scenario.ensures.read) c.say_scenario.ensures.told
+
+pub returns-in-Ok-clause-any_moment : goal.returns-in-Ok-clause-any_moment
+returns-in-Ok-clause-any_moment g c = λ there empty.
+    let is : c.read_scenario.result ≡ Ok c.in-Ok.scenario = cc in
+    read_so g.D.Disk.told g.D.Disk.may_leave g.D.Disk.moment g.D.Disk.might_have_left c.args.bytes.now (Ok c.in-Ok.scenario) c.args.disk.now c.say_scenario.new.disk
+    (subst (Answers (ReadsBytes c.args.bytes.now)) is c.read_scenario.ensures.read) (c.say_scenario.ensures.any_moment there empty)
 
 pub returns-in-Ok-say_fault-clause-told : goal.returns-in-Ok-say_fault-clause-told
 returns-in-Ok-say_fault-clause-told g c =
     let said = c.in-Ok-say_fault.said in
-    let stored = g.D.Disk.told c.args.disk.now in
-    let is : c.read_flat_scenario.result ≡ Err (Bad c.in-Err-Bad.fault) = cc in
-    let read = subst (λ r. Gives r (flat_scenario_of c.args.bytes.now)) is c.read_flat_scenario.ensures.read in
-    subst (λ read. TellsReplay read stored stored said.status said.text.items) (sym read)
-    (fault_replays c.in-Err-Bad.fault stored said.status said.text.items c.in-Ok-say_fault.ensures)
+    let is : c.read_scenario.result ≡ Err (Bad c.in-Err-Bad.fault) = cc in
+    fault_told c.args.bytes.now c.in-Err-Bad.fault (g.D.Disk.told c.args.disk.now) said.status said.text.items
+    (subst (Answers (ReadsBytes c.args.bytes.now)) is c.read_scenario.ensures.read) c.in-Ok-say_fault.ensures

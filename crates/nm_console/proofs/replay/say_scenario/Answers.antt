@@ -2,15 +2,16 @@ use Rattle.std.proofs.Common.{IfOk, sym, subst}
 use Rattle.nm_network.specs.World.{start}
 use Rattle.nm_proto.specs.Flat.{flat_text}
 use Rattle.nm_proto.specs.FlatContent.{flat_meaning}
+use Rattle.nm_content.specs.Meaning.{yang_meaning, yang_text}
 use Rattle.nm_console.specs.Console.{CanRun, TellsRun, led_to, setting_of, world_told}
-use Rattle.nm_console.proofs.Given.{flat_runs}
+use Rattle.nm_console.proofs.Given.{flat_runs, yang_runs}
 use Rattle.nm_console.proofs.Replays.{flat_replays, yang_replays}
 use Rattle.nm_console.proofs.replay.say_scenario.Goals as goal
 
-pub say_flat-requires : goal.say_flat-requires
-say_flat-requires g c =
+pub say_contents-requires : goal.say_contents-requires
+say_contents-requires g c =
     let s = c.args.scenario in
-    subst (λ tables. CanRun flat_meaning (record { tables = tables; plans = s.changes; users = s.operators }) c.in-Flat.devices c.as_slice.result.now) (sym c.new.ensures)
+    subst (λ tables. CanRun flat_meaning (record { tables = tables; plans = s.changes; users = s.operators }) c.in-Flat.devices c.as_slice.result.now) (sym c.new-in-Flat.ensures)
     (subst (CanRun flat_meaning (setting_of c.in-Flat.edits s) c.in-Flat.devices) (sym c.as_slice.ensures) (flat_runs s c.in-Flat.devices c.in-Flat.edits c.in-Flat.is c.requires))
 
 pub returns-in-Flat-clause-told : goal.returns-in-Flat-clause-told
@@ -18,14 +19,30 @@ returns-in-Flat-clause-told g c =
     let s = c.args.scenario in
     let devices = c.in-Flat.devices in
     let stored = g.D.Disk.told c.args.disk.now in
-    let after = g.D.Disk.told c.say_flat.new.disk in
-    flat_replays s devices c.in-Flat.edits stored after c.say_flat.result c.in-Flat.is
-    (subst (λ events. IfOk c.say_flat.result (λ said. TellsRun (world_told flat_text s.trace (setting_of c.in-Flat.edits s))
+    let after = g.D.Disk.told c.say_contents.new.disk in
+    flat_replays s devices c.in-Flat.edits stored after c.say_contents.result c.in-Flat.is
+    (subst (λ events. IfOk c.say_contents.result (λ said. TellsRun (world_told flat_text s.trace (setting_of c.in-Flat.edits s))
     (led_to flat_meaning (setting_of c.in-Flat.edits s) events s.drain (start (setting_of c.in-Flat.edits s) devices)) events stored after said.status said.text.items)) c.as_slice.ensures
-    (subst (λ tables. IfOk c.say_flat.result (λ said. TellsRun (world_told flat_text s.trace (record { tables = tables; plans = s.changes; users = s.operators }))
+    (subst (λ tables. IfOk c.say_contents.result (λ said. TellsRun (world_told flat_text s.trace (record { tables = tables; plans = s.changes; users = s.operators }))
     (led_to flat_meaning (record { tables = tables; plans = s.changes; users = s.operators }) c.as_slice.result.now s.drain (start (record { tables = tables; plans = s.changes; users = s.operators }) devices))
-    c.as_slice.result.now stored after said.status said.text.items)) c.new.ensures c.say_flat.ensures.told))
+    c.as_slice.result.now stored after said.status said.text.items)) c.new-in-Flat.ensures c.say_contents.ensures.told))
 
-pub returns-in-Ok-clause-told : goal.returns-in-Ok-clause-told
-returns-in-Ok-clause-told g c =
-    yang_replays c.args.scenario c.in-Yang.modules c.in-Yang.schema c.in-Yang.devices (g.D.Disk.told c.args.disk.now) c.in-Ok.said.status c.in-Ok.said.text.items c.in-Yang.is c.in-Ok.ensures
+pub say_contents-requires-in-Yang : goal.say_contents-requires-in-Yang
+say_contents-requires-in-Yang g c =
+    let s = c.args.scenario in
+    let y = c.in-Yang in
+    subst (λ tables. CanRun (yang_meaning y.content) (record { tables = tables; plans = s.changes; users = s.operators }) y.devices c.as_slice-in-Yang.result.now) (sym c.new-in-Yang.ensures)
+    (subst (CanRun (yang_meaning y.content) (setting_of y.edits s) y.devices) (sym c.as_slice-in-Yang.ensures) (yang_runs s y.modules y.content y.devices y.edits y.is c.requires))
+
+pub returns-clause-told : goal.returns-clause-told
+returns-clause-told g c =
+    let s = c.args.scenario in
+    let y = c.in-Yang in
+    let stored = g.D.Disk.told c.args.disk.now in
+    let after = g.D.Disk.told c.say_contents-in-Yang.new.disk in
+    yang_replays s y.modules y.content y.devices y.edits stored after c.say_contents-in-Yang.result y.is
+    (subst (λ events. IfOk c.say_contents-in-Yang.result (λ said. TellsRun (world_told (yang_text y.content) s.trace (setting_of y.edits s))
+    (led_to (yang_meaning y.content) (setting_of y.edits s) events s.drain (start (setting_of y.edits s) y.devices)) events stored after said.status said.text.items)) c.as_slice-in-Yang.ensures
+    (subst (λ tables. IfOk c.say_contents-in-Yang.result (λ said. TellsRun (world_told (yang_text y.content) s.trace (record { tables = tables; plans = s.changes; users = s.operators }))
+    (led_to (yang_meaning y.content) (record { tables = tables; plans = s.changes; users = s.operators }) c.as_slice-in-Yang.result.now s.drain (start (record { tables = tables; plans = s.changes; users = s.operators }) y.devices))
+    c.as_slice-in-Yang.result.now stored after said.status said.text.items)) c.new-in-Yang.ensures c.say_contents-in-Yang.ensures.told))

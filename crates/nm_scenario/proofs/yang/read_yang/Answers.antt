@@ -3,14 +3,15 @@ use Rattle.serde_json.specs.View.{view}
 use Rattle.nm_flaws.specs.declared.fault.Fault.TheVariants.{Flawed, TooLarge}
 use Rattle.nm_schema.specs.Built.{Answers as Built}
 use Rattle.nm_reading.specs.Reading.{Gives}
-use Rattle.nm_scenario.specs.Scenario.{at_module}
+use Rattle.nm_scenario.specs.Scenario.{at_module, yang_rest_at}
 use Rattle.nm_scenario.proofs.Answered.{of_tree, of_fault}
 use Rattle.nm_scenario.proofs.yang.read_yang.Goals as goal
 
 pub returns-in-Ok : goal.returns-in-Ok
 returns-in-Ok c =
     of_tree (view c.args.whole.now) c.args.modules c.as_slice.result.now c.in_ok-texts.field-0.texts c.in-Ok.schema
-    (c.as_slice.ensures ∙ c.in_ok-texts.ensures.statements) c.in_ok-texts.ensures.texts c.in-Ok.ensures.answers c.read_built.result c.read_built.ensures
+    (c.as_slice.ensures ∙ c.in_ok-texts.ensures.statements) c.in_ok-texts.ensures.texts c.in-Ok.ensures.answers c.read_built.result
+    (subst (λ tree. Gives c.read_built.result (yang_rest_at tree c.in_ok-texts.field-0.texts (view c.args.whole.now))) c.yang_content.ensures c.read_built.ensures)
 
 pub returns-in-Err-Flawed : goal.returns-in-Err-Flawed
 returns-in-Err-Flawed c =

@@ -1,7 +1,0 @@
-use Rattle.std.proofs.Common.{◌≡◌, ◌++◌, drop, map}
-use Rattle.nm_console.specs.Rows.{cells_told}
-use Rattle.nm_console.proofs.rows.cells_of.Given as goal
-
--- the counts so far and those that are left make all
-abbrev pub invariant-loop-device : goal.invariant-loop-device
-invariant-loop-device l = l.rows.items ++ map cells_told (drop l.device-index l.devices) ≡ map cells_told l.fn.devices
