@@ -13,13 +13,11 @@ use Rattle.nm_types.specs.PathLaws.{paths_total, same_path_decides}
 use Rattle.nm_config.specs.Rows.{Rows}
 use Rattle.nm_config.specs.Under.{is_whole, is_under, Continues, EntersList}
 use Rattle.nm_config.proofs.Meaning.{under-means}
-use Rattle.nm_rules.specs.Guards.{front}
 use Rattle.nm_rules.specs.Values.{chosen_values, as_list, is_same_path}
 use Rattle.nm_rules.specs.Violated.{last_chosen}
 use Rattle.nm_rules.proofs.Among.{both}
 use Rattle.nm_rules.proofs.Areas.{ends}
 use Rattle.nm_validate.specs.Repeated.{step_of}
-use Rattle.nm_validate.proofs.Choosing.{front_last}
 use Rattle.nm_reached.specs.Kept.{as_whole, kept_at, mark_of}
 
 -- ---- tests
@@ -60,10 +58,11 @@ all_three a b c p q r = ap (λ x. x && (b && c)) p ∙ ap (λ x. x && c) q ∙ r
 
 -- ---- the paths
 
-last_values : (above : List PathStep) (s : PathStep) → chosen_values (above ++ s ∷ []) ≡ choice_values s.chosen
-last_values [] s = refl
-last_values (r ∷ []) s = refl
-last_values (r ∷ q ∷ ss) s = last_values (q ∷ ss) s
+values_of : (s r : PathStep) (p q : List PathStep) → s ∷ p ≡ r ∷ q → choice_values s.chosen ≡ choice_values r.chosen
+values_of s r p q e = cc
+
+steps_after : (s r : PathStep) (p q : List PathStep) → s ∷ p ≡ r ∷ q → p ≡ q
+steps_after s r p q e = cc
 
 first_number : (x y : ℕ) (vs ws : List Value) → ◌≡◌ {A = List Value} (Int (pos x) ∷ vs) (Int (pos y) ∷ ws) → x ≡ y
 first_number x y vs ws e = cc
@@ -75,17 +74,11 @@ second_number : (a b : Value) (x y : ℕ) (vs ws : List Value) → ◌≡◌ {A 
 second_number a b x y vs ws e = cc
 
 module _ (p : List PathStep) (x : ℕ) (v : Value) where
-  kept_front : front (kept_at p x v) ≡ p
-  kept_front = front_last p (step_of (Int (pos x) ∷ v ∷ []))
-
-  kept_values : chosen_values (kept_at p x v) ≡ Int (pos x) ∷ v ∷ []
-  kept_values = last_values p (step_of (Int (pos x) ∷ v ∷ []))
-
   module _ (q : List PathStep) (y : ℕ) (w : Value) where
     kept_to : kept_at p x v ≡ kept_at q y w → ((x == y) && (is_same_path p q && is_same_value v w)) ≡ true
     kept_to e =
-        let values : Int (pos x) ∷ v ∷ [] ≡ Int (pos y) ∷ w ∷ [] = sym kept_values ∙ ap chosen_values e ∙ last_values q (step_of (Int (pos y) ∷ w ∷ [])) in
-        let places : p ≡ q = sym kept_front ∙ ap front e ∙ front_last q (step_of (Int (pos y) ∷ w ∷ [])) in
+        let values : Int (pos x) ∷ v ∷ [] ≡ Int (pos y) ∷ w ∷ [] = values_of (step_of (Int (pos x) ∷ v ∷ [])) (step_of (Int (pos y) ∷ w ∷ [])) p q e in
+        let places : p ≡ q = steps_after (step_of (Int (pos x) ∷ v ∷ [])) (step_of (Int (pos y) ∷ w ∷ [])) p q e in
         all_three (x == y) (is_same_path p q) (is_same_value v w)
         (number_by x y (first_number x y (v ∷ []) (w ∷ []) values)) (path_by p q places) (value_by v w (second_value (Int (pos x)) (Int (pos y)) v w [] [] values))
 
@@ -104,7 +97,9 @@ two_or_three : (a b c d f : Value) → ◌≡◌ {A = List Value} (a ∷ b ∷ [
 two_or_three a b c d f e = let n : ◌≡◌ {A = ℕ} 2 3 = ap length e in absurd (omega (arith, n))
 
 not_mark : (p : List PathStep) (x : ℕ) (v : Value) (y d : ℕ) → kept_at p x v ≡ mark_of y d → ⊥
-not_mark p x v y d e = two_or_three (Int (pos x)) v (Int (pos y)) (Int (pos d)) Present (sym (kept_values p x v) ∙ ap chosen_values e)
+not_mark p x v y d e =
+    two_or_three (Int (pos x)) v (Int (pos y)) (Int (pos d)) Present
+    (values_of (step_of (Int (pos x) ∷ v ∷ [])) (step_of (Int (pos y) ∷ Int (pos d) ∷ Present ∷ [])) p [] e)
 
 pub kept_no_mark : (p : List PathStep) (x : ℕ) (v : Value) (y d : ℕ) → is_same_path (kept_at p x v) (mark_of y d) ≡ false
 kept_no_mark p x v y d = never_true (is_same_path (kept_at p x v) (mark_of y d)) (λ e. not_mark p x v y d (path_is (kept_at p x v) (mark_of y d) e))

@@ -1,5 +1,5 @@
 -- Values of the targets of leafrefs, kept by the places that they are reached from.
-use Rattle.std.specs.Prelude.{ℕ, pos, List, [], ◌∷◌, ◌++◌, take, length, Option, Some, None, nat_lt, if◌then◌else◌}
+use Rattle.std.specs.Prelude.{ℕ, pos, List, [], ◌∷◌, take, length, Option, Some, None, nat_lt, if◌then◌else◌}
 use Rattle.std.specs.List.{fold}
 use Rattle.std.specs.FinMap.{insert}
 use Rattle.nm_types.specs.declared.value.Value.{Value}
@@ -11,9 +11,9 @@ use Rattle.nm_rules.specs.Values.{as_list}
 use Rattle.nm_rules.specs.Violated.{last_chosen}
 use Rattle.nm_validate.specs.Repeated.{step_of}
 
--- the path by which value v of node x is kept for a place
+-- the path by which value v of node x is kept for a place: the value comes first, so that two paths mostly differ there
 abbrev pub kept_at : List PathStep → ℕ → Value → List PathStep
-kept_at place x v = place ++ step_of (Int (pos x) ∷ v ∷ []) ∷ []
+kept_at place x v = step_of (Int (pos x) ∷ v ∷ []) ∷ place
 
 -- the path that tells that the values of node x are kept for the places of d steps
 abbrev pub mark_of : ℕ → ℕ → List PathStep

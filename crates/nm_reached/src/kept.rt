@@ -55,6 +55,18 @@ fn as_list(alloc: Global, path: &Path) -> Result<Path, NoMemory>
     Ok(list)
 }
 
+// The path of a place with a step more before its own.
+fn below_step(alloc: Global, first: Step, place: &Path) -> Result<Path, NoMemory>
+    ensures { IfOk result (λ path. path ≡ first ∷ place.now) }
+{
+    let mut steps = Vec::with_capacity(alloc, place.steps.len() + 1)?;
+    steps.push(first)?;
+    for step in &place.steps {
+        steps.push(step.copy(alloc)?)?;
+    }
+    Ok(Path { steps })
+}
+
 /// The path by which the value of a node is kept for a place.
 pub fn kept_at(alloc: Global, place: &Path, at: usize, value: &Value) -> Result<Path, NoMemory>
     ensures { IfOk result (λ path. path ≡ spec.kept_at place.now at value.now) }
@@ -63,7 +75,7 @@ pub fn kept_at(alloc: Global, place: &Path, at: usize, value: &Value) -> Result<
     values.push(Value::Int(at as i128))?;
     values.push(value.copy()?)?;
     let step = step_of(alloc, values)?;
-    place.with_step(alloc, step)
+    below_step(alloc, step, place)
 }
 
 /// The path that tells that the values of a node are kept for the places of so many steps.
