@@ -23,7 +23,7 @@ use Rattle.nm_validate.proofs.Leasts.{filter_same, filter_none}
 use Rattle.nm_validate.proofs.Below.{any_kept}
 
 module _ (t : SchemaTree) (rows : Rows) (sound : IsSound t.nodes) (x : ℕ) (lt : x < length t.nodes) where
-  at_place : (p : List PathStep) → Among (places t rows x) p → violated t rows MaxElements p ≡ is_above (count_at rows p) (elements_at t.nodes x).max
+  pub at_place : (p : List PathStep) → Among (places t rows x) p → violated t rows MaxElements p ≡ is_above (count_at rows p) (elements_at t.nodes x).max
   at_place p a =
       let h = (placed_law t rows x p sound lt).0 (among_contains (places t rows x) p a) in
       ap (has_too_many t rows p) h.0 ∙ ap (λ b. b && is_above (count_at rows p) (elements_at t.nodes x).max) h.1

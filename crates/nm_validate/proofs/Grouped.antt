@@ -62,7 +62,7 @@ map_push : (bs : List (Bor (List PathStep))) (b : Bor (List PathStep)) → map (
 map_push [] b = refl
 map_push (c ∷ bs) b = ap (λ l. c.now ∷ l) (map_push bs b)
 
-at_index : (gs : List Group) (at : ℕ) (g : Group) → at < length gs → g ≡ get_or gs at g → slice_get gs at ≡ Some g
+pub at_index : (gs : List Group) (at : ℕ) (g : Group) → at < length gs → g ≡ get_or gs at g → slice_get gs at ≡ Some g
 at_index [] at g lt e = absurd (omega (arith, lt))
 at_index (h ∷ gs) zero g lt e = ap Some (sym e)
 at_index (h ∷ gs) (suc at) g lt e = at_index gs at g (omega (arith, lt)) e

@@ -9,6 +9,7 @@ pub mod Missing
 pub mod Loops
 pub mod Counting
 pub mod Elements
+pub mod Rowless
 pub mod Gathered
 pub mod Choosing
 pub mod Repeated

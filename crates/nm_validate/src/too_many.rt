@@ -63,6 +63,12 @@ fn least_at_node<M: RowMap>(
     let Some(max) = schema.elements(at).max else {
         return Ok(found);
     };
+    let Some(group) = groups.get(at) else {
+        return Ok(found);
+    };
+    if group.is_empty() {
+        return Ok(found);
+    }
     let paths = places(alloc, schema, config, groups, at)?;
     let least = least_above(config, paths, max, found);
     Ok(least)

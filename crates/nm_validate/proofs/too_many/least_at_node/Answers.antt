@@ -3,12 +3,18 @@ use Rattle.std.specs.Prelude.{filter, nat_lt}
 use Rattle.nm_rules.specs.Values.{count_at}
 use Rattle.nm_validate.specs.Least.{least_with}
 use Rattle.nm_validate.proofs.Elements.{above_max, no_max}
+use Rattle.nm_validate.proofs.Rowless.{empty_group}
 use Rattle.nm_validate.proofs.too_many.least_at_node.Goals as goal
 
 pub returns-in_default : goal.returns-in_default
 returns-in_default g c =
     let rows = g.M.RowMap.rows c.args.config.now in
     ap (least_with c.args.found) (sym (no_max c.args.schema.now rows c.requires.sound c.args.at c.requires.within (ap (λ e. e.max) (sym c.elements.ensures) ∙ c.in_default.is)))
+
+pub returns-then-is_empty : goal.returns-then-is_empty
+returns-then-is_empty g c =
+    let rows = g.M.RowMap.rows c.args.config.now in
+    ap (least_with c.args.found) (sym (empty_group c.args.schema.now rows c.requires.sound c.args.groups.now c.args.at c.requires.within c.requires.groups c.in-Some-get.group.now c.in-Some-get.ensures.lookup.1 (sym c.is_empty.ensures ∙ c.if-is_empty.true)))
 
 pub returns : goal.returns
 returns g c =
