@@ -237,22 +237,20 @@ both_ways true false to from = sym (to refl)
 both_ways false true to from = from refl
 both_ways false false to from = refl
 
-last_of : List PathStep → List Value
-last_of [] = []
-last_of (s ∷ []) = choice_values s.chosen
-last_of (s ∷ r ∷ ss) = last_of (r ∷ ss)
+-- the values in the first step, and the steps behind it
+abbrev first_values : List PathStep → List Value
+first_values [] = []
+first_values (s ∷ ss) = choice_values s.chosen
 
-last_is : (above : List PathStep) (s : PathStep) → last_of (above ++ s ∷ []) ≡ choice_values s.chosen
-unfolding last_of
-last_is [] s = refl
-last_is (r ∷ []) s = refl
-last_is (r ∷ q ∷ ss) s = last_is (q ∷ ss) s
+abbrev behind_first : List PathStep → List PathStep
+behind_first [] = []
+behind_first (s ∷ ss) = ss
 
 key_front : (p q : List PathStep) (vs ws : List Value) → unique_path p vs ≡ unique_path q ws → front p ≡ front q
-key_front p q vs ws e = sym (front_last (front p) (step_of vs)) ∙ ap front e ∙ front_last (front q) (step_of ws)
+key_front p q vs ws e = ap behind_first e
 
 key_values : (p q : List PathStep) (vs ws : List Value) → unique_path p vs ≡ unique_path q ws → vs ≡ ws
-key_values p q vs ws e = sym (last_is (front p) (step_of vs)) ∙ ap last_of e ∙ last_is (front q) (step_of ws)
+key_values p q vs ws e = ap first_values e
 
 some_path : (p q : List PathStep) → ◌≡◌ {A = Option (List PathStep)} (Some p) (Some q) → p ≡ q
 some_path p q e = cc
@@ -315,7 +313,7 @@ module _ (t : SchemaTree) (rows : Rows) (leafs : List ℕ) (x : ℕ) where
         let among = among_filter (leads_to t x) (keys rows) o.x o.among (ap (is_node x) leads ∙ itself x) in
         let before = before_it cs qs p o.x (subst (λ l. Rises l) (sym e) rises) (subst (λ l. Among l o.x) (sym e) among) b.0 in
         let w = are_these vs (unique_values t rows o.x leafs) a.1 in
-        h.from (unique_path p vs) o.x before (ap (option_map (unique_path o.x)) w.1 ∙ ap Some (ap (λ f. f ++ step_of w.0 ∷ []) fronts ∙ ap (unique_path p) (sym w.2)))
+        h.from (unique_path p vs) o.x before (ap (option_map (unique_path o.x)) w.1 ∙ ap Some (ap (λ f. step_of w.0 ∷ f) fronts ∙ ap (unique_path p) (sym w.2)))
 
     by_values : (o : Option (List Value)) → is_seen m (option_map (unique_path p) o) ≡ is_repeated t rows p leafs o
     by_values None = refl

@@ -35,9 +35,9 @@ items_in (Some values) = Some values.items
 abbrev pub step_of : List Value → PathStep
 step_of values = record { «module» = []; name = []; chosen = by_keys values }
 
--- a path for the values of an entry, which tells entries of its list apart that have other values
+-- a path for the values of an entry, which tells entries of its list apart that have other values: the values stand first, where such paths differ
 abbrev pub unique_path : List PathStep → List Value → List PathStep
-unique_path entry values = front entry ++ step_of values ∷ []
+unique_path entry values = step_of values ∷ front entry
 
 -- the path for the values of these leafs in an entry, where all have one
 abbrev pub key_of : SchemaTree → Rows → List ℕ → List PathStep → Option (List PathStep)

@@ -58,13 +58,14 @@ fn unique_values<M: RowMap>(
 fn unique_path(alloc: Global, entry: &Path, values: Vec<Value>) -> Result<Path, NoMemory>
     ensures { IfOk result (λ path. path ≡ spec.unique_path entry.now values.items) }
 {
-    let list = front(alloc, entry)?;
+    let mut path = front(alloc, entry)?;
     let step = Step {
         module: Label::new(alloc, "")?,
         name: Label::new(alloc, "")?,
         chosen: Chosen::Keys(values),
     };
-    list.with_step(alloc, step)
+    path.steps.insert(0, step)?;
+    Ok(path)
 }
 
 // Whether an entry that was seen has the values that this one has, which is seen from now on.
