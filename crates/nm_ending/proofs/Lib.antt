@@ -1,0 +1,16 @@
+pub mod Sums
+pub mod Closer
+pub mod Lost
+pub mod Ended
+pub mod Closes
+pub mod Right
+pub mod Wires
+pub mod Ready
+pub mod Able
+pub mod Moves
+pub mod Serving
+pub mod Relating
+pub mod Holding
+pub mod Lasting
+pub mod Calm
+pub mod Running

@@ -1,0 +1,25 @@
+//! What brings a world to rest comes to its end.
+
+ghost use Rattle.std.specs.Prelude.{ℕ, List};
+ghost use Rattle.nm_proto.specs.declared.plan.Event.{Event as AnEvent};
+ghost use Rattle.nm_network.specs.World.{Setting, WorldState, run, start};
+ghost use Rattle.nm_safety.specs.Safe.{IsProper};
+ghost use Rattle.nm_ending.specs.Steady.{IsOrderly};
+ghost use Rattle.nm_ending.specs.Closing.{ClosesWithin, left_to_close};
+
+use nm_proto::Content;
+
+/// Whatever the world, a drain first closes all that nobody goes on with, and is done with that in as many steps as operators have
+/// sessions and links that aren't current have open sides: then no operator has a session, and no link but current ones is open.
+pub fn every_drain_closes<C: Content>(content: &C)
+    ensures { (setting : Setting C.Edit) (w : WorldState C.Config C.Node) → ClosesWithin (C.meaning content.now) setting w (left_to_close setting w) }
+{}
+
+/// After any events that a scenario may have, in any order, with any number of change sets and operators: links to a device are current
+/// for one change set at most, and only while that is ready. And each change set stands where it can go on: before its verdict and without
+/// trouble each of its devices is live, under a commit each has acknowledged or is found out anew, and under an abort what was
+/// refused is over; its current links have a session, but where one is asked for or was refused.
+pub fn every_run_is_orderly<C: Content>(content: &C)
+    ensures { (setting : Setting C.Edit) (running : List C.Config) (events : List AnEvent) → IsProper {Node = C.Node} (C.meaning content.now) setting running events
+        → IsOrderly {Config = C.Config} {Node = C.Node} (run (C.meaning content.now) setting (start setting running) events) }
+{}
