@@ -14,3 +14,15 @@ pub mod Holding
 pub mod Lasting
 pub mod Calm
 pub mod Running
+pub mod Measure
+pub mod Ranks
+pub mod Telling
+pub mod PairSteps
+pub mod Stepping
+pub mod Delivering
+pub mod Sendings
+pub mod Bounds
+pub mod Finding
+pub mod Resting
+pub mod Turns
+pub mod Coming

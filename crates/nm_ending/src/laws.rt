@@ -6,6 +6,7 @@ ghost use Rattle.nm_network.specs.World.{Setting, WorldState, run, start};
 ghost use Rattle.nm_safety.specs.Safe.{IsProper};
 ghost use Rattle.nm_ending.specs.Steady.{IsOrderly};
 ghost use Rattle.nm_ending.specs.Closing.{ClosesWithin, left_to_close};
+ghost use Rattle.nm_ending.specs.Turns.{ComesToTurn};
 
 use nm_proto::Content;
 
@@ -22,4 +23,13 @@ pub fn every_drain_closes<C: Content>(content: &C)
 pub fn every_run_is_orderly<C: Content>(content: &C)
     ensures { (setting : Setting C.Edit) (running : List C.Config) (events : List AnEvent) → IsProper {Node = C.Node} (C.meaning content.now) setting running events
         → IsOrderly {Config = C.Config} {Node = C.Node} (run (C.meaning content.now) setting (start setting running) events) }
+{}
+
+/// After any events that a scenario may have, in any order, with any number of change sets and operators, a drain comes to rest or to a
+/// turn of the manager in as many steps at most as there is left to close, and 9320 more: then either no change set is ready and there is
+/// no next step, or the next step is the turn of the least that is ready. This is of worlds in which the devices' session numbers last
+/// so long. It isn't said here what a turn brings, nor how many turns there are: so it isn't said that a drain ends.
+pub fn every_drain_turns<C: Content>(content: &C)
+    ensures { (setting : Setting C.Edit) (running : List C.Config) (events : List AnEvent) → IsProper {Node = C.Node} (C.meaning content.now) setting running events
+        → ComesToTurn {Node = C.Node} (C.meaning content.now) setting (run (C.meaning content.now) setting (start setting running) events) }
 {}

@@ -7,4 +7,5 @@ fn laws_do_nothing(rt: HostRuntime) {
     let content = FlatContent::new(rt.alloc());
     laws::every_drain_closes(&content);
     laws::every_run_is_orderly(&content);
+    laws::every_drain_turns(&content);
 }
