@@ -63,8 +63,8 @@ const EY: &str =
     r#""module ey { yang-version 1.1; namespace \"urn:ey\"; prefix ey; leaf big { type int64; } list srv { key id; unique port; leaf id { type uint8; } leaf port { type uint16; default 22; } } }""#;
 
 // Modules and devices with the statuses and the texts that docs/FORMATS.md gives. A row is a leaf that isn't a key or an
-// entry of a list (RFC 7950 sections 7.6 and 7.8); the rows of the list of applied change sets aren't counted. An int64 is
-// a text in JSON (RFC 7951 section 6.1).
+// entry of a list (RFC 7950 sections 7.6 and 7.8); a configuration that holds marks of change sets is refused. An int64
+// is a text in JSON (RFC 7951 section 6.1).
 #[test]
 fn configurations_are_told(rt: HostRuntime) -> Result<(), Fail> {
     for (modules, devices, status, want) in [
@@ -82,9 +82,15 @@ fn configurations_are_told(rt: HostRuntime) -> Result<(), Fail> {
         ),
         (
             EX,
-            r#"{"running":{"ex:sys":{"iface":[{"name":"eth0"}]},"netm-marker:changes":{"applied":[{"change":1}]}}},{"running":{"ex:sys":{}}}"#,
+            r#"{"running":{"ex:sys":{"iface":[{"name":"eth0"}]}}},{"running":{"ex:sys":{}}}"#,
             Status::Ok,
             "netm check 1\nmodule ex\ndevice 1 rows 1\ndevice 2 rows 0\nchanges 0 operators 0 events 0\n",
+        ),
+        (
+            EX,
+            r#"{"running":{"ex:sys":{"iface":[{"name":"eth0"}]},"netm-marker:changes":{"applied":[{"change":1}]}}}"#,
+            Status::Scenario,
+            "scenario invalid /devices/0/running\n",
         ),
         (
             EY,
