@@ -1,19 +1,18 @@
 -- What stands in a row in the end is counted at the row.
-use Rattle.std.proofs.Common.{◌≡◌, ◌<◌, ◌≤◌, ◌+◌, ◌⊎◌, inl, inr, ℕ, zero, suc, List, [], ◌∷◌, ◌++◌, length, map, All, filter, Bool, true, false, not, ◌&&◌, nat_le, if◌then◌else◌, ◌-◌, Option, None, Some, unwrap_or, is_some, option_map, slice_get, refl, subst, arith}
+use Rattle.std.proofs.Common.{◌≡◌, ◌<◌, ◌≤◌, ◌+◌, ◌⊎◌, inl, inr, ℕ, zero, suc, List, [], ◌∷◌, ◌++◌, length, map, All, Bool, true, false, nat_le, if◌then◌else◌, ◌-◌, Option, None, Some, unwrap_or, is_some, slice_get, refl, subst, arith}
 use Rattle.std.specs.List.{concat}
 use Rattle.std.proofs.lemmas.List.{map-append}
-use Rattle.std.proofs.lemmas.List.Elements.{All-nil, All-cons, All-append, filter-append}
+use Rattle.std.proofs.lemmas.List.Elements.{All-nil, All-cons, All-append}
 use Rattle.nm_grammar.specs.declared.row.Row.{Row}
 use Rattle.nm_grammar.specs.Flaw.{is_data}
-use Rattle.nm_grammar.specs.declared.word.Word.TheVariants as word
-use Rattle.nm_grammar.specs.Rows.{first_below}
 use Rattle.nm_graph.specs.Value.{strict, all_there}
-use Rattle.nm_shape.specs.Holding.{is_data_row, is_data_at, holding, bringing}
+use Rattle.nm_shape.specs.Holding.{is_data_row, is_data_at, bringing}
 use Rattle.nm_shape.specs.Worth.{worth_within, worth_of}
-use Rattle.nm_shape.specs.Members.{gathered, is_astray, bring, bring_step, brought, members}
-use Rattle.nm_shape.specs.Config.{says_false, state_in, is_state, is_kept, kept_of, configuring}
+use Rattle.nm_shape.specs.Members.{gathered, is_astray, bring, bring_step}
+use Rattle.nm_shape.specs.Config.{kept_of, configuring}
+use Rattle.nm_shape.specs.Passing.{brought_along, kept_members}
 use Rattle.nm_shape.specs.Sizes.{unit_in, unit_at, total_of, count_step, count_of}
-use Rattle.nm_expansion.specs.Expansion.{count_at, kept_members, kept_below}
+use Rattle.nm_expansion.specs.Expansion.{count_at, kept_below}
 use Rattle.nm_expansion.specs.Growing.{IsCounted}
 use Rattle.nm_expansion.proofs.Unfolding.{split, unfold_one, unfold_within}
 
@@ -44,31 +43,10 @@ pub brings : (rows : List Row) (groupings : List (Option ℕ)) (i : ℕ) (known 
 unfolding bring_step unit_at
 brings rows groupings i known nodes h = bring-is rows groupings i (slice_get rows i) known nodes h
 
--- what a row brings rests on what it leads to, but for a node of data
-pub bringing-is : (rows : List Row) (groupings : List (Option ℕ)) (i : ℕ) → is_data_at rows i ≡ false → bringing rows groupings i ≡ holding rows groupings i
-unfolding bringing
-bringing-is rows groupings i is = rw is refl
-
--- ---- a state node brings itself, and that isn't kept
-
-state_brings : (node below astray : Bool) (limit i : ℕ) (known : List (List ℕ)) (nodes : List ℕ) → (node && below) ≡ true → (if node then Some (i ∷ []) else (if astray then None else gathered limit (Some known))) ≡ Some nodes → nodes ≡ i ∷ []
-state_brings true below astray limit i known nodes is h = cc
-state_brings false below astray limit i known nodes is h = absurd (cc)
-
-state_in-brings : (rows : List Row) (groupings : List (Option ℕ)) (i : ℕ) (row : Option Row) (known : List (List ℕ)) (nodes : List ℕ) → state_in rows i row ≡ true → bring rows groupings i row known ≡ Some nodes → nodes ≡ i ∷ []
-state_in-brings rows groupings i None known nodes is h = absurd (cc)
-state_in-brings rows groupings i (Some r) known nodes is h = state_brings (is_data r.word) (says_false rows (first_below rows i word.Config)) (is_astray groupings i r) (length rows) i known nodes is h
-
-not-false : (b : Bool) → not b ≡ false → b ≡ true
-not-false true e = refl
-not-false false e = absurd (cc)
-
-state-brings : (rows : List Row) (groupings : List (Option ℕ)) (i : ℕ) (known : List (List ℕ)) (nodes : List ℕ) → is_kept rows i ≡ false → bring_step rows groupings i known ≡ Some nodes → nodes ≡ i ∷ []
-unfolding is_kept is_state bring_step
-state-brings rows groupings i known nodes is h = state_in-brings rows groupings i (slice_get rows i) known nodes (not-false (state_in rows i (slice_get rows i)) is) h
-
-filter_one-not : (p : ℕ → Bool) (i : ℕ) → p i ≡ false → filter p (i ∷ []) ≡ []
-filter_one-not p i is = rw is refl
+-- what a row brings along kept rows rests on what it leads to as configuration, but for a node of data
+pub kept-bringing : (rows : List Row) (groupings : List (Option ℕ)) (i : ℕ) → is_data_at rows i ≡ false → kept_of (bringing rows groupings) rows i ≡ configuring rows groupings i
+unfolding bringing kept_of
+kept-bringing rows groupings i is = rw is refl
 
 -- ---- counts
 
@@ -88,10 +66,10 @@ module _ (rows : List Row) (groupings : List (Option ℕ)) where
 
   -- a count is that of what the row leads to, and one more for a node
   abbrev pub IsSum : ℕ → ℕ → Type 0
-  IsSum i n = (known : List ℕ) × (all_there (map (count_of rows groupings) (filter (is_kept rows) (holding rows groupings i))) ≡ Some known) × (n ≡ unit_at rows i + total_of known)
+  IsSum i n = (known : List ℕ) × (all_there (map (count_of rows groupings) (configuring rows groupings i)) ≡ Some known) × (n ≡ unit_at rows i + total_of known)
 
   pub count-sum : (i n : ℕ) → count_of rows groupings i ≡ Some n → IsSum i n
-  unfolding count_of worth_of count_step kept_of
+  unfolding count_of worth_of count_step
   count-sum i n h =
       let u = unfold_within (count_step rows) (configuring rows groupings) (length rows) i n h in
       (u.known, u.there, some-is (unit_at rows i + total_of u.known) n u.made)
@@ -111,9 +89,8 @@ module _ (rows : List Row) (groupings : List (Option ℕ)) where
   more_covered : (xs : List ℕ) (m n : ℕ) → m ≤ n → AreCovered rows groupings xs m → AreCovered rows groupings xs n
   more_covered xs m n le f = record { each = f.each; most = omega (arith, f.most, le) }
 
-  one_case : (i n : ℕ) → count_of rows groupings i ≡ Some n → unit_at rows i ≡ 1 → (kept : Bool) → AreCovered rows groupings (if kept then i ∷ [] else []) n
-  one_case i n count unit false = none_covered n
-  one_case i n count unit true =
+  one_case : (i n : ℕ) → count_of rows groupings i ≡ Some n → unit_at rows i ≡ 1 → AreCovered rows groupings (i ∷ []) n
+  one_case i n count unit =
       let s = count-sum i n count in
       let is : count_at rows groupings i ≡ n = count_at-is i n count in
       let sum : n ≡ unit_at rows i + total_of s.0 = s.2 in
@@ -121,60 +98,41 @@ module _ (rows : List Row) (groupings : List (Option ℕ)) where
       record { each = All-cons (IsCounted rows groupings) i [] one (All-nil (IsCounted rows groupings)); most = omega (arith, is) }
 
   abbrev pub brought_within : ℕ → ℕ → Option (List ℕ)
-  brought_within steps i = worth_within (strict (bring_step rows groupings)) (bringing rows groupings) steps i
-
-  -- a state node brings nothing that is kept
-  pub state-none : (steps j : ℕ) (nodes : List ℕ) → is_kept rows j ≡ false → brought_within steps j ≡ Some nodes → filter (is_kept rows) nodes ≡ []
-  state-none zero j nodes is h = absurd (cc)
-  state-none (suc steps) j nodes is h =
-      let u = unfold_one (bring_step rows groupings) (bringing rows groupings) steps j nodes h in
-      rw (state-brings rows groupings j u.known nodes is u.made) (filter_one-not (is_kept rows) j is)
+  brought_within steps i = worth_within (strict (bring_step rows groupings)) (kept_of (bringing rows groupings) rows) steps i
 
   abbrev IsCovering : ℕ → Type 0
-  IsCovering steps = (j : ℕ) (nodes : List ℕ) (n : ℕ) → brought_within steps j ≡ Some nodes → count_of rows groupings j ≡ Some n → AreCovered rows groupings (filter (is_kept rows) nodes) n
+  IsCovering steps = (j : ℕ) (nodes : List ℕ) (n : ℕ) → brought_within steps j ≡ Some nodes → count_of rows groupings j ≡ Some n → AreCovered rows groupings nodes n
 
-  abbrev counts_there : List ℕ → Option (List ℕ)
-  counts_there nodes = all_there (map (count_of rows groupings) nodes)
-
-  parts_case : (steps j : ℕ) (js : List ℕ) (first : List ℕ) (others : List (List ℕ)) (counts : List ℕ) → IsCovering steps → brought_within steps j ≡ Some first
-      → ((counts : List ℕ) → counts_there (filter (is_kept rows) js) ≡ Some counts → AreCovered rows groupings (filter (is_kept rows) (concat others)) (total_of counts))
-      → (kept : Bool) → is_kept rows j ≡ kept → counts_there (if kept then j ∷ filter (is_kept rows) js else filter (is_kept rows) js) ≡ Some counts
-      → AreCovered rows groupings (filter (is_kept rows) (first ++ concat others)) (total_of counts)
-  parts_case steps j js first others counts covering is rest true kept there =
-      let s = split (count_of rows groupings) j (filter (is_kept rows) js) counts there in
-      rw (filter-append (is_kept rows) first (concat others), s.known_is) (both_covered (filter (is_kept rows) first) (filter (is_kept rows) (concat others)) s.first (total_of s.others) (covering j first s.first is s.first_is) (rest s.others s.others_are))
-  parts_case steps j js first others counts covering is rest false kept there =
-      rw (filter-append (is_kept rows) first (concat others), state-none steps j first kept is) (rest counts there)
-
-  -- what some rows bring is counted at those that are kept
-  parts-covered : (steps : ℕ) → IsCovering steps → (js : List ℕ) (known : List (List ℕ)) (counts : List ℕ) → all_there (map (brought_within steps) js) ≡ Some known → counts_there (filter (is_kept rows) js) ≡ Some counts
-      → AreCovered rows groupings (filter (is_kept rows) (concat known)) (total_of counts)
+  -- what some rows bring is counted at them
+  parts-covered : (steps : ℕ) → IsCovering steps → (js : List ℕ) (known : List (List ℕ)) (counts : List ℕ) → all_there (map (brought_within steps) js) ≡ Some known → all_there (map (count_of rows groupings) js) ≡ Some counts
+      → AreCovered rows groupings (concat known) (total_of counts)
   parts-covered steps covering [] known counts h there =
       let none : known ≡ [] = cc in
       rw none (none_covered (total_of counts))
   parts-covered steps covering (j ∷ js) known counts h there =
       let s = split (brought_within steps) j js known h in
-      rw s.known_is (parts_case steps j js s.first s.others counts covering s.first_is (λ counts there. parts-covered steps covering js s.others counts s.others_are there) (is_kept rows j) refl there)
+      let c = split (count_of rows groupings) j js counts there in
+      rw (s.known_is, c.known_is) (both_covered s.first (concat s.others) c.first (total_of c.others) (covering j s.first c.first s.first_is c.first_is) (parts-covered steps covering js s.others c.others s.others_are c.others_are))
 
-  brings_case : (steps i : ℕ) (known : List (List ℕ)) (nodes : List ℕ) (n : ℕ) → IsCovering steps → all_there (map (brought_within steps) (bringing rows groupings i)) ≡ Some known → count_of rows groupings i ≡ Some n
-      → Brings rows i known nodes → AreCovered rows groupings (filter (is_kept rows) nodes) n
-  brings_case steps i known nodes n covering there count (inl one) = rw (one.0) (one_case i n count (one.1) (is_kept rows i))
+  brings_case : (steps i : ℕ) (known : List (List ℕ)) (nodes : List ℕ) (n : ℕ) → IsCovering steps → all_there (map (brought_within steps) (kept_of (bringing rows groupings) rows i)) ≡ Some known → count_of rows groupings i ≡ Some n
+      → Brings rows i known nodes → AreCovered rows groupings nodes n
+  brings_case steps i known nodes n covering there count (inl one) = rw (one.0) (one_case i n count (one.1))
   brings_case steps i known nodes n covering there count (inr all) =
       let s = count-sum i n count in
       let sum : n ≡ unit_at rows i + total_of s.0 = s.2 in
-      let held : all_there (map (brought_within steps) (holding rows groupings i)) ≡ Some known = subst (λ (js : List ℕ). all_there (map (brought_within steps) js) ≡ Some known) (bringing-is rows groupings i (all.0)) there in
-      rw (all.1) (more_covered (filter (is_kept rows) (concat known)) (total_of s.0) n (omega (arith, sum)) (parts-covered steps covering (holding rows groupings i) known (s.0) held (s.1)))
+      let held : all_there (map (brought_within steps) (configuring rows groupings i)) ≡ Some known = subst (λ (js : List ℕ). all_there (map (brought_within steps) js) ≡ Some known) (kept-bringing rows groupings i (all.0)) there in
+      rw (all.1) (more_covered (concat known) (total_of s.0) n (omega (arith, sum)) (parts-covered steps covering (configuring rows groupings i) known (s.0) held (s.1)))
 
   covering : (steps : ℕ) → IsCovering steps
   covering zero i nodes n h count = absurd (cc)
   covering (suc steps) i nodes n h count =
-      let u = unfold_one (bring_step rows groupings) (bringing rows groupings) steps i nodes h in
+      let u = unfold_one (bring_step rows groupings) (kept_of (bringing rows groupings) rows) steps i nodes h in
       brings_case steps i u.known nodes n (covering steps) u.there count (brings rows groupings i u.known nodes u.made)
 
   -- ---- what is kept of a row's members is counted at the row
 
-  kept-covered : (i n : ℕ) (known : Option (List (List ℕ))) → count_of rows groupings i ≡ Some n → all_there (map (brought_within (length rows)) (holding rows groupings i)) ≡ known
-      → (nodes : Option (List ℕ)) → gathered (length rows) known ≡ nodes → unit_at rows i ≤ n × AreCovered rows groupings (unwrap_or (option_map (filter (is_kept rows)) nodes) []) (n - unit_at rows i)
+  kept-covered : (i n : ℕ) (known : Option (List (List ℕ))) → count_of rows groupings i ≡ Some n → all_there (map (brought_within (length rows)) (configuring rows groupings i)) ≡ known
+      → (nodes : Option (List ℕ)) → gathered (length rows) known ≡ nodes → unit_at rows i ≤ n × AreCovered rows groupings (unwrap_or nodes []) (n - unit_at rows i)
   kept-covered i n known count there None is =
       let s = count-sum i n count in
       let sum : n ≡ unit_at rows i + total_of s.0 = s.2 in
@@ -184,11 +142,13 @@ module _ (rows : List Row) (groupings : List (Option ℕ)) where
       let s = count-sum i n count in
       let sum : n ≡ unit_at rows i + total_of s.0 = s.2 in
       let all : nodes ≡ concat known = limited-is (nat_le (length (concat known)) (length rows)) (concat known) nodes is in
-      (omega (arith, sum), rw all (more_covered (filter (is_kept rows) (concat known)) (total_of s.0) (n - unit_at rows i) (omega (arith, sum)) (parts-covered (length rows) (covering (length rows)) (holding rows groupings i) known (s.0) there (s.1))))
+      (omega (arith, sum), rw all (more_covered (concat known) (total_of s.0) (n - unit_at rows i) (omega (arith, sum)) (parts-covered (length rows) (covering (length rows)) (configuring rows groupings i) known (s.0) there (s.1))))
 
   pub kept_below-covered : (i n : ℕ) → count_of rows groupings i ≡ Some n → unit_at rows i ≤ n × AreCovered rows groupings (kept_below rows groupings i) (n - unit_at rows i)
-  unfolding kept_below kept_members members brought worth_of
-  kept_below-covered i n count = kept-covered i n (all_there (map (brought_within (length rows)) (holding rows groupings i))) count refl (gathered (length rows) (all_there (map (brought_within (length rows)) (holding rows groupings i)))) refl
+  unfolding kept_below kept_members brought_along worth_of
+  kept_below-covered i n count =
+      let known : Option (List (List ℕ)) = all_there (map (brought_within (length rows)) (configuring rows groupings i)) in
+      kept-covered i n known count refl (gathered (length rows) known) refl
 
   counted-some : (i : ℕ) (count : Option ℕ) → count_of rows groupings i ≡ count → 0 < unwrap_or count 0 → (n : ℕ) × (count_of rows groupings i ≡ Some n)
   counted-some i None is lt = absurd (omega (arith, lt))

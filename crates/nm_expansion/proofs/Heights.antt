@@ -1,18 +1,19 @@
 -- What stands in a row stands less high than the row.
-use Rattle.std.proofs.Common.{◌≡◌, ◌<◌, ◌≤◌, ◌+◌, ◌-◌, inl, inr, ℕ, zero, suc, List, [], ◌∷◌, ◌++◌, length, map, All, filter, Bool, true, false, nat_le, if◌then◌else◌, Option, None, Some, unwrap_or, is_some, option_map, refl, ap, subst, arith}
+use Rattle.std.proofs.Common.{◌≡◌, ◌<◌, ◌≤◌, ◌+◌, ◌-◌, inl, inr, ℕ, zero, suc, List, [], ◌∷◌, length, map, All, true, nat_le, Option, None, Some, unwrap_or, is_some, refl, ap, subst, arith}
 use Rattle.std.specs.List.{concat}
 use Rattle.std.specs.Option.{option_and_then}
-use Rattle.std.proofs.lemmas.List.Elements.{All-nil, All-cons, All-append, All-weaker, filter-append}
+use Rattle.std.proofs.lemmas.List.Elements.{All-nil, All-cons, All-append, All-weaker}
 use Rattle.nm_grammar.specs.declared.row.Row.{Row}
 use Rattle.nm_graph.specs.Value.{strict, all_there}
-use Rattle.nm_shape.specs.Holding.{holding, bringing}
+use Rattle.nm_shape.specs.Holding.{bringing}
 use Rattle.nm_shape.specs.Worth.{worth_within, worth_of}
-use Rattle.nm_shape.specs.Members.{gathered, bring_step, brought, members}
-use Rattle.nm_shape.specs.Config.{is_kept, kept_of, configuring}
+use Rattle.nm_shape.specs.Members.{gathered, bring_step}
+use Rattle.nm_shape.specs.Config.{kept_of, configuring}
+use Rattle.nm_shape.specs.Passing.{brought_along, kept_members}
 use Rattle.nm_shape.specs.Sizes.{unit_at, greatest, count_step, height_step, count_of, height_of}
-use Rattle.nm_expansion.specs.Expansion.{height_at, kept_members, kept_below}
+use Rattle.nm_expansion.specs.Expansion.{height_at, kept_below}
 use Rattle.nm_expansion.proofs.Unfolding.{split, unfold_one, unfold_within}
-use Rattle.nm_expansion.proofs.Counting.{Brings, brings, limited-is, bringing-is, state-none, brought_within}
+use Rattle.nm_expansion.proofs.Counting.{Brings, brings, limited-is, kept-bringing, brought_within}
 
 unwrap-is : (height : Option ℕ) (h : ℕ) → height ≡ Some h → unwrap_or height 0 ≡ h
 unwrap-is None h e = absurd (cc)
@@ -29,10 +30,10 @@ module _ (rows : List Row) (groupings : List (Option ℕ)) where
   height_at-is i h e = unwrap-is (height_of rows groupings i) h e
 
   abbrev IsHigh : ℕ → ℕ → Type 0
-  IsHigh i h = (known : List ℕ) × (all_there (map (height_of rows groupings) (filter (is_kept rows) (holding rows groupings i))) ≡ Some known) × (h ≡ unit_at rows i + greatest known)
+  IsHigh i h = (known : List ℕ) × (all_there (map (height_of rows groupings) (configuring rows groupings i)) ≡ Some known) × (h ≡ unit_at rows i + greatest known)
 
   height-high : (i h : ℕ) → height_of rows groupings i ≡ Some h → IsHigh i h
-  unfolding height_of worth_of height_step kept_of
+  unfolding height_of worth_of height_step
   height-high i h is =
       let u = unfold_within (height_step rows) (configuring rows groupings) (length rows) i h is in
       (u.known, u.there, some-is (unit_at rows i + greatest u.known) h u.made)
@@ -43,70 +44,59 @@ module _ (rows : List Row) (groupings : List (Option ℕ)) where
   pub lower : (g h : ℕ) → g ≤ h → (nodes : List ℕ) → All (IsLow rows groupings g) nodes → All (IsLow rows groupings h) nodes
   lower g h le nodes each = All-weaker (IsLow rows groupings g) (IsLow rows groupings h) (λ i low. record { some = low.some; most = omega (arith, low.most, le) }) nodes each
 
-  one_case : (i h : ℕ) → height_of rows groupings i ≡ Some h → unit_at rows i ≡ 1 → (kept : Bool) → All (IsLow rows groupings h) (if kept then i ∷ [] else [])
-  one_case i h height unit false = All-nil (IsLow rows groupings h)
-  one_case i h height unit true =
+  one_case : (i h : ℕ) → height_of rows groupings i ≡ Some h → unit_at rows i ≡ 1 → All (IsLow rows groupings h) (i ∷ [])
+  one_case i h height unit =
       let s = height-high i h height in
       let is : height_at rows groupings i ≡ h = height_at-is i h height in
       let sum : h ≡ unit_at rows i + greatest s.0 = s.2 in
       All-cons (IsLow rows groupings h) i [] (record { some = omega (arith, is, sum, unit); most = omega (arith, is) }) (All-nil (IsLow rows groupings h))
 
   abbrev IsLowering : ℕ → Type 0
-  IsLowering steps = (j : ℕ) (nodes : List ℕ) (h : ℕ) → brought_within rows groupings steps j ≡ Some nodes → height_of rows groupings j ≡ Some h → All (IsLow rows groupings h) (filter (is_kept rows) nodes)
+  IsLowering steps = (j : ℕ) (nodes : List ℕ) (h : ℕ) → brought_within rows groupings steps j ≡ Some nodes → height_of rows groupings j ≡ Some h → All (IsLow rows groupings h) nodes
 
-  abbrev heights_there : List ℕ → Option (List ℕ)
-  heights_there nodes = all_there (map (height_of rows groupings) nodes)
-
-  parts_case : (steps j : ℕ) (js : List ℕ) (first : List ℕ) (others : List (List ℕ)) (heights : List ℕ) → IsLowering steps → brought_within rows groupings steps j ≡ Some first
-      → ((heights : List ℕ) → heights_there (filter (is_kept rows) js) ≡ Some heights → All (IsLow rows groupings (greatest heights)) (filter (is_kept rows) (concat others)))
-      → (kept : Bool) → is_kept rows j ≡ kept → heights_there (if kept then j ∷ filter (is_kept rows) js else filter (is_kept rows) js) ≡ Some heights
-      → All (IsLow rows groupings (greatest heights)) (filter (is_kept rows) (first ++ concat others))
-  parts_case steps j js first others heights lowering is rest true kept there =
-      let s = split (height_of rows groupings) j (filter (is_kept rows) js) heights there in
-      rw (filter-append (is_kept rows) first (concat others), s.known_is)
-      (All-append (IsLow rows groupings (greatest (s.first ∷ s.others))) (filter (is_kept rows) first) (filter (is_kept rows) (concat others))
-      (lower s.first (greatest (s.first ∷ s.others)) (omega arith) (filter (is_kept rows) first) (lowering j first s.first is s.first_is))
-      (lower (greatest s.others) (greatest (s.first ∷ s.others)) (omega arith) (filter (is_kept rows) (concat others)) (rest s.others s.others_are)))
-  parts_case steps j js first others heights lowering is rest false kept there =
-      rw (filter-append (is_kept rows) first (concat others), state-none rows groupings steps j first kept is) (rest heights there)
-
-  parts-low : (steps : ℕ) → IsLowering steps → (js : List ℕ) (known : List (List ℕ)) (heights : List ℕ) → all_there (map (brought_within rows groupings steps) js) ≡ Some known → heights_there (filter (is_kept rows) js) ≡ Some heights
-      → All (IsLow rows groupings (greatest heights)) (filter (is_kept rows) (concat known))
+  parts-low : (steps : ℕ) → IsLowering steps → (js : List ℕ) (known : List (List ℕ)) (heights : List ℕ) → all_there (map (brought_within rows groupings steps) js) ≡ Some known → all_there (map (height_of rows groupings) js) ≡ Some heights
+      → All (IsLow rows groupings (greatest heights)) (concat known)
   parts-low steps lowering [] known heights h there =
       let none : known ≡ [] = cc in
       rw none (All-nil (IsLow rows groupings (greatest heights)))
   parts-low steps lowering (j ∷ js) known heights h there =
       let s = split (brought_within rows groupings steps) j js known h in
-      rw s.known_is (parts_case steps j js s.first s.others heights lowering s.first_is (λ heights there. parts-low steps lowering js s.others heights s.others_are there) (is_kept rows j) refl there)
+      let c = split (height_of rows groupings) j js heights there in
+      rw (s.known_is, c.known_is)
+      (All-append (IsLow rows groupings (greatest (c.first ∷ c.others))) s.first (concat s.others)
+      (lower c.first (greatest (c.first ∷ c.others)) (omega arith) s.first (lowering j s.first c.first s.first_is c.first_is))
+      (lower (greatest c.others) (greatest (c.first ∷ c.others)) (omega arith) (concat s.others) (parts-low steps lowering js s.others c.others s.others_are c.others_are)))
 
-  brings_case : (steps i : ℕ) (known : List (List ℕ)) (nodes : List ℕ) (h : ℕ) → IsLowering steps → all_there (map (brought_within rows groupings steps) (bringing rows groupings i)) ≡ Some known → height_of rows groupings i ≡ Some h
-      → Brings rows i known nodes → All (IsLow rows groupings h) (filter (is_kept rows) nodes)
-  brings_case steps i known nodes h lowering there height (inl one) = rw (one.0) (one_case i h height (one.1) (is_kept rows i))
+  brings_case : (steps i : ℕ) (known : List (List ℕ)) (nodes : List ℕ) (h : ℕ) → IsLowering steps → all_there (map (brought_within rows groupings steps) (kept_of (bringing rows groupings) rows i)) ≡ Some known → height_of rows groupings i ≡ Some h
+      → Brings rows i known nodes → All (IsLow rows groupings h) nodes
+  brings_case steps i known nodes h lowering there height (inl one) = rw (one.0) (one_case i h height (one.1))
   brings_case steps i known nodes h lowering there height (inr all) =
       let s = height-high i h height in
       let sum : h ≡ unit_at rows i + greatest s.0 = s.2 in
-      let held : all_there (map (brought_within rows groupings steps) (holding rows groupings i)) ≡ Some known = subst (λ (js : List ℕ). all_there (map (brought_within rows groupings steps) js) ≡ Some known) (bringing-is rows groupings i (all.0)) there in
-      rw (all.1) (lower (greatest s.0) h (omega (arith, sum)) (filter (is_kept rows) (concat known)) (parts-low steps lowering (holding rows groupings i) known (s.0) held (s.1)))
+      let held : all_there (map (brought_within rows groupings steps) (configuring rows groupings i)) ≡ Some known = subst (λ (js : List ℕ). all_there (map (brought_within rows groupings steps) js) ≡ Some known) (kept-bringing rows groupings i (all.0)) there in
+      rw (all.1) (lower (greatest s.0) h (omega (arith, sum)) (concat known) (parts-low steps lowering (configuring rows groupings i) known (s.0) held (s.1)))
 
   lowering : (steps : ℕ) → IsLowering steps
   lowering zero i nodes h is height = absurd (cc)
   lowering (suc steps) i nodes h is height =
-      let u = unfold_one (bring_step rows groupings) (bringing rows groupings) steps i nodes is in
+      let u = unfold_one (bring_step rows groupings) (kept_of (bringing rows groupings) rows) steps i nodes is in
       brings_case steps i u.known nodes h (lowering steps) u.there height (brings rows groupings i u.known nodes u.made)
 
-  kept-low : (i h : ℕ) (known : Option (List (List ℕ))) → height_of rows groupings i ≡ Some h → all_there (map (brought_within rows groupings (length rows)) (holding rows groupings i)) ≡ known
-      → (nodes : Option (List ℕ)) → gathered (length rows) known ≡ nodes → All (IsLow rows groupings (h - unit_at rows i)) (unwrap_or (option_map (filter (is_kept rows)) nodes) [])
+  kept-low : (i h : ℕ) (known : Option (List (List ℕ))) → height_of rows groupings i ≡ Some h → all_there (map (brought_within rows groupings (length rows)) (configuring rows groupings i)) ≡ known
+      → (nodes : Option (List ℕ)) → gathered (length rows) known ≡ nodes → All (IsLow rows groupings (h - unit_at rows i)) (unwrap_or nodes [])
   kept-low i h known height there None is = All-nil (IsLow rows groupings (h - unit_at rows i))
   kept-low i h None height there (Some nodes) is = absurd (cc)
   kept-low i h (Some known) height there (Some nodes) is =
       let s = height-high i h height in
       let sum : h ≡ unit_at rows i + greatest s.0 = s.2 in
       let all : nodes ≡ concat known = limited-is (nat_le (length (concat known)) (length rows)) (concat known) nodes is in
-      rw all (lower (greatest s.0) (h - unit_at rows i) (omega (arith, sum)) (filter (is_kept rows) (concat known)) (parts-low (length rows) (lowering (length rows)) (holding rows groupings i) known (s.0) there (s.1)))
+      rw all (lower (greatest s.0) (h - unit_at rows i) (omega (arith, sum)) (concat known) (parts-low (length rows) (lowering (length rows)) (configuring rows groupings i) known (s.0) there (s.1)))
 
   pub kept_below-low : (i h : ℕ) → height_of rows groupings i ≡ Some h → All (IsLow rows groupings (h - unit_at rows i)) (kept_below rows groupings i)
-  unfolding kept_below kept_members members brought worth_of
-  kept_below-low i h height = kept-low i h (all_there (map (brought_within rows groupings (length rows)) (holding rows groupings i))) height refl (gathered (length rows) (all_there (map (brought_within rows groupings (length rows)) (holding rows groupings i)))) refl
+  unfolding kept_below kept_members brought_along worth_of
+  kept_below-low i h height =
+      let known : Option (List (List ℕ)) = all_there (map (brought_within rows groupings (length rows)) (configuring rows groupings i)) in
+      kept-low i h known height refl (gathered (length rows) known) refl
 
   high-some : (i : ℕ) (height : Option ℕ) → height_of rows groupings i ≡ height → 0 < unwrap_or height 0 → (h : ℕ) × (height_of rows groupings i ≡ Some h)
   high-some i None is lt = absurd (omega (arith, lt))

@@ -11,7 +11,7 @@ use Rattle.std.specs.Str.{bytes_eq}
 use Rattle.std.specs.BTreeMap.{is_at}
 use Rattle.nm_grammar.specs.declared.row.Row.{Row}
 use Rattle.nm_grammar.specs.Rows.{same_parent}
-use Rattle.nm_shape.specs.Clash.{argument_at}
+use Rattle.nm_shape.specs.Arguments.{argument_at}
 use Rattle.nm_expansion.specs.declared.instance.Instance.{Instance}
 use Rattle.nm_expansion.specs.declared.table.Key.{Key}
 use Rattle.nm_expansion.specs.Expansion.{is_below, is_top}

@@ -1,11 +1,9 @@
 -- The nodes of the tree of modules (RFC 7950 sections 3, 7.13 and 7.21.1).
-use Rattle.std.specs.Prelude.{◌≡◌, ℕ, suc, ◌+◌, ◌<◌, ◌≤◌, List, [], ◌∷◌, length, map, take, filter, Bool, true, false, ◌==◌, ◌&&◌, ◌||◌, nat_lt, Option, Some, None, IfSome, unwrap_or, is_some, if◌then◌else◌, slice_get}
-use Rattle.std.specs.Option.{option_map}
+use Rattle.std.specs.Prelude.{◌≡◌, ℕ, suc, ◌+◌, ◌<◌, ◌≤◌, List, [], ◌∷◌, length, map, take, Bool, true, false, ◌==◌, ◌&&◌, ◌||◌, nat_lt, Option, Some, None, IfSome, unwrap_or, is_some, if◌then◌else◌, slice_get}
 use Rattle.std.specs.List.{find, range_with_len}
 use Rattle.nm_grammar.specs.declared.row.Row.{Row}
 use Rattle.nm_grammar.specs.Rows.{roots, same_parent}
-use Rattle.nm_shape.specs.Config.{is_kept}
-use Rattle.nm_shape.specs.Members.{members}
+use Rattle.nm_shape.specs.Passing.{kept_members}
 use Rattle.nm_shape.specs.Sizes.{total_of, count_of, height_of}
 use Rattle.nm_expansion.specs.declared.instance.Instance.{Instance}
 
@@ -18,11 +16,7 @@ pub record Expanded : Type 0 where
 abbrev pub expanded : List Row → List (Option ℕ) → List Instance → Expanded
 expanded rows groupings nodes = record { rows = rows; groupings = groupings; nodes = nodes }
 
--- the members of row i that aren't `config false` themselves (RFC 7950 sections 7.13 and 7.21.1)
-unfoldable pub kept_members : List Row → List (Option ℕ) → ℕ → Option (List ℕ)
-kept_members rows groupings i = option_map (filter (is_kept rows)) (members rows groupings i)
-
--- those that are known
+-- the kept members of row i that are known: neither state themselves nor in a choice that is (RFC 7950 sections 7.9.2, 7.13 and 7.21.1)
 unfoldable pub kept_below : List Row → List (Option ℕ) → ℕ → List ℕ
 kept_below rows groupings i = unwrap_or (kept_members rows groupings i) []
 

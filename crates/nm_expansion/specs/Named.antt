@@ -3,7 +3,7 @@ use Rattle.std.specs.Prelude.{ℕ, List, Bool, ◌&&◌, Option}
 use Rattle.std.specs.Str.{bytes_eq}
 use Rattle.std.specs.List.{position_from}
 use Rattle.nm_grammar.specs.declared.row.Row.{Row}
-use Rattle.nm_shape.specs.Clash.{argument_at}
+use Rattle.nm_shape.specs.Arguments.{argument_at}
 use Rattle.nm_expansion.specs.declared.instance.Instance.{Instance}
 use Rattle.nm_expansion.specs.Expansion.{is_below, is_top}
 

@@ -8,24 +8,18 @@ ghost use Rattle.nm_expansion.specs.Growing as growing;
 use crate::instance::Instance;
 use crate::limits::{is_grown, module_row};
 use nm_base::NoMemory;
-use nm_shape::{Shape, is_kept};
+use nm_shape::Shape;
 use std::alloc::Global;
 
-// The members of a row that aren't `config false` themselves, and none where they aren't known.
-#[tactic(auto, unfolding(crate::specs::Expansion::kept_below, crate::specs::Expansion::kept_members))]
+// The members of a row that are neither state themselves nor in a choice that is, and none where they aren't known.
+#[tactic(auto, unfolding(crate::specs::Expansion::kept_below))]
 fn kept_below(alloc: Global, shape: &Shape<'_>, at: usize) -> Result<Vec<usize>, NoMemory>
     ensures { IfOk result (λ kept. kept.items ≡ spec.kept_below shape.now.rows shape.now.groupings at) }
 {
-    let Some(members) = shape.members(alloc, at)? else {
+    let Some(members) = shape.kept_members(alloc, at)? else {
         return Ok(Vec::new(alloc));
     };
-    let rows = shape.rows();
-    let kept = members
-        .as_slice()
-        .iter()
-        .copied()
-        .filter(|member| is_kept(rows, *member))
-        .collect(alloc)?;
+    let kept = members.as_slice().iter().copied().collect(alloc)?;
     Ok(kept)
 }
 

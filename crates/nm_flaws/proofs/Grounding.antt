@@ -17,8 +17,8 @@ use Rattle.nm_flaws.specs.Facts.{Facts, facts_of, IsCycle, definitions, standing
 use Rattle.nm_flaws.specs.Grounded.{AreGrounds}
 use Rattle.nm_flaws.proofs.Standings.{marks-standing, by_standing}
 
-pub are_grounds : (rows : List Row) (named : List (Option ℕ)) (shape : Outline) (expansion : Expanded) (types : Typings) (judgements : List Judgement) (texts : List (Option (Option (List ℕ)))) (known : Known) (keys : List (Option (List ℕ))) (cycle : Option ℕ) (configured in_state is_key flawed : List Bool)
-    → named ≡ definitions rows → shape ≡ outline rows named → expansion.rows ≡ rows → expansion.groupings ≡ named
+pub are_grounds : (rows : List Row) (named : List (Option ℕ)) (shape clashes : Outline) (expansion : Expanded) (types : Typings) (judgements : List Judgement) (texts : List (Option (Option (List ℕ)))) (known : Known) (keys : List (Option (List ℕ))) (cycle : Option ℕ) (configured in_state is_key flawed : List Bool)
+    → named ≡ definitions rows → shape ≡ outline rows named → clashes ≡ outline rows named → expansion.rows ≡ rows → expansion.groupings ≡ named
     → AreMeanings rows named types.meanings → AreJudgements rows named judgements → ((i : ℕ) → joined (slice_index_or texts i None) ≡ default_of rows named i) → AreLeafrefs named expansion known
     → ((s : Standing) → IsStanding shape.rows shape.groupings s → (i : ℕ) → slice_index_or keys i None ≡ keys_of shape.rows shape.groupings s i)
     → ((s : Standing) → IsStanding shape.rows shape.groupings s → Marks (IsKey shape.rows shape.groupings s) is_key)
@@ -26,8 +26,8 @@ pub are_grounds : (rows : List Row) (named : List (Option ℕ)) (shape : Outline
     → Marks (IsConfiguration shape.rows shape.groupings) configured → Marks (IsInState shape.rows shape.groupings) in_state
     → IsCycle rows cycle → IsExpansion expansion.rows expansion.groupings expansion.nodes
     → length configured ≡ length shape.rows → length in_state ≡ length shape.rows → length is_key ≡ length shape.rows → length known.faults ≡ length expansion.rows
-    → AreGrounds rows (facts_of cycle configured in_state is_key expansion.nodes known.faults) named shape expansion types judgements texts known keys flawed
-are_grounds rows named shape expansion types judgements texts known keys cycle configured in_state is_key flawed named_is shape_by rows_is groupings_is meanings judged texts_are leafrefs keys_are marks flaws config state cycle_is nodes configured_size state_size key_size faults_size =
+    → AreGrounds rows (facts_of cycle configured in_state is_key expansion.nodes known.faults) named shape clashes expansion types judgements texts known keys flawed
+are_grounds rows named shape clashes expansion types judgements texts known keys cycle configured in_state is_key flawed named_is shape_by clashes_by rows_is groupings_is meanings judged texts_are leafrefs keys_are marks flaws config state cycle_is nodes configured_size state_size key_size faults_size =
     let facts : Facts = facts_of cycle configured in_state is_key expansion.nodes known.faults in
     let defs : List (Option ℕ) = definitions rows in
     let shape_is : shape ≡ outline rows defs = subst (λ (n : List (Option ℕ)). shape ≡ outline rows n) named_is shape_by in
@@ -42,6 +42,7 @@ are_grounds rows named shape expansion types judgements texts known keys cycle c
     record {
       named_are = named_is;
       shape_is = shape_is;
+      clashes_are = subst (λ (n : List (Option ℕ)). clashes ≡ outline rows n) named_is clashes_by;
       tree_is = tree_is;
       meanings = subst (λ (n : List (Option ℕ)). AreMeanings rows n types.meanings) named_is meanings;
       judgements_are = subst (λ (n : List (Option ℕ)). AreJudgements rows n judgements) named_is judged;

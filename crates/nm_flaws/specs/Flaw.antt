@@ -11,7 +11,7 @@ use Rattle.nm_grammar.specs.Rows.{first_below}
 use Rattle.nm_grammar.specs.Flaw.{grammar_flaw}
 use Rattle.nm_names.specs.Named.{parent_of}
 use Rattle.nm_names.specs.Flaw.{name_flaw}
-use Rattle.nm_shape.specs.Clash.{clash_flaw}
+use Rattle.nm_clash.specs.Clash.{clash_flaw}
 use Rattle.nm_shape.specs.Config.{claim_at, is_keyless}
 use Rattle.nm_typing.specs.TypeFlaw.{type_flaw, cycle_flaw}
 use Rattle.nm_typing.specs.Defaults.{is_default, default_flaw, default_of}

@@ -34,9 +34,10 @@ abbrev pub AreFlawed : List Row → Facts → List Bool → Type 0
 AreFlawed rows facts marks = (i : ℕ) → slice_index_or marks i false ≡ is_some (unique_flaw rows (definitions rows) (standing facts) i)
 
 -- what is known is so
-pub record AreGrounds (rows : List Row) (facts : Facts) (named : List (Option ℕ)) (shape : Outline) (expansion : Expanded) (types : Typings) (judgements : List Judgement) (texts : List (Option (Option (List ℕ)))) (known : Known) (keys : List (Option (List ℕ))) (flawed : List Bool) : Type 0 where
+pub record AreGrounds (rows : List Row) (facts : Facts) (named : List (Option ℕ)) (shape clashes : Outline) (expansion : Expanded) (types : Typings) (judgements : List Judgement) (texts : List (Option (Option (List ℕ)))) (known : Known) (keys : List (Option (List ℕ))) (flawed : List Bool) : Type 0 where
   pub named_are : named ≡ definitions rows
   pub shape_is : shape ≡ outline rows (definitions rows)
+  pub clashes_are : clashes ≡ outline rows (definitions rows)
   pub tree_is : expansion ≡ tree rows facts
   pub meanings : AreMeanings rows (definitions rows) types.meanings
   pub judgements_are : AreJudgements rows (definitions rows) judgements

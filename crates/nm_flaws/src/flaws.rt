@@ -56,7 +56,7 @@ impl<'g, 'a> Grounds<'g, 'a> {
         )? {
             return Ok(Some(flaw));
         }
-        if let Some(flaw) = self.shape.clash_flaw(at)? {
+        if let Some(flaw) = self.clashes.clash_flaw(at)? {
             return Ok(Some(flaw));
         }
         if let Some(flaw) = self.config_flaw(alloc, at)? {

@@ -11,6 +11,7 @@ ghost use Rattle.nm_flaws.specs.Facts as spec;
 use crate::cycle::cycle_of;
 use crate::keys::keys_of_all;
 use nm_base::{Label, NoMemory};
+use nm_clash::{Clashes, clashes_of};
 use nm_expansion::Expansion;
 use nm_grammar::Rows;
 use nm_keys::{Keys, Uniques, flawed_uniques, key_leafs, uniques_of};
@@ -27,6 +28,7 @@ pub struct Grounds<'g, 'a> {
     pub(crate) names: &'g Names<'a>,
     pub(crate) definitions: &'a [Option<usize>],
     pub(crate) shape: &'a Shape<'a>,
+    pub(crate) clashes: Clashes<'a>,
     pub(crate) expansion: &'g Expansion<'a>,
     pub(crate) types: Types,
     pub(crate) judgements: Vec<Judgement>,
@@ -48,7 +50,7 @@ impl<'g, 'a> Model for Grounds<'g, 'a> {
 
     ghost view = { λ g. grounded g.names.now (facts_of g.cycle g.configured.now g.in_state.now g.is_key.items g.expansion.now.nodes g.leafrefs.faults) };
 
-    ghost invariant = { λ g. AreGrounds g.names.now (facts_of g.cycle g.configured.now g.in_state.now g.is_key.items g.expansion.now.nodes g.leafrefs.faults) g.definitions.now g.shape.now g.expansion.now g.types g.judgements.items g.defaults g.leafrefs g.keys.items g.flawed_uniques.items };
+    ghost invariant = { λ g. AreGrounds g.names.now (facts_of g.cycle g.configured.now g.in_state.now g.is_key.items g.expansion.now.nodes g.leafrefs.faults) g.definitions.now g.shape.now g.clashes g.expansion.now g.types g.judgements.items g.defaults g.leafrefs g.keys.items g.flawed_uniques.items };
 }
 
 impl<'g, 'a> Grounds<'g, 'a> {
@@ -73,6 +75,7 @@ impl<'g, 'a> Grounds<'g, 'a> {
         let types = types_of(alloc, rows, definitions)?;
         let judgements = judgements_of(alloc, rows, definitions, &types)?;
         let defaults = defaults_of(alloc, rows, definitions)?;
+        let clashes = clashes_of(alloc, rows, definitions)?;
         let leafrefs = leafrefs_of(alloc, names, paths, shape, expansion, &types, definitions)?;
         let keys = keys_of_all(alloc, names, shape)?;
         let is_key = key_leafs(alloc, names, shape)?;
@@ -82,6 +85,7 @@ impl<'g, 'a> Grounds<'g, 'a> {
             names,
             definitions,
             shape,
+            clashes,
             expansion,
             types,
             judgements,

@@ -1,8 +1,8 @@
 //! The first fault of YANG modules.
 //!
-//! Stands on the crates that each tell one kind of flaw: `nm_grammar`, `nm_names`, `nm_typing`, `nm_shape`, `nm_keys` and
-//! `nm_leafref`. The layers above rely on the first fault in the order of modules and places, and on what it was found by: the
-//! tree, where leafrefs lead, the keys of lists and the defaults of leafs.
+//! Stands on the crates that each tell one kind of flaw: `nm_grammar`, `nm_names`, `nm_typing`, `nm_clash`, `nm_shape`, `nm_keys`
+//! and `nm_leafref`. The layers above rely on the first fault in the order of modules and places, and on what it was found by:
+//! the tree, where leafrefs lead, the keys of lists and the defaults of leafs.
 #![tactic(auto)]
 
 mod cycle;

@@ -1,3 +1,4 @@
+mod choices;
 mod leafrefs;
 mod statements;
 mod types;
@@ -9,6 +10,7 @@ ghost use Rattle.nm_leafref.specs.Known.{ArePaths};
 ghost use Rattle.nm_flaws.specs.Facts as facts;
 
 use super::*;
+use choices::CHOICES;
 use leafrefs::{LEAFREFS, MODULES};
 use nm_base::NoMemory;
 use nm_expansion::expand;
@@ -123,6 +125,15 @@ fn body_compared(alloc: Global, body: &str, kind: &str) -> Result<(String, Strin
 #[test]
 fn statements_are_judged(rt: HostRuntime) -> Result<(), Fail> {
     for (body, kind) in STATEMENTS {
+        let (found, expected) = body_compared(rt.alloc(), body, kind)?;
+        assert_eq!(rt; found.as_str(), expected.as_str(), "{body}");
+    }
+    Ok(())
+}
+
+#[test]
+fn choices_are_judged(rt: HostRuntime) -> Result<(), Fail> {
+    for (body, kind) in CHOICES {
         let (found, expected) = body_compared(rt.alloc(), body, kind)?;
         assert_eq!(rt; found.as_str(), expected.as_str(), "{body}");
     }

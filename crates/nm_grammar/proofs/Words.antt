@@ -39,7 +39,9 @@ word_at n =
     if n == 29 then word.OrderedBy else (
     if n == 30 then word.Skipped else (
     if n == 31 then word.Unsupported else (
-    word.Unknown))))))))))))))))))))))))))))))))
+    if n == 32 then word.Unknown else (
+    if n == 33 then word.Choice else (
+    word.Case))))))))))))))))))))))))))))))))))
 
 back : (w : Word) → word_at (word_number w) ≡ w
 back word.Module = refl
@@ -54,6 +56,8 @@ back word.LeafList = refl
 back word.List = refl
 back word.Key = refl
 back word.Unique = refl
+back word.Choice = refl
+back word.Case = refl
 back word.«Type» = refl
 back word.Range = refl
 back word.Length = refl

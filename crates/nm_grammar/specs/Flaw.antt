@@ -23,11 +23,12 @@ is_data word.LeafList = true
 is_data word.List = true
 is_data _ = false
 
--- definitions and nodes of data, which stand in a module, a container, a list and a grouping (RFC 7950 section 7)
+-- definitions, choices and nodes of data, which stand in a module, a container, a list and a grouping (RFC 7950 section 7)
 abbrev pub is_scoped : Word → Bool
 is_scoped word.Typedef = true
 is_scoped word.Grouping = true
 is_scoped word.Uses = true
+is_scoped word.Choice = true
 is_scoped w = is_data w
 
 -- RFC 7950 section 7.1.1
@@ -77,6 +78,21 @@ in_list word.OrderedBy = true
 in_list word.Config = true
 in_list w = is_scoped w
 
+-- cases, nodes that are each a case of its own, and the properties of a choice (RFC 7950 sections 7.9.1 and 7.9.2)
+abbrev pub in_choice : Word → Bool
+in_choice word.Choice = true
+in_choice word.Case = true
+in_choice word.Default = true
+in_choice word.Mandatory = true
+in_choice word.Config = true
+in_choice w = is_data w
+
+-- RFC 7950 section 7.9.2.1
+abbrev pub in_case : Word → Bool
+in_case word.Choice = true
+in_case word.Uses = true
+in_case w = is_data w
+
 -- RFC 7950 section 7.3.1
 abbrev pub in_typedef : Word → Bool
 in_typedef word.«Type» = true
@@ -115,6 +131,8 @@ holds word.Container child = in_container child
 holds word.Leaf child = in_leaf child
 holds word.LeafList child = in_leaf_list child
 holds word.List child = in_list child
+holds word.Choice child = in_choice child
+holds word.Case child = in_case child
 holds word.Typedef child = in_typedef child
 holds word.«Type» child = in_type child
 holds word.Enum child = in_enum child
@@ -217,6 +235,8 @@ has_form word.Container text = is_identifier text
 has_form word.Leaf text = is_identifier text
 has_form word.LeafList text = is_identifier text
 has_form word.List text = is_identifier text
+has_form word.Choice text = is_identifier text
+has_form word.Case text = is_identifier text
 has_form word.«Type» text = is_reference text
 has_form word.Enum text = is_enum_name text
 has_form word.Bit text = is_identifier text
@@ -240,11 +260,18 @@ form_fault w (Some text) = if has_form w text then None else Some fault.BadArgum
 unfoldable pub is_user : List ℕ → Bool
 is_user text = bytes_eq text (codes "user")
 
+-- a leaf-list or a choice, whose defaults are left out (this project's own; RFC 7950 sections 7.7.4 and 7.9.3)
+abbrev pub is_undefaulted : Option Word → Bool
+is_undefaulted None = false
+is_undefaulted (Some word.LeafList) = true
+is_undefaulted (Some word.Choice) = true
+is_undefaulted (Some _) = false
+
 -- what is left out by its argument or by where it stands (this project's own)
 abbrev pub left_out : Option Word → Word → List ℕ → Option Fault
 left_out parent word.«Type» text = if is_left_out_type text then Some fault.UnsupportedType else None
 left_out parent word.OrderedBy text = if is_user text then Some fault.Unsupported else None
-left_out parent word.Default text = if is_leaf_list parent then Some fault.Unsupported else None
+left_out parent word.Default text = if is_undefaulted parent then Some fault.Unsupported else None
 left_out parent _ text = None
 
 abbrev pub text_of : Option (List ℕ) → List ℕ

@@ -14,7 +14,7 @@ heading_word keyword =
     if bytes_eq keyword (codes "prefix") then Some word.Prefix else (
     if bytes_eq keyword (codes "import") then Some word.Import else None))))
 
--- nodes of data (RFC 7950 sections 7.5 to 7.8)
+-- nodes, with choices and their cases (RFC 7950 sections 7.5 to 7.9)
 unfoldable pub node_word : List ℕ → Option Word
 node_word keyword =
     if bytes_eq keyword (codes "container") then Some word.Container else (
@@ -23,7 +23,9 @@ node_word keyword =
     if bytes_eq keyword (codes "leaf-list") then Some word.LeafList else (
     if bytes_eq keyword (codes "list") then Some word.List else (
     if bytes_eq keyword (codes "key") then Some word.Key else (
-    if bytes_eq keyword (codes "unique") then Some word.Unique else None))))))
+    if bytes_eq keyword (codes "unique") then Some word.Unique else (
+    if bytes_eq keyword (codes "choice") then Some word.Choice else (
+    if bytes_eq keyword (codes "case") then Some word.Case else None))))))))
 
 -- types and their restrictions (RFC 7950 sections 7.4 and 9)
 unfoldable pub type_word : List ℕ → Option Word
@@ -90,16 +92,14 @@ is_left_out_node keyword =
     if bytes_eq keyword (codes "anydata") then true else (
     if bytes_eq keyword (codes "anyxml") then true else false)))))))
 
--- choices, submodules and features (this project's own list)
+-- submodules and features (this project's own list)
 unfoldable pub is_left_out_part : List ℕ → Bool
 is_left_out_part keyword =
-    if bytes_eq keyword (codes "choice") then true else (
-    if bytes_eq keyword (codes "case") then true else (
     if bytes_eq keyword (codes "include") then true else (
     if bytes_eq keyword (codes "submodule") then true else (
     if bytes_eq keyword (codes "belongs-to") then true else (
     if bytes_eq keyword (codes "feature") then true else (
-    if bytes_eq keyword (codes "if-feature") then true else false))))))
+    if bytes_eq keyword (codes "if-feature") then true else false))))
 
 -- a keyword with a prefix, of an extension of YANG (RFC 7950 section 6.3.1)
 abbrev pub has_colon : List ℕ → Bool
@@ -141,6 +141,8 @@ word_text word.LeafList = codes "leaf-list"
 word_text word.List = codes "list"
 word_text word.Key = codes "key"
 word_text word.Unique = codes "unique"
+word_text word.Choice = codes "choice"
+word_text word.Case = codes "case"
 word_text word.«Type» = codes "type"
 word_text word.Range = codes "range"
 word_text word.Length = codes "length"
@@ -196,6 +198,8 @@ word_number word.OrderedBy = 29
 word_number word.Skipped = 30
 word_number word.Unsupported = 31
 word_number word.Unknown = 32
+word_number word.Choice = 33
+word_number word.Case = 34
 
 abbrev pub same_word : Word → Word → Bool
 same_word one other = word_number one == word_number other

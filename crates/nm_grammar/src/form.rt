@@ -4,7 +4,7 @@ ghost use Rattle.std.specs.Prelude.{◌≡◌, Some, None, if◌then◌else◌};
 ghost use Rattle.nm_grammar.specs.Flaw as spec;
 
 use crate::fault::Fault;
-use crate::nesting::is_leaf_list;
+use crate::nesting::is_undefaulted;
 use crate::text::{
     is_builtin, is_count, is_digit_count, is_enum_name, is_identifier, is_left_out_type, is_limit,
     is_order, is_reference, is_some_text, is_truth, is_version,
@@ -25,6 +25,8 @@ fn has_form(word: Word, text: &str) -> bool
         Word::Leaf => is_identifier(text),
         Word::LeafList => is_identifier(text),
         Word::List => is_identifier(text),
+        Word::Choice => is_identifier(text),
+        Word::Case => is_identifier(text),
         Word::Type => is_reference(text),
         Word::Enum => is_enum_name(text),
         Word::Bit => is_identifier(text),
@@ -89,7 +91,7 @@ pub fn left_out(parent: Option<Word>, word: Word, text: &str) -> Option<Fault>
     match word {
         Word::Type => fault_if(is_left_out_type(text), Fault::UnsupportedType),
         Word::OrderedBy => fault_if(is_user(text), Fault::Unsupported),
-        Word::Default => fault_if(is_leaf_list(parent), Fault::Unsupported),
+        Word::Default => fault_if(is_undefaulted(parent), Fault::Unsupported),
         _ => None,
     }
 }

@@ -27,6 +27,7 @@ fn is_scoped(word: Word) -> bool
         Word::Typedef => true,
         Word::Grouping => true,
         Word::Uses => true,
+        Word::Choice => true,
         _ => is_data(word),
     }
 }
@@ -102,6 +103,29 @@ fn in_list(word: Word) -> bool
     }
 }
 
+fn in_choice(word: Word) -> bool
+    ensures { result ≡ spec.in_choice word }
+{
+    match word {
+        Word::Choice => true,
+        Word::Case => true,
+        Word::Default => true,
+        Word::Mandatory => true,
+        Word::Config => true,
+        _ => is_data(word),
+    }
+}
+
+fn in_case(word: Word) -> bool
+    ensures { result ≡ spec.in_case word }
+{
+    match word {
+        Word::Choice => true,
+        Word::Uses => true,
+        _ => is_data(word),
+    }
+}
+
 fn in_typedef(word: Word) -> bool
     ensures { result ≡ spec.in_typedef word }
 {
@@ -163,6 +187,8 @@ fn holds(parent: Word, child: Word) -> bool
         Word::Leaf => in_leaf(child),
         Word::LeafList => in_leaf_list(child),
         Word::List => in_list(child),
+        Word::Choice => in_choice(child),
+        Word::Case => in_case(child),
         Word::Typedef => in_typedef(child),
         Word::Type => in_type(child),
         Word::Enum => in_enum(child),
@@ -217,11 +243,22 @@ pub fn place_fault(rows: &Rows, row: &Row) -> Option<Fault>
     Some(Fault::Unknown)
 }
 
-pub fn is_leaf_list(word: Option<Word>) -> bool
+fn is_leaf_list(word: Option<Word>) -> bool
     ensures { result ≡ spec.is_leaf_list word }
 {
     match word {
         Some(Word::LeafList) => true,
+        _ => false,
+    }
+}
+
+/// Whether it is a leaf-list or a choice: the defaults of both are left out.
+pub fn is_undefaulted(word: Option<Word>) -> bool
+    ensures { result ≡ spec.is_undefaulted word }
+{
+    match word {
+        Some(Word::LeafList) => true,
+        Some(Word::Choice) => true,
         _ => false,
     }
 }

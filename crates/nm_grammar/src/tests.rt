@@ -15,7 +15,7 @@ fn kind_name(word: Word) -> &'static str {
 }
 
 // The statements that RFC 7950 section 14 lists, and keywords that it doesn't.
-const KEYWORDS: [(&str, &str); 34] = [
+const KEYWORDS: [(&str, &str); 35] = [
     ("module", "module"),
     ("yang-version", "yang-version"),
     ("namespace", "namespace"),
@@ -43,7 +43,8 @@ const KEYWORDS: [(&str, &str); 34] = [
     ("must", "unsupported"),
     ("when", "unsupported"),
     ("pattern", "unsupported"),
-    ("choice", "unsupported"),
+    ("choice", "choice"),
+    ("case", "case"),
     ("include", "unsupported"),
     ("if-feature", "unsupported"),
     ("require-instance", "unknown"),
@@ -210,7 +211,7 @@ fn first_flaw(alloc: Global, rows: &Rows, before: u32) -> Result<String, AllocEr
 }
 
 // Each is what stands within a module `m`, behind its namespace and prefix. Places count from there.
-const WITHIN: [(&str, &str); 60] = [
+const WITHIN: [(&str, &str); 88] = [
     ("", "none"),
     ("leaf a { type int8; }", "none"),
     ("leaf a;", "bad-argument type 0"),
@@ -335,7 +336,62 @@ const WITHIN: [(&str, &str); 60] = [
     ("typedef union { type int8; }", "bad-argument typedef 0"),
     ("grouping g { config true; }", "unknown config 13"),
     ("uses g { leaf a; }", "unknown leaf 9"),
-    ("choice c { leaf a; }", "unsupported choice 0"),
+    ("choice c;", "none"),
+    ("choice c { case a; }", "none"),
+    ("choice 9;", "bad-argument choice 0"),
+    ("choice;", "bad-argument choice 0"),
+    ("case c;", "unknown case 0"),
+    ("choice c { case 9; }", "bad-argument case 11"),
+    ("choice c { leaf a; }", "bad-argument type 11"),
+    (
+        "choice c { leaf a { type t; } leaf-list b { type t; } container d; list e; }",
+        "none",
+    ),
+    (
+        "choice c { choice d { choice e; } case f { choice g; } }",
+        "none",
+    ),
+    ("choice c { mandatory true; config false; }", "none"),
+    ("choice c { mandatory; }", "bad-argument mandatory 11"),
+    (
+        "choice c { mandatory true; mandatory true; }",
+        "duplicate mandatory 27",
+    ),
+    (
+        "choice c { config true; config true; }",
+        "duplicate config 24",
+    ),
+    ("choice c { default a; }", "unsupported default 11"),
+    ("choice c { case a { default b; } }", "unknown default 20"),
+    ("choice c { description d; reference r; status s; }", "none"),
+    ("choice c { when w; }", "unsupported when 11"),
+    ("choice c { if-feature f; }", "unsupported if-feature 11"),
+    ("choice c { uses g; }", "unknown uses 11"),
+    ("choice c { typedef t { type u; } }", "unknown typedef 11"),
+    ("choice c { grouping g; }", "unknown grouping 11"),
+    ("choice c { key k; }", "unknown key 11"),
+    (
+        "choice c { case a { uses g; container d; list e; } }",
+        "none",
+    ),
+    ("choice c { case a { case b; } }", "unknown case 20"),
+    (
+        "choice c { case a { mandatory true; } }",
+        "unknown mandatory 20",
+    ),
+    ("choice c { case a { config true; } }", "unknown config 20"),
+    (
+        "choice c { case a { typedef t { type u; } } }",
+        "unknown typedef 20",
+    ),
+    (
+        "grouping g { choice c { case a { leaf b { type t; } } } }",
+        "none",
+    ),
+    (
+        "list l { choice c; } container d { choice e { anydata f; } }",
+        "unsupported anydata 46",
+    ),
     ("import x { prefix x; }", "none"),
     ("import x;", "bad-argument prefix 0"),
     ("prefix q;", "duplicate prefix 0"),

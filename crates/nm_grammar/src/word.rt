@@ -18,6 +18,8 @@ pub enum Word {
     List,
     Key,
     Unique,
+    Choice,
+    Case,
     Type,
     Range,
     Length,
@@ -62,6 +64,8 @@ impl Word {
             Word::List => "list",
             Word::Key => "key",
             Word::Unique => "unique",
+            Word::Choice => "choice",
+            Word::Case => "case",
             Word::Type => "type",
             Word::Range => "range",
             Word::Length => "length",
@@ -124,6 +128,8 @@ impl Word {
             Word::Skipped => 30,
             Word::Unsupported => 31,
             Word::Unknown => 32,
+            Word::Choice => 33,
+            Word::Case => 34,
         }
     }
 
@@ -163,6 +169,8 @@ fn node_word(keyword: &str) -> Option<Word>
         "list" => Some(Word::List),
         "key" => Some(Word::Key),
         "unique" => Some(Word::Unique),
+        "choice" => Some(Word::Choice),
+        "case" => Some(Word::Case),
         _ => None,
     }
 }
@@ -267,8 +275,6 @@ fn is_left_out_part(keyword: &str) -> bool
     ensures { result ≡ spec.is_left_out_part keyword.now }
 {
     match keyword {
-        "choice" => true,
-        "case" => true,
         "include" => true,
         "submodule" => true,
         "belongs-to" => true,

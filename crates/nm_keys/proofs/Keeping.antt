@@ -1,13 +1,13 @@
 -- Values of rows that are kept.
-use Rattle.std.proofs.Common.{◌≡◌, ◌∙◌, ℕ, List, [], Bool, true, false, ◌==◌, cond, Option, Some, None, IfSome, refl, sym, ap, subst, arith}
+use Rattle.std.proofs.Common.{◌≡◌, ◌∙◌, ℕ, List, [], Bool, true, false, ◌==◌, cond, Option, Some, IfSome, refl, sym, ap, subst, arith}
 use Rattle.std.proofs.lemmas.Bool.{eqb-true}
 use Rattle.std.proofs.lemmas.Bool.Decides.{nat_tests}
 use Rattle.std.specs.Ordering.{is_eq, nat_cmp}
 use Rattle.std.specs.BTreeMap.{BTreeMap, get}
 use Rattle.nm_grammar.specs.declared.row.Row.{Row}
 use Rattle.nm_keys.specs.declared.found.Found.{Found}
-use Rattle.nm_keys.specs.Found.{found_among, member_named}
-use Rattle.nm_keys.specs.Membership.{Membership}
+use Rattle.nm_keys.specs.Found.{seen_among, member_named}
+use Rattle.nm_keys.specs.Membership.{Sight}
 use Rattle.nm_keys.specs.Kept.{Keeps, members_at}
 
 -- nothing is kept
@@ -38,10 +38,10 @@ unfolding Keeps
 keeps_same value old new kept same = λ i. rw same (kept i)
 
 -- a name among the members that are kept
-pub kept-found : (rows : List Row) (groupings : List (Option ℕ)) (map : BTreeMap ℕ Membership) (at : ℕ) (m : Membership) (name : List ℕ) (found : Found) → Keeps (members_at rows groupings) map → Some m ≡ get nat_cmp map at → found ≡ found_among m.rows m.nodes name
-    → found ≡ member_named rows groupings at name
+pub kept-found : (rows : List Row) (groupings : List (Option ℕ)) (map : BTreeMap ℕ Sight) (loses : Bool) (at : ℕ) (s : Sight) (name : List ℕ) (found : Found) → Keeps (members_at rows groupings) map → Some s ≡ get nat_cmp map at
+    → found ≡ seen_among s.rows loses s.nodes s.kept name → found ≡ member_named rows groupings loses at name
 unfolding members_at
-kept-found rows groupings map at m name found kept is told = told ∙ ap (λ (n : Membership). found_among n.rows n.nodes name) (kept_is (members_at rows groupings) map at m kept is)
+kept-found rows groupings map loses at s name found kept is told = told ∙ ap (λ (t : Sight). seen_among t.rows loses t.nodes t.kept name) (kept_is (members_at rows groupings) map at s kept is)
 
 -- what is kept, if it is
 pub kept_if : {X : Type 0} (value : ℕ → X) (map : BTreeMap ℕ X) (i : ℕ) (o : Option X) → Keeps value map → o ≡ get nat_cmp map i → IfSome o (λ x. x ≡ value i)

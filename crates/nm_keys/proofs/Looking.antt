@@ -5,7 +5,7 @@ use Rattle.std.specs.List.{find}
 use Rattle.std.specs.Str.{bytes_eq}
 use Rattle.std.specs.BTreeMap.{BTreeMap}
 use Rattle.nm_grammar.specs.declared.row.Row.{Row}
-use Rattle.nm_shape.specs.Clash.{argument_at}
+use Rattle.nm_shape.specs.Arguments.{argument_at}
 use Rattle.nm_keys.specs.declared.found.Found.TheVariants as found
 use Rattle.nm_keys.specs.Found.{is_called, row_or_missing, found_among}
 use Rattle.nm_keys.specs.Membership.{Membership, membership, Leads, led}

@@ -8,7 +8,7 @@ use Rattle.nm_grammar.specs.declared.flaw.Flaw.TheVariants as flaw
 use Rattle.nm_grammar.specs.Word.{word_text}
 use Rattle.nm_grammar.specs.Text.{name_of}
 use Rattle.nm_grammar.specs.Rows.{first_below}
-use Rattle.nm_shape.specs.Members.{members}
+use Rattle.nm_shape.specs.Passing.{plain_members}
 use Rattle.nm_keys.specs.declared.found.Found.{Found}
 use Rattle.nm_keys.specs.declared.found.Found.TheVariants as found
 use Rattle.nm_keys.specs.Standing.{Standing, loses_state}
@@ -18,7 +18,7 @@ use Rattle.nm_keys.specs.Said.{Said, said_at}
 
 -- ---- the words of a key
 
--- the leaf that a word of a key names, among the members of its list
+-- the leaf that a word of a key names, among the members of its list that stand in no choice
 unfoldable pub key_leaf : List Row → Option (List ℕ) → Bool → ℕ → List ℕ → Found
 key_leaf rows nodes loses m text = fit_among rows nodes loses m word.Leaf text
 
@@ -62,7 +62,7 @@ key_words_leafs leaf known texts = if is_none (key_words_flaw leaf texts) && kno
 
 abbrev pub said_key_flaw : List Row → List (Option ℕ) → Standing → Option Said → Option Flaw
 said_key_flaw rows groupings standing None = None
-said_key_flaw rows groupings standing (Some s) = key_words_flaw (key_leaf rows (members rows groupings s.list) (loses_state standing s.list) s.owner) (words_of s.text)
+said_key_flaw rows groupings standing (Some s) = key_words_flaw (key_leaf rows (plain_members rows groupings s.list) (loses_state standing s.list) s.owner) (words_of s.text)
 
 -- what is wrong with the `key` statement of row i in a list; none of other rows (RFC 7950 section 7.8.2)
 unfoldable pub key_flaw : List Row → List (Option ℕ) → Standing → ℕ → Option Flaw
@@ -70,7 +70,7 @@ key_flaw rows groupings standing i = said_key_flaw rows groupings standing (said
 
 abbrev pub said_keys : List Row → List (Option ℕ) → Standing → Option Said → Option (List ℕ)
 said_keys rows groupings standing None = None
-said_keys rows groupings standing (Some s) = key_words_leafs (key_leaf rows (members rows groupings s.list) (loses_state standing s.list) s.owner) (is_some (members rows groupings s.list)) (words_of s.text)
+said_keys rows groupings standing (Some s) = key_words_leafs (key_leaf rows (plain_members rows groupings s.list) (loses_state standing s.list) s.owner) (is_some (plain_members rows groupings s.list)) (words_of s.text)
 
 abbrev pub keys_at : List Row → List (Option ℕ) → Standing → Option ℕ → Option (List ℕ)
 keys_at rows groupings standing None = None

@@ -16,6 +16,15 @@ pub record Membership : Type 0 where
 abbrev pub membership : List Row → Option (List ℕ) → Membership
 membership rows nodes = record { rows = rows; nodes = nodes }
 
+-- the rows of modules, the members of one of them, and those that are neither state nor in a choice that is, where these are known
+pub record Sight : Type 0 where
+  pub rows : List Row
+  pub nodes : Option (List ℕ)
+  pub kept : Option (List ℕ)
+
+abbrev pub sight : List Row → Option (List ℕ) → Option (List ℕ) → Sight
+sight rows nodes kept = record { rows = rows; nodes = nodes; kept = kept }
+
 -- where a map leads for a name
 abbrev pub led : BTreeMap (Bor (List ℕ)) ℕ → List ℕ → Option ℕ
 led map name = get_by (λ k. slice_cmp nat_cmp name k.now) map

@@ -9,14 +9,13 @@ use Rattle.nm_grammar.specs.declared.flaw.Flaw.TheVariants as flaw
 use Rattle.nm_grammar.specs.Word.{word_text}
 use Rattle.nm_grammar.specs.Rows.{has_word, children}
 use Rattle.nm_graph.specs.Value.{all_there}
-use Rattle.nm_shape.specs.Members.{members}
 use Rattle.nm_keys.specs.declared.found.Found.{Found}
 use Rattle.nm_keys.specs.declared.found.Found.TheVariants as found
 use Rattle.nm_keys.specs.declared.passage.Passage.{Passage}
 use Rattle.nm_keys.specs.declared.passage.Passage.TheVariants as passage
 use Rattle.nm_keys.specs.Standing.{Standing, loses_state}
 use Rattle.nm_keys.specs.Words.{words_of, pieces_of}
-use Rattle.nm_keys.specs.Found.{fit_among}
+use Rattle.nm_keys.specs.Found.{fit_member}
 use Rattle.nm_keys.specs.Said.{Said, said_at}
 
 -- ---- the words of a `unique`
@@ -28,7 +27,7 @@ word_before (piece ∷ pieces) = word.Container
 
 -- the member of row i that a piece of a word names, with more pieces behind it
 unfoldable pub next_row : List Row → List (Option ℕ) → Bool → ℕ → ℕ → List ℕ → List (List ℕ) → Found
-next_row rows groupings loses m i piece pieces = fit_among rows (members rows groupings i) loses m (word_before pieces) piece
+next_row rows groupings loses m i piece pieces = fit_member rows groupings loses i m (word_before pieces) piece
 
 -- rows in front of a passage
 abbrev pub behind : List ℕ → Passage → Passage

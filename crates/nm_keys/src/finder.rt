@@ -2,12 +2,11 @@
 
 ghost use Rattle.std.specs.Prelude.{◌≡◌, IfOk, IfSome};
 ghost use Rattle.nm_shape.specs.Config.{is_state};
-ghost use Rattle.nm_shape.specs.Members.{members};
 ghost use Rattle.nm_keys.specs.Found as spec;
 ghost use Rattle.nm_keys.specs.Kept.{members_at};
 
 use crate::found::{Found, has_word, is_state};
-use crate::members::Members;
+use crate::seen::Seen;
 use crate::words::own_name;
 use nm_base::NoMemory;
 use nm_grammar::Word;
@@ -28,7 +27,7 @@ const MOST_KEPT: usize = 1_048_576;
 pub struct Finder<'n, 'a, 's> {
     names: &'n Names<'a>,
     shape: &'n Shape<'s>,
-    members: BTreeMap<usize, Members<'n, 'a>>,
+    members: BTreeMap<usize, Seen<'n, 'a>>,
     states: BTreeMap<usize, bool>,
     count: usize,
 }
@@ -88,7 +87,7 @@ impl<'n, 'a, 's> Finder<'n, 'a, 's> {
     }
 
     // Keeps the members of a row.
-    fn keep(&mut self, at: usize, members: Members<'n, 'a>) -> Result<(), NoMemory>
+    fn keep(&mut self, at: usize, members: Seen<'n, 'a>) -> Result<(), NoMemory>
         requires { members ≡ members_at self.old.rows self.old.groupings at }
         ensures { self.new ≡ self.old }
     {
@@ -97,38 +96,44 @@ impl<'n, 'a, 's> Finder<'n, 'a, 's> {
         Ok(())
     }
 
-    // The first member of a row that has a name, where the members of the row are kept.
-    fn named_kept(&self, at: usize, name: &'a str) -> Option<Found>
-        ensures { IfSome result (λ found. found ≡ spec.member_named self.now.rows self.now.groupings at name.now) }
+    // The first member of a row that has a name, if it isn't lost with state, where the members of the row are kept.
+    fn named_kept(&self, loses: bool, at: usize, name: &'a str) -> Option<Found>
+        ensures { IfSome result (λ found. found ≡ spec.member_named self.now.rows self.now.groupings loses at name.now) }
     {
         match self.members.get(&at) {
             None => None,
-            Some(members) => Some(members.named(name)),
+            Some(members) => Some(members.named(loses, name)),
         }
     }
 
-    // The first member of a row that has a name.
-    fn named(&mut self, alloc: Global, at: usize, name: &'a str) -> Result<Found, NoMemory>
+    // The first member of a row that has a name, if it isn't lost with state.
+    fn named(
+        &mut self,
+        alloc: Global,
+        loses: bool,
+        at: usize,
+        name: &'a str,
+    ) -> Result<Found, NoMemory>
         ensures same { self.new ≡ self.old }
-        ensures found { IfOk result (λ found. found ≡ spec.member_named self.old.rows self.old.groupings at name.now) }
+        ensures found { IfOk result (λ found. found ≡ spec.member_named self.old.rows self.old.groupings loses at name.now) }
     {
-        if let Some(found) = self.named_kept(at, name) {
+        if let Some(found) = self.named_kept(loses, at, name) {
             return Ok(found);
         }
-        let members = Members::new(alloc, self.names, self.shape, at)?;
-        let found = members.named(name);
+        let members = Seen::new(alloc, self.names, self.shape, at)?;
+        let found = members.named(loses, name);
         self.keep(at, members)?;
         Ok(found)
     }
 
-    // Whether a row is a node that has `config false` directly, where that is kept.
+    // Whether a row is a node or a choice that has `config false` directly, where that is kept.
     fn state_kept(&self, at: usize) -> Option<bool>
         ensures { IfSome result (λ state. state ≡ is_state self.now.rows at) }
     {
         self.states.get(&at).copied()
     }
 
-    // Keeps whether a row is a node that has `config false` directly.
+    // Keeps whether a row is a node or a choice that has `config false` directly.
     fn keep_state(&mut self, at: usize, state: bool) -> Result<(), NoMemory>
         requires { state ≡ is_state self.old.rows at }
         ensures { self.new ≡ self.old }
@@ -137,7 +142,7 @@ impl<'n, 'a, 's> Finder<'n, 'a, 's> {
         Ok(())
     }
 
-    // Whether a row is a node that has `config false` directly.
+    // Whether a row is a node or a choice that has `config false` directly.
     fn is_state(&mut self, at: usize) -> Result<bool, NoMemory>
         ensures same { self.new ≡ self.old }
         ensures state { IfOk result (λ state. state ≡ is_state self.old.rows at) }
@@ -182,8 +187,8 @@ impl<'n, 'a, 's> Finder<'n, 'a, 's> {
         }
     }
 
-    /// The member of a row that a word in the module of a number names, where it has a word and isn't lost.
-    #[tactic(auto, unfolding(crate::specs::Found::fit_among))]
+    /// The member of a row that a word in the module of a number names, where it has a word and isn't lost with state.
+    #[tactic(auto, unfolding(crate::specs::Found::fit_member))]
     pub fn fit(
         &mut self,
         alloc: Global,
@@ -194,12 +199,12 @@ impl<'n, 'a, 's> Finder<'n, 'a, 's> {
         word: &'a str,
     ) -> Result<Found, NoMemory>
         ensures same { self.new ≡ self.old }
-        ensures found { IfOk result (λ found. found ≡ spec.fit_among self.old.rows (members self.old.rows self.old.groupings at) loses owner wanted word.now) }
+        ensures found { IfOk result (λ found. found ≡ spec.fit_member self.old.rows self.old.groupings loses at owner wanted word.now) }
     {
         match own_name(self.names, owner, word) {
             None => Ok(Found::Missing),
             Some(name) => {
-                let found = self.named(alloc, at, name)?;
+                let found = self.named(alloc, loses, at, name)?;
                 self.fitting(loses, wanted, found)
             }
         }

@@ -1,10 +1,10 @@
 //! Where a name leads, and what fits there.
 
 ghost use Rattle.std.specs.Prelude.{◌≡◌, Some, slice_get};
-ghost use Rattle.nm_grammar.specs.Flaw as grammar;
 ghost use Rattle.nm_grammar.specs.Rows.{has_word};
-ghost use Rattle.nm_shape.specs.Clash.{argument_at};
+ghost use Rattle.nm_shape.specs.Arguments.{argument_at};
 ghost use Rattle.nm_shape.specs.Config.{is_state, says_false};
+ghost use Rattle.nm_shape.specs.Holding.{is_node};
 ghost use Rattle.nm_keys.specs.Standing.{Standing, IsStanding, is_lost, loses_state};
 ghost use Rattle.nm_keys.specs.Found as spec;
 
@@ -23,7 +23,7 @@ pub enum Found {
 }
 
 /// The argument of a row, and an empty text where it has none.
-#[tactic(auto, unfolding(nm_shape::specs::Clash::argument_at))]
+#[tactic(auto, unfolding(nm_shape::specs::Arguments::argument_at))]
 pub(crate) fn argument_at(rows: &Rows, at: usize) -> &str
     ensures { result.now ≡ argument_at rows.now at }
 {
@@ -44,11 +44,12 @@ pub(crate) fn has_word(rows: &Rows, at: usize, wanted: Word) -> bool
     }
 }
 
-fn is_data(word: Word) -> bool
-    ensures { result ≡ grammar.is_data word }
+fn is_node(word: Word) -> bool
+    ensures { result ≡ is_node word }
 {
     match word {
         Word::Container | Word::Leaf | Word::LeafList | Word::List => true,
+        Word::Choice => true,
         _ => false,
     }
 }
@@ -63,7 +64,7 @@ fn says_false(rows: &Rows, config: Option<usize>) -> bool
     }
 }
 
-/// Whether a row is a node that has `config false` directly.
+/// Whether a row is a node or a choice that has `config false` directly.
 #[tactic(auto, unfolding(nm_shape::specs::Config::is_state))]
 pub(crate) fn is_state(rows: &Rows, at: usize) -> bool
     ensures { result ≡ is_state rows.now at }
@@ -72,7 +73,7 @@ pub(crate) fn is_state(rows: &Rows, at: usize) -> bool
         None => return false,
         Some(row) => row.word,
     };
-    is_data(word) && says_false(rows, rows.first_below(at, Word::Config))
+    is_node(word) && says_false(rows, rows.first_below(at, Word::Config))
 }
 
 // Whether a row says `config false` itself where state is lost.

@@ -125,7 +125,7 @@ pub fn key_flaw(
         None => return Ok(None),
         Some(said) => said,
     };
-    let members = Members::new(alloc, names, shape, said.list)?;
+    let members = Members::plain(alloc, names, shape, said.list)?;
     let loses = loses_state(shape, said.list);
     let mut keys = Keys::new(alloc);
     said_flaw(alloc, &members, loses, &said, &mut keys)
@@ -173,6 +173,6 @@ pub fn keys_of(
         None => return Ok(None),
         Some(said) => said,
     };
-    let members = Members::new(alloc, names, shape, said.list)?;
+    let members = Members::plain(alloc, names, shape, said.list)?;
     said_keys(alloc, &members, loses_state(shape, said.list), &said)
 }

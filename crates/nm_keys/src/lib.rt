@@ -13,6 +13,7 @@ mod marks;
 mod members;
 mod passage;
 mod said;
+mod seen;
 mod unique;
 mod words;
 

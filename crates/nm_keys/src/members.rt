@@ -2,6 +2,7 @@
 
 ghost use Rattle.std.specs.Prelude.{◌≡◌, [], IfOk, is_some, length, unwrap_or};
 ghost use Rattle.nm_shape.specs.Members as shape_spec;
+ghost use Rattle.nm_shape.specs.Passing as passing;
 ghost use Rattle.nm_keys.specs.Found as spec;
 ghost use Rattle.nm_keys.specs.Membership.{Leads, membership};
 
@@ -75,12 +76,51 @@ impl<'n, 'a> Members<'n, 'a> {
         ensures { IfOk result (λ members. members ≡ membership names.now (shape_spec.members names.now shape.now.groupings at)) }
     {
         let nodes = shape.members(alloc, at)?;
+        Members::of(alloc, names, nodes)
+    }
+
+    // Some nodes of the modules by name, if they are known.
+    fn of(
+        alloc: Global,
+        names: &'n Names<'a>,
+        nodes: Option<Nodes>,
+    ) -> Result<Members<'n, 'a>, NoMemory>
+        ensures { IfOk result (λ members. members ≡ membership names.now nodes) }
+    {
         let first = first_of_each(alloc, names, slice_of(&nodes))?;
         Ok(Members {
             names,
             nodes,
             first,
         })
+    }
+
+    /// The members of a row that stand in no choice.
+    pub fn plain(
+        alloc: Global,
+        names: &'n Names<'a>,
+        shape: &Shape<'_>,
+        at: usize,
+    ) -> Result<Members<'n, 'a>, NoMemory>
+        requires { names.now ≡ shape.now.rows }
+        ensures { IfOk result (λ members. members ≡ membership names.now (passing.plain_members names.now shape.now.groupings at)) }
+    {
+        let nodes = shape.plain_members(alloc, at)?;
+        Members::of(alloc, names, nodes)
+    }
+
+    /// The members of a row that are no state themselves and stand in no choice that is.
+    pub fn kept(
+        alloc: Global,
+        names: &'n Names<'a>,
+        shape: &Shape<'_>,
+        at: usize,
+    ) -> Result<Members<'n, 'a>, NoMemory>
+        requires { names.now ≡ shape.now.rows }
+        ensures { IfOk result (λ members. members ≡ membership names.now (passing.kept_members names.now shape.now.groupings at)) }
+    {
+        let nodes = shape.kept_members(alloc, at)?;
+        Members::of(alloc, names, nodes)
     }
 
     /// Whether the members are known.

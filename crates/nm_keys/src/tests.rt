@@ -115,7 +115,35 @@ fn told_of(alloc: Global, text: &str) -> Result<String, Fail> {
 }
 
 // A module's text, and what is told of it: a flaw has the number of its row (RFC 7950 sections 7.8.2, 7.8.3 and 14).
-const LISTS: [(&str, &str); 29] = [
+const LISTS: [(&str, &str); 36] = [
+    (
+        "module m { prefix p; list l { key a; choice c { leaf a; } } }",
+        "bad-reference a 3; none; ",
+    ),
+    (
+        "module m { prefix p; list l { key a; uses g; } grouping g { choice c { case d { leaf a; } } } }",
+        "bad-reference a 3; none; ",
+    ),
+    (
+        "module m { prefix p; list l { key a; leaf a; unique b; choice c { case d { leaf b; } } } }",
+        "none; [4]; ([8])",
+    ),
+    (
+        "module m { prefix p; list l { key a; leaf a; unique c/b; choice c { case d { leaf b; } } } }",
+        "bad-reference c/b 5; [4]; none",
+    ),
+    (
+        "module m { prefix p; list l { key a; leaf a; unique b; choice c { config false; leaf b; } } }",
+        "bad-reference b 5; [4]; none",
+    ),
+    (
+        "module m { prefix p; list l { config false; unique b; choice c { config false; leaf b; } } }",
+        "none; none; ([7])",
+    ),
+    (
+        "module m { prefix p; list l { key a; leaf a; unique d/e; choice c { container d { choice f { leaf e; } } } } }",
+        "none; [4]; ([7, 9])",
+    ),
     (
         "module m { prefix p; list l { key \"a b\"; leaf a; leaf b; } }",
         "none; [4, 5]; ",

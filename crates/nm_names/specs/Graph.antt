@@ -7,13 +7,15 @@ use Rattle.nm_grammar.specs.declared.row.Row.{Row}
 use Rattle.nm_grammar.specs.Rows.{children, first_below}
 use Rattle.nm_names.specs.Leads.{leads_to}
 
--- what makes nodes of data where it stands (RFC 7950 sections 7.5 to 7.8 and 7.13)
+-- what makes nodes of data where it stands (RFC 7950 sections 7.5 to 7.9 and 7.13)
 abbrev pub is_part : Word → Bool
 is_part word.Container = true
 is_part word.List = true
 is_part word.Leaf = true
 is_part word.LeafList = true
 is_part word.Uses = true
+is_part word.Choice = true
+is_part word.Case = true
 is_part _ = false
 
 abbrev pub is_part_in : Option Row → Bool
@@ -37,6 +39,8 @@ word_leading rows i word.Module = parts rows i
 word_leading rows i word.Container = parts rows i
 word_leading rows i word.List = parts rows i
 word_leading rows i word.Grouping = parts rows i
+word_leading rows i word.Choice = parts rows i
+word_leading rows i word.Case = parts rows i
 word_leading rows i word.Leaf = listed (first_below rows i word.«Type»)
 word_leading rows i word.LeafList = listed (first_below rows i word.«Type»)
 word_leading rows i word.Typedef = listed (first_below rows i word.«Type»)

@@ -17,6 +17,8 @@ fn is_part(word: Word) -> bool
         Word::Leaf => true,
         Word::LeafList => true,
         Word::Uses => true,
+        Word::Choice => true,
+        Word::Case => true,
         _ => false,
     }
 }
@@ -56,8 +58,8 @@ impl<'a> Names<'a> {
         )
     }
 
-    /// What a row leads to: a module, a container, a list and a grouping to the rows directly in it that make nodes, a
-    /// leaf, a leaf-list and a typedef to its type, and a uses and a type to what its name leads to.
+    /// What a row leads to: a module, a container, a list, a grouping, a choice and a case to the rows directly in it that make
+    /// nodes, a leaf, a leaf-list and a typedef to its type, and a uses and a type to what its name leads to.
     #[tactic(auto, unfolding(crate::specs::Graph::leading))]
     pub fn leading(&self, alloc: Global, at: usize) -> Result<Vec<usize>, NoMemory>
         ensures { IfOk result (λ list. list.items ≡ spec.leading self.now at) }
@@ -70,6 +72,8 @@ impl<'a> Names<'a> {
             Word::Container => self.parts(alloc, at),
             Word::List => self.parts(alloc, at),
             Word::Grouping => self.parts(alloc, at),
+            Word::Choice => self.parts(alloc, at),
+            Word::Case => self.parts(alloc, at),
             Word::Leaf => listed(alloc, self.rows().first_below(at, Word::Type)),
             Word::LeafList => listed(alloc, self.rows().first_below(at, Word::Type)),
             Word::Typedef => listed(alloc, self.rows().first_below(at, Word::Type)),

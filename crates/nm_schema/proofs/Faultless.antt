@@ -7,7 +7,7 @@ use Rattle.nm_grammar.specs.declared.row.Row.{Row}
 use Rattle.nm_grammar.specs.declared.flaw.Flaw.{Flaw}
 use Rattle.nm_grammar.specs.Flaw.{grammar_flaw}
 use Rattle.nm_names.specs.Flaw.{name_flaw}
-use Rattle.nm_shape.specs.Clash.{clash_flaw}
+use Rattle.nm_clash.specs.Clash.{clash_flaw}
 use Rattle.nm_typing.specs.TypeFlaw.{type_flaw, cycle_flaw}
 use Rattle.nm_keys.specs.Keys.{key_flaw}
 use Rattle.nm_keys.specs.Uniques.{unique_flaw}
@@ -20,6 +20,7 @@ use Rattle.nm_schema.proofs.Elements.{nothing, first_or_later, in_range}
 pub record IsFaultless (rows : List Row) (facts : Facts) (at : ℕ) : Type 0 where
   pub grammar : grammar_flaw rows at ≡ None
   pub name : name_flaw rows at ≡ None
+  pub cycle : cycle_flaw rows facts.cycle at ≡ None
   pub clash : clash_flaw rows (definitions rows) at ≡ None
   pub key : key_flaw rows (definitions rows) (standing facts) at ≡ None
 
@@ -51,11 +52,12 @@ flawed_none r None e = refl
 flawed_none r (Some f) e = absurd (cc)
 
 module _ (rows : List Row) (facts : Facts) (at : ℕ) where
-  said_none : said_flaw rows facts at ≡ None → (grammar_flaw rows at ≡ None) × (name_flaw rows at ≡ None)
+  said_none : said_flaw rows facts at ≡ None → (grammar_flaw rows at ≡ None) × (name_flaw rows at ≡ None) × (cycle_flaw rows facts.cycle at ≡ None)
   unfolding said_flaw
   said_none e =
       let a = or_none (grammar_flaw rows at) (option_or (name_flaw rows at) (cycle_flaw rows facts.cycle at)) e in
-      (a.0, (or_none (name_flaw rows at) (cycle_flaw rows facts.cycle at) a.1).0)
+      let b = or_none (name_flaw rows at) (cycle_flaw rows facts.cycle at) a.1 in
+      (a.0, b.0, b.1)
 
   placed_none : placed_flaw rows facts at ≡ None → clash_flaw rows (definitions rows) at ≡ None
   unfolding placed_flaw
@@ -74,7 +76,7 @@ module _ (rows : List Row) (facts : Facts) (at : ℕ) where
       let b = or_none (placed_flaw rows facts at) (option_or (listed_flaw rows facts at) (valued_flaw rows facts at)) a.1 in
       let c = or_none (listed_flaw rows facts at) (valued_flaw rows facts at) b.1 in
       let said = said_none a.0 in
-      record { grammar = said.0; name = said.1; clash = placed_none b.0; key = listed_none c.0 }
+      record { grammar = said.0; name = said.1; cycle = said.2; clash = placed_none b.0; key = listed_none c.0 }
 
   unflawed : (r : Row) → slice_get rows at ≡ Some r → fault_at rows facts at ≡ None → flaw_at rows facts at ≡ None
   unfolding fault_at

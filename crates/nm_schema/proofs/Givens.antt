@@ -15,10 +15,10 @@ use Rattle.nm_names.specs.declared.key.Reach.TheVariants as reach
 use Rattle.nm_names.specs.Named.{has_key, first_keyed, named, is_marker}
 use Rattle.nm_names.specs.Flaw.{again_flaw, module_flaw, text_flaw, argument_flaw, row_flaw, name_flaw}
 use Rattle.nm_types.specs.Spells.{IsOnce}
-use Rattle.nm_shape.specs.Clash.{argument_at}
+use Rattle.nm_shape.specs.Arguments.{argument_at}
 use Rattle.nm_path.specs.Form as form
 use Rattle.nm_flaws.specs.Facts.{Facts}
-use Rattle.nm_schema.specs.Node.{module_names, module_name}
+use Rattle.nm_schema.specs.Choices.{module_names, module_name}
 use Rattle.nm_schema.proofs.Elements.{nothing, first_or_later, of_map}
 use Rattle.nm_schema.proofs.Onces.{own_bytes}
 use Rattle.nm_schema.proofs.Faultless.{AreFaultless}

@@ -12,8 +12,8 @@ use Rattle.nm_grammar.specs.Word.{same_word}
 use Rattle.nm_grammar.specs.Flaw.{text_of}
 use Rattle.nm_grammar.specs.Rows.{has_word, first_with, first_below, children}
 use Rattle.nm_types.specs.Spells.{IsOnce}
-use Rattle.nm_shape.specs.Clash.{argument_at}
-use Rattle.nm_shape.specs.Members.{members}
+use Rattle.nm_shape.specs.Arguments.{argument_at}
+use Rattle.nm_shape.specs.Passing.{plain_members}
 use Rattle.nm_keys.specs.declared.found.Found.{Found}
 use Rattle.nm_keys.specs.declared.found.Found.TheVariants as found
 use Rattle.nm_keys.specs.Standing.{Standing, loses_state, is_lost}
@@ -198,10 +198,10 @@ module _ (rows : List Row) (nodes : List ℕ) (loses : Bool) (m : ℕ) where
 
 -- ---- the key of a list
 
--- the key leafs of a list: members of it, each by a name of its own
+-- the key leafs of a list: members of it that stand in no choice, each by a name of its own
 pub record HasKeyRows (rows : List Row) (groupings : List (Option ℕ)) (l : ℕ) (leafs : List ℕ) : Type 0 where
   pub nodes : List ℕ
-  pub known : members rows groupings l ≡ Some nodes
+  pub known : plain_members rows groupings l ≡ Some nodes
   pub some : 0 < length leafs
   pub each : (k : ℕ) → Contains leafs k → IsLeafRow rows nodes k
   pub once : IsOnce (map (argument_at rows) leafs)
@@ -212,7 +212,7 @@ none_is None false leafs found e = absurd (cc)
 none_is (Some f) b leafs found e = absurd (cc)
 
 module _ (rows : List Row) (groupings : List (Option ℕ)) (l : ℕ) (leafs : List ℕ) where
-  leafs_known : (nodes : List ℕ) (loses : Bool) (m : ℕ) (texts : List (List ℕ)) → members rows groupings l ≡ Some nodes → key_words_flaw (key_leaf rows (Some nodes) loses m) texts ≡ None
+  leafs_known : (nodes : List ℕ) (loses : Bool) (m : ℕ) (texts : List (List ℕ)) → plain_members rows groupings l ≡ Some nodes → key_words_flaw (key_leaf rows (Some nodes) loses m) texts ≡ None
       → leafs ≡ leafs_named (key_leaf rows (Some nodes) loses m) texts → HasKeyRows rows groupings l leafs
   leafs_known nodes loses m [] known e is = absurd (cc)
   leafs_known nodes loses m (text ∷ texts) known e is =
@@ -226,7 +226,7 @@ module _ (rows : List Row) (groupings : List (Option ℕ)) (l : ℕ) (leafs : Li
       } in
       subst (λ (ls : List ℕ). HasKeyRows rows groupings l ls) (sym is) it
 
-  leafs_in : (o : Option (List ℕ)) (loses : Bool) (m : ℕ) (texts : List (List ℕ)) → members rows groupings l ≡ o → key_words_leafs (key_leaf rows o loses m) (is_some o) texts ≡ Some leafs → HasKeyRows rows groupings l leafs
+  leafs_in : (o : Option (List ℕ)) (loses : Bool) (m : ℕ) (texts : List (List ℕ)) → plain_members rows groupings l ≡ o → key_words_leafs (key_leaf rows o loses m) (is_some o) texts ≡ Some leafs → HasKeyRows rows groupings l leafs
   leafs_in None loses m texts known e =
       let n = none_is (key_words_flaw (key_leaf rows None loses m) texts) false leafs (leafs_named (key_leaf rows None loses m) texts) e in
       let no = n.1 in
@@ -241,7 +241,7 @@ module _ (rows : List Row) (groupings : List (Option ℕ)) (l : ℕ) (leafs : Li
     said_leafs (Some s) of e =
         let f : said_keys rows groupings standing (Some (record { list = l; owner = s.owner; text = s.text })) ≡ Some leafs =
         sym (ap (λ (n : ℕ). said_keys rows groupings standing (Some (record { list = n; owner = s.owner; text = s.text }))) (of s refl)) ∙ e in
-        leafs_in (members rows groupings l) (loses_state standing l) s.owner (words_of s.text) refl f
+        leafs_in (plain_members rows groupings l) (loses_state standing l) s.owner (words_of s.text) refl f
 
     at_leafs : (o : Option ℕ) → first_below rows l word.Key ≡ o → keys_at rows groupings standing o ≡ Some leafs → HasKeyRows rows groupings l leafs
     at_leafs None is e = absurd (cc)

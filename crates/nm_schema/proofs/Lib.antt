@@ -5,7 +5,10 @@ pub mod Elements
 pub mod Onces
 pub mod Faultless
 pub mod Naming
+pub mod Holders
+pub mod Claims
 pub mod Siblings
+pub mod Orderly
 pub mod Types
 pub mod Givens
 pub mod Shapes
@@ -14,3 +17,8 @@ pub mod Nodes
 pub mod Sound
 pub mod Marked
 pub mod Single
+pub mod Placing
+pub mod Beside
+pub mod Chosen
+pub mod Walking
+pub mod Cased

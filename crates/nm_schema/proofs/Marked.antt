@@ -1,5 +1,5 @@
 -- The nodes of the marker module stand in the tree that modules give.
-use Rattle.std.proofs.Common.{◌≡◌, ◌∙◌, ◌+◌, ℕ, List, [], ◌∷◌, ◌++◌, length, Option, Some, None, Result, Ok, Err, IfOk, slice_get, refl, sym, ap, subst, arith}
+use Rattle.std.proofs.Common.{◌≡◌, ◌∙◌, ◌+◌, ℕ, List, ◌++◌, length, Option, Some, None, Result, Ok, Err, IfOk, slice_get, sym, ap, subst, arith}
 use Rattle.nm_yang.specs.Tree.{Tree}
 use Rattle.nm_grammar.specs.declared.row.Row.{Row}
 use Rattle.nm_grammar.specs.Rows.{rows_of}
@@ -10,7 +10,7 @@ use Rattle.nm_flaws.specs.Facts.{Facts}
 use Rattle.nm_flaws.specs.Fault.{first_fault}
 use Rattle.nm_schema.specs.declared.fault.SchemaFault.{SchemaFault}
 use Rattle.nm_schema.specs.Node.{known_nodes}
-use Rattle.nm_schema.specs.Marker.{changes_node, applied_node, change_node, marker_nodes, HasMarker}
+use Rattle.nm_schema.specs.Marker.{changes_node, marker_nodes, HasMarker}
 use Rattle.nm_schema.specs.Built.{first_unknown, first_ungrown, tree_of, outcome, built, AreBuilt, Builds, Answered}
 use Rattle.nm_schema.proofs.Sound.{behind}
 

@@ -8,7 +8,7 @@ use Rattle.nm_grammar.specs.declared.fault.Fault.{Fault}
 use Rattle.nm_grammar.specs.declared.fault.Fault.TheVariants as fault
 use Rattle.nm_grammar.specs.Text.{is_identifier, are_names}
 use Rattle.nm_grammar.specs.Flaw.{is_data, is_module, is_unsupported, may_stand, word_above, place_fault, times_fault, lack_fault, has_form, form_fault, left_out, text_of, row_fault, flaw_from, flaw_at, grammar_flaw}
-use Rattle.nm_shape.specs.Clash.{argument_at}
+use Rattle.nm_shape.specs.Arguments.{argument_at}
 use Rattle.nm_path.specs.Form as form
 use Rattle.nm_flaws.specs.Facts.{Facts}
 use Rattle.nm_schema.proofs.Faultless.{IsFaultless, or_none}

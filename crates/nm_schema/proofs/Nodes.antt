@@ -1,8 +1,7 @@
 -- The nodes of the given modules: their names, what they stand in, their keys and their types.
-use Rattle.std.proofs.Common.{◌≡◌, ◌∙◌, ◌<◌, ◌+◌, ◌⊎◌, inl, inr, ℕ, zero, suc, List, [], ◌∷◌, length, map, Bool, true, false, cond, ◌&&◌, ◌==◌, Option, Some, None, IfSome, slice_get, refl, sym, ap, subst, arith}
+use Rattle.std.proofs.Common.{◌≡◌, ◌∙◌, ◌<◌, ◌⊎◌, inl, inr, ℕ, suc, List, [], ◌∷◌, length, map, Bool, true, false, cond, Option, Some, None, IfSome, slice_get, refl, sym, ap, subst, arith}
 use Rattle.std.specs.Prelude.{Contains, is_some, eqb}
-use Rattle.std.specs.List.{AllByRecursion, IsDistinct, concat}
-use Rattle.std.proofs.lemmas.Grind.{common_steps}
+use Rattle.std.specs.List.{AllByRecursion, IsDistinct}
 use Rattle.std.proofs.lemmas.Bool.{and_parts}
 use Rattle.std.proofs.lemmas.Bool.Decides.{nat_tests}
 use Rattle.std.proofs.lemmas.Option.{same_Some}
@@ -12,13 +11,12 @@ use Rattle.nm_grammar.specs.declared.row.Row.{Row}
 use Rattle.nm_grammar.specs.declared.word.Word.{Word}
 use Rattle.nm_grammar.specs.declared.word.Word.TheVariants as word
 use Rattle.nm_grammar.specs.Flaw.{is_data}
-use Rattle.nm_grammar.specs.Rows.{same_parent, has_word}
+use Rattle.nm_grammar.specs.Rows.{has_word}
 use Rattle.nm_graph.specs.Value.{all_there}
-use Rattle.nm_shape.specs.Clash.{argument_at}
+use Rattle.nm_shape.specs.Arguments.{argument_at}
 use Rattle.nm_shape.specs.Holding.{is_holder as is_holder_word, is_uses, holding}
-use Rattle.nm_shape.specs.Members.{brought, members}
 use Rattle.nm_expansion.specs.declared.instance.Instance.{Instance}
-use Rattle.nm_expansion.specs.Expansion.{kept_below, kept_in, is_grown, module_row, grown_members, places_of, is_below, is_top, children, tops, row_in, row_of, owner_in, owner_of, IsExpansion}
+use Rattle.nm_expansion.specs.Expansion.{kept_below, kept_in, is_grown, module_row, grown_members, is_below, children, tops, row_in, row_of, owner_in, owner_of, IsExpansion}
 use Rattle.nm_expansion.specs.Named.{has_name, is_child_named, child_named}
 use Rattle.nm_expansion.proofs.Unfolding.{split}
 use Rattle.nm_tree.specs.declared.node.Node.{Node}
@@ -32,16 +30,19 @@ use Rattle.nm_keys.specs.Keys.{keys_of}
 use Rattle.nm_names.specs.Named.{is_marker}
 use Rattle.nm_flaws.specs.Facts.{Facts, definitions, standing, tree}
 use Rattle.nm_schema.specs.Kind.{kind_of, named_as, nodes_named, keys_in}
-use Rattle.nm_schema.specs.Node.{module_name, node_with, node_by, node_in, node_of}
+use Rattle.nm_schema.specs.Choices.{module_name, case_of}
+use Rattle.nm_schema.specs.Node.{node_with, node_by, node_in, node_of}
 use Rattle.nm_schema.proofs.Elements.{here, later, nothing, first_or_later, of_map, in_map}
-use Rattle.nm_schema.proofs.Onces.{same_named, same_bytes}
+use Rattle.nm_schema.proofs.Onces.{same_bytes}
 use Rattle.nm_schema.proofs.Faultless.{AreFaultless, within}
 use Rattle.nm_schema.proofs.Naming.{node_named}
-use Rattle.nm_schema.proofs.Siblings.{members_once, kept_once, kept_member, gathers}
+use Rattle.nm_schema.proofs.Claims.{AreOrderly}
+use Rattle.nm_schema.proofs.Siblings.{plain_stands, kept_stands, one_stands, kept_once}
 use Rattle.nm_schema.proofs.Types.{type_yang}
 use Rattle.nm_schema.proofs.Givens.{parent_is, module_is, one_module}
 use Rattle.nm_schema.proofs.Shapes.{IsShape, container, leaf, leaf_list, listed, shape}
 use Rattle.nm_schema.proofs.Keys.{HasKeyRows, key_rows}
+use Rattle.nm_schema.proofs.Beside as beside
 
 -- ---- places
 
@@ -58,10 +59,10 @@ pub record IsPlaced (rows : List Row) (facts : Facts) (x : ℕ) (n : Node) : Typ
 
 module _ (rows : List Row) (facts : Facts) (x : ℕ) (n : Node) where
   with_kind : (place : Instance) (row : Row) (k : Option NodeKind) → slice_get facts.nodes x ≡ Some place → slice_get rows place.row ≡ Some row → kind_of rows facts x place row.word ≡ k
-      → node_with rows place k ≡ Some n → IsPlaced rows facts x n
+      → node_with rows facts x place k ≡ Some n → IsPlaced rows facts x n
   with_kind place row None there row_there is e = absurd (cc)
   with_kind place row (Some k) there row_there is e =
-      let made : Node = record { parent = place.parent; case_in = None; «module» = module_name rows place.owner; name = argument_at rows place.row; kind = k } in
+      let made : Node = record { parent = place.parent; case_in = case_of rows facts x place; «module» = module_name rows place.owner; name = argument_at rows place.row; kind = k } in
       let same : made ≡ n = cc in
       record {
         place = place;
@@ -87,22 +88,6 @@ module _ (rows : List Row) (facts : Facts) (x : ℕ) (n : Node) where
   placed e = in_place (slice_get facts.nodes x) refl e
 
 -- ---- the nodes that stand in one place
-
-in_first : (b : Bool) (n : ℕ) (l : List ℕ) → b ≡ true → Contains (cond b (n ∷ l) l) (n + 0)
-in_first true n l e = here n (n + 0) l (omega arith)
-in_first false n l e = absurd (cc)
-
-in_later : (b : Bool) (n : ℕ) (l : List ℕ) (k : ℕ) → Contains l k → Contains (cond b (n ∷ l) l) k
-in_later true n l k c = later n k l c
-in_later false n l k c = c
-
-in_places : (test : Instance → Bool) (n : ℕ) (xs : List Instance) (i : ℕ) (x : Instance) → slice_get xs i ≡ Some x → test x ≡ true → Contains (places_of test n xs) (n + i)
-unfolding places_of
-in_places test n [] i x e t = absurd (cc)
-in_places test n (z ∷ xs) zero x e t = let same : z ≡ x = cc in in_first (test z) n (places_of test (suc n) xs) (ap test same ∙ t)
-in_places test n (z ∷ xs) (suc i) x e t =
-    let at : suc n + i ≡ n + suc i = omega arith in
-    in_later (test z) n (places_of test (suc n) xs) (n + suc i) (subst (λ k. Contains (places_of test (suc n) xs) k) at (in_places test (suc n) xs i x e t))
 
 -- of the nodes in one place, one has a name
 only_one : (rows : List Row) (f : ℕ → Option ℕ) (cs ks : List ℕ) (x y a b : ℕ) → map f cs ≡ map (λ row. Some row) ks → IsOnce (map (argument_at rows) ks) → f x ≡ Some a → f y ≡ Some b → argument_at rows a ≡ argument_at rows b
@@ -146,14 +131,6 @@ none_led : (rows : List Row) (groupings : List (Option ℕ)) (i : ℕ) (r : Row)
 unfolding holding
 none_led rows groupings i r h u is = rw (is, h, u) refl
 
-no_members : (rows : List Row) (groupings : List (Option ℕ)) (i : ℕ) (nodes : List ℕ) → holding rows groupings i ≡ [] → members rows groupings i ≡ Some nodes → nodes ≡ []
-unfolding members
-no_members rows groupings i nodes none e =
-    let g = gathers (length rows) (all_there (map (brought rows groupings) (holding rows groupings i))) nodes e in
-    let f : Some [] ≡ Some g.0 = sym (ap (λ (l : List ℕ). all_there (map (brought rows groupings) l)) none) ∙ g.1 in
-    let h : [] ≡ g.0 = same_Some [] g.0 f in
-    g.2 ∙ ap concat (sym h)
-
 -- of names that come once the numbers come once
 no_equal : (x y : ℕ) → (x ≡ y → ⊥) → eqb x y ≡ false
 no_equal x y ne = grind (arith, nat_tests, ne)
@@ -169,7 +146,7 @@ distinct f (x ∷ xs) once = (all_apart x xs (λ y c e. once.0 (subst (λ (w : L
 
 -- ---- the nodes
 
-module _ (rows : List Row) (facts : Facts) (all : AreFaultless rows facts) (expansion : IsExpansion rows (definitions rows) facts.nodes) where
+module _ (rows : List Row) (facts : Facts) (all : AreFaultless rows facts) (order : AreOrderly rows (definitions rows)) (expansion : IsExpansion rows (definitions rows) facts.nodes) where
   given_shape : (x : ℕ) (n : Node) (p : IsPlaced rows facts x n) → IsShape rows facts x p.place p.row.word n.kind
   given_shape x n p = shape rows facts x p.place n.kind p.row.word p.kind_is
 
@@ -188,24 +165,10 @@ module _ (rows : List Row) (facts : Facts) (all : AreFaultless rows facts) (expa
       ap is_marker p.owner ∙ (module_is rows facts all p.place.owner (expansion.owners x p.place p.there)).1
 
   in_children : (x p : ℕ) (c : Instance) → slice_get facts.nodes x ≡ Some c → c.parent ≡ Some p → Contains (children facts.nodes p) x
-  unfolding children is_below
-  in_children x p c is parent =
-      let below : same_parent c.parent (Some p) ≡ true = ap (λ (o : Option ℕ). same_parent o (Some p)) parent ∙ itself p in
-      let at : 0 + x ≡ x = omega arith in
-      subst (λ k. Contains (places_of (is_below p) 0 facts.nodes) k) at (in_places (is_below p) 0 facts.nodes x c is below)
-    where
-      itself : (h : ℕ) → same_parent (Some h) (Some h) ≡ true
-      itself h = grind (arith, common_steps)
+  in_children x p c is parent = beside.in_children facts.nodes x p c is parent
 
   in_tops : (x : ℕ) (c : Instance) → slice_get facts.nodes x ≡ Some c → c.parent ≡ None → Contains (tops facts.nodes c.owner) x
-  unfolding tops is_top
-  in_tops x c is parent =
-      let top : (same_parent c.parent None && c.owner == c.owner) ≡ true = ap (λ (o : Option ℕ). same_parent o None && c.owner == c.owner) parent ∙ itself c.owner in
-      let at : 0 + x ≡ x = omega arith in
-      subst (λ k. Contains (places_of (is_top c.owner) 0 facts.nodes) k) at (in_places (is_top c.owner) 0 facts.nodes x c is top)
-    where
-      itself : (h : ℕ) → (h == h) ≡ true
-      itself h = grind (arith, common_steps)
+  in_tops x c is parent = beside.in_tops facts.nodes x c is parent
 
   row_at_place : (x : ℕ) (c : Instance) → slice_get facts.nodes x ≡ Some c → row_of facts.nodes x ≡ Some c.row
   unfolding row_of
@@ -218,7 +181,7 @@ module _ (rows : List Row) (facts : Facts) (all : AreFaultless rows facts) (expa
       by : (b : Bool) (o : Option ℕ) → IsOnce (map (argument_at rows) (cond b (kept_in rows (definitions rows) o) []))
       by false o = tt
       by true None = tt
-      by true (Some i) = kept_once rows facts all i
+      by true (Some i) = kept_once rows (definitions rows) order i
 
   apart_top : (x y : ℕ) (c d : Instance) → slice_get facts.nodes x ≡ Some c → slice_get facts.nodes y ≡ Some d → c.parent ≡ None → d.parent ≡ None → c.owner ≡ d.owner → argument_at rows c.row ≡ argument_at rows d.row → x ≡ y
   apart_top x y c d is at top other owner name =
@@ -240,7 +203,7 @@ module _ (rows : List Row) (facts : Facts) (all : AreFaultless rows facts) (expa
   apart_below : (x y p : ℕ) (c d : Instance) → slice_get facts.nodes x ≡ Some c → slice_get facts.nodes y ≡ Some d → c.parent ≡ Some p → d.parent ≡ Some p → argument_at rows c.row ≡ argument_at rows d.row → x ≡ y
   apart_below x y p c d is at one other name =
       let a = parent_there x p c is one in
-      only_one rows (row_of facts.nodes) (children facts.nodes p) (kept_below rows (definitions rows) a.0.row) x y c.row d.row (expansion.below p a.0 a.1) (kept_once rows facts all a.0.row)
+      only_one rows (row_of facts.nodes) (children facts.nodes p) (kept_below rows (definitions rows) a.0.row) x y c.row d.row (expansion.below p a.0 a.1) (kept_once rows (definitions rows) order a.0.row)
       (row_at_place x c is) (row_at_place y d at) name (in_children x p c is one) (in_children y p d at other)
 
   apart_by : (x y : ℕ) (c d : Instance) (o : Option ℕ) → slice_get facts.nodes x ≡ Some c → slice_get facts.nodes y ≡ Some d → c.parent ≡ o → d.parent ≡ o → c.owner ≡ d.owner → argument_at rows c.row ≡ argument_at rows d.row → x ≡ y
@@ -276,9 +239,8 @@ module _ (rows : List Row) (facts : Facts) (all : AreFaultless rows facts) (expa
 
   empty_row : (a : Instance) (r : Row) (k : ℕ) → slice_get rows a.row ≡ Some r → is_holder_word r.word ≡ false → is_uses r.word ≡ false → Contains (kept_below rows (definitions rows) a.row) k → ⊥
   empty_row a r k is h u c =
-      let m = kept_member rows (definitions rows) a.row k c in
-      let none = no_members rows (definitions rows) a.row m.0 (none_led rows (definitions rows) a.row r h u is) m.1 in
-      nothing k (subst (λ (l : List ℕ). Contains l k) none m.2)
+      let m = kept_stands rows (definitions rows) a.row k c in
+      nothing m.part (subst (λ (l : List ℕ). Contains l m.part) (none_led rows (definitions rows) a.row r h u is) m.among)
 
   holder_by : (p : ℕ) (a : Instance) (r : Row) (k : NodeKind) (c : ℕ) → slice_get rows a.row ≡ Some r → Contains (kept_below rows (definitions rows) a.row) c → IsShape rows facts p a r.word k → is_holder k ≡ true
   holder_by p a r k c is in_it (container b w e) = rw e refl
@@ -331,10 +293,9 @@ module _ (rows : List Row) (facts : Facts) (all : AreFaultless rows facts) (expa
         let n = some_of (node_of rows facts y) (known y (within facts.nodes y h.x h.here)) in
         let p = placed rows facts y n.0 n.1 in
         let same : p.place ≡ h.x = same_Some p.place h.x (sym p.there ∙ h.here) in
-        let member = kept_member rows (definitions rows) a.row h.x.row (kept_in_parent y x h.x a h.here parent at) in
-        let lists : member.0 ≡ keys.nodes = same_Some member.0 keys.nodes (sym member.1 ∙ keys.known) in
+        let member = kept_stands rows (definitions rows) a.row h.x.row (kept_in_parent y x h.x a h.here parent at) in
         let it = keys.each k among in
-        let row : h.x.row ≡ k = same_named (argument_at rows) keys.nodes h.x.row k (members_once rows facts all a.row keys.nodes keys.known) (subst (λ (l : List ℕ). Contains l h.x.row) lists member.2) it.among named in
+        let row : h.x.row ≡ k = one_stands rows (definitions rows) order a.row h.x.row k member (plain_stands rows (definitions rows) a.row keys.nodes keys.known k it.among) named in
         let at_row : slice_get rows k ≡ Some p.row = ap (slice_get rows) (sym row ∙ ap (λ (i : Instance). i.row) (sym same)) ∙ p.row_there in
         let has : has_word word.Leaf (Some p.row) ≡ true = sym (ap (has_word word.Leaf) at_row) ∙ it.leaf in
         record {

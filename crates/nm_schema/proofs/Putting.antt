@@ -10,7 +10,7 @@ use Rattle.nm_tree.specs.declared.node.Node.{Node}
 use Rattle.nm_tree.specs.declared.node.NodeKind.{NodeKind}
 use Rattle.nm_tree.specs.Nodes.{may_follow, module_in}
 use Rattle.nm_expansion.specs.declared.instance.Instance.{Instance}
-use Rattle.nm_shape.specs.Clash.{argument_at}
+use Rattle.nm_shape.specs.Arguments.{argument_at}
 use Rattle.std.proofs.lemmas.Option.{slice_get-get_or}
 use Rattle.nm_expansion.specs.Expansion.{IsExpansion, owner_of, owner_in}
 use Rattle.nm_schema.specs.Kind.{kind_of}
@@ -18,7 +18,8 @@ use Rattle.nm_expansion.proofs.Bounds.{from, from-found, from-next, from-end}
 use Rattle.nm_expansion.proofs.Places.{slice_get-left}
 use Rattle.nm_flaws.specs.Facts.{Facts, definitions}
 use Rattle.nm_schema.specs.Built.{is_unknown, first_unknown}
-use Rattle.nm_schema.specs.Node.{AreNodes, node_of, node_in, node_by, node_with, module_name, known_nodes}
+use Rattle.nm_schema.specs.Choices.{module_name, case_of}
+use Rattle.nm_schema.specs.Node.{AreNodes, node_of, node_in, node_by, node_with, known_nodes}
 
 last : (nodes : List Node) (n : Node) → slice_get (nodes ++ n ∷ []) (length nodes) ≡ Some n
 last [] n = refl
@@ -57,18 +58,18 @@ are-more rows facts n nodes after node are is more = rw more (record {
 
 -- ---- what a node stands in
 
-with-place : (rows : List Row) (place : Instance) (k : Option NodeKind) (node : Node) → node_with rows place k ≡ Some node
+with-place : (rows : List Row) (facts : Facts) (x : ℕ) (place : Instance) (k : Option NodeKind) (node : Node) → node_with rows facts x place k ≡ Some node
     → (node.parent ≡ place.parent) × (node.«module» ≡ module_name rows place.owner)
-with-place rows place None node e = absurd (cc)
-with-place rows place (Some k) node e =
-    let made : Node = record { parent = place.parent; case_in = None; «module» = module_name rows place.owner; name = argument_at rows place.row; kind = k } in
+with-place rows facts x place None node e = absurd (cc)
+with-place rows facts x place (Some k) node e =
+    let made : Node = record { parent = place.parent; case_in = case_of rows facts x place; «module» = module_name rows place.owner; name = argument_at rows place.row; kind = k } in
     let same : made ≡ node = cc in
     (ap (λ (n : Node). n.parent) (sym same), ap (λ (n : Node). n.«module») (sym same))
 
 by-place : (rows : List Row) (facts : Facts) (x : ℕ) (place : Instance) (r : Option Row) (node : Node) → node_by rows facts x place r ≡ Some node
     → (node.parent ≡ place.parent) × (node.«module» ≡ module_name rows place.owner)
 by-place rows facts x place None node e = absurd (cc)
-by-place rows facts x place (Some r) node e = with-place rows place (kind_of rows facts x place r.word) node e
+by-place rows facts x place (Some r) node e = with-place rows facts x place (kind_of rows facts x place r.word) node e
 
 -- a node that is known has the parent and the module of its place
 at-place : (rows : List Row) (facts : Facts) (x : ℕ) (place : Instance) (node : Node) → slice_get facts.nodes x ≡ Some place → node_of rows facts x ≡ Some node

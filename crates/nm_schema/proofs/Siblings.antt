@@ -1,281 +1,398 @@
--- The nodes that stand in one row have names of their own.
-use Rattle.std.proofs.Common.{◌≡◌, ◌∙◌, ◌<◌, ◌≤◌, ◌+◌, ◌⊎◌, inl, inr, ◌-◌, ℕ, zero, suc, List, [], ◌∷◌, ◌++◌, length, map, filter, Bool, true, false, cond, ◌&&◌, ◌||◌, Option, Some, None, slice_get, refl, sym, ap, subst, arith}
+-- The nodes that stand in one row have names of their own, those in its choices and cases too (RFC 7950 sections 6.2.1, 7.9 and 7.13).
+use Rattle.std.proofs.Common.{◌≡◌, ◌∙◌, ◌⊎◌, inl, inr, ℕ, zero, suc, List, [], ◌∷◌, length, map, filter, Bool, true, false, cond, Option, Some, None, slice_get, refl, sym, ap, subst, arith}
 use Rattle.std.specs.Prelude.{Contains, option_to_list, unwrap_or, nat_le}
-use Rattle.std.specs.Option.{option_and_then, option_map}
-use Rattle.std.specs.List.{find, concat}
-use Rattle.std.proofs.lemmas.Grind.{common_steps}
-use Rattle.std.proofs.lemmas.Bool.Decides.{nat_tests}
-use Rattle.std.proofs.lemmas.List.{map-append}
-use Rattle.std.proofs.lemmas.List.Elements.{Contains-append_cases}
+use Rattle.std.specs.List.{concat}
+use Rattle.std.proofs.lemmas.Option.{same_Some}
 use Rattle.nm_grammar.specs.declared.row.Row.{Row}
+use Rattle.nm_grammar.specs.declared.word.Word.{Word}
+use Rattle.nm_grammar.specs.declared.word.Word.TheVariants as word
 use Rattle.nm_grammar.specs.Flaw.{is_data}
-use Rattle.nm_grammar.specs.Rows.{same_parent, those_in, children}
+use Rattle.nm_grammar.specs.Rows.{children}
 use Rattle.nm_graph.specs.Value.{strict, all_there}
 use Rattle.nm_types.specs.Spells.{IsOnce}
-use Rattle.nm_shape.specs.Holding.{is_part, is_part_row, is_part_at, is_holder, is_uses, grouping_at, led_to, holding, is_data_at, bringing}
+use Rattle.nm_shape.specs.Arguments.{argument_at}
+use Rattle.nm_shape.specs.Holding.{is_holder, is_part_at, is_fork, is_fork_row, is_fork_at, is_node, is_uses, grouping_at, led_to, holding, is_data_row, is_data_at, bringing}
+use Rattle.nm_shape.specs.Config.{is_kept, kept_of, configuring}
 use Rattle.nm_shape.specs.Worth.{worth_within, worth_of}
 use Rattle.nm_shape.specs.Members.{gathered, is_astray, bring, bring_step, brought, members}
-use Rattle.nm_shape.specs.Clash.{argument_at, names_from, has_name, holder_of, holder_in, is_taken, clash_in, clash_by, duplicate, clash_flaw}
-use Rattle.nm_shape.specs.Config.{is_kept}
-use Rattle.nm_expansion.specs.Expansion.{kept_members, kept_below}
-use Rattle.nm_expansion.proofs.Unfolding.{split, unfold_one, unfold_within}
-use Rattle.nm_flaws.specs.Facts.{Facts, definitions}
-use Rattle.nm_schema.proofs.Elements.{here, later, nothing, first_or_later, of_filter, finds_none}
-use Rattle.nm_schema.proofs.Onces.{once_both, once_kept, has_named}
-use Rattle.nm_schema.proofs.Faultless.{AreFaultless}
+use Rattle.nm_shape.specs.Passing.{is_plain, plain_of, brought_along, kept_members, plain_members}
+use Rattle.nm_clash.specs.Clash.{around, holder_of}
+use Rattle.nm_expansion.specs.Expansion.{kept_below}
+use Rattle.nm_expansion.proofs.Unfolding.{unfold_one}
+use Rattle.nm_schema.proofs.Elements.{nothing, first_or_later, of_filter}
+use Rattle.nm_schema.proofs.Holders.{Ascend, ascend_filter, ascend_those, stands_in, held_inner, held_directly, held, fork_part, Under, under_up, under_one, itself}
+use Rattle.nm_schema.proofs.Claims.{AreOrderly, IsClaimer, part_claimer, AreSeparate, separate, of_concat, concat_once, few, of_option, Claims, claims_up, claims_own, rests_on_held, rests_on_used, one_claims, uses_word}
 
-no_duplicate : (o : Option (List ℕ)) → duplicate o ≡ None → o ≡ None
-no_duplicate None e = refl
-no_duplicate (Some name) e = absurd (cc)
+-- ---- what rows bring
 
-taken_now : (p a b : Bool) → p ≡ true → a ≡ true → ((p && a) || b) ≡ true
-taken_now p a b is also = rw (is, also) refl
+-- row i brings row n: a node of data itself, and other rows what those bring that they lead to, through whichever of these
+pub data Brings (rows : List Row) (groupings : List (Option ℕ)) : ℕ → ℕ → Type 0 where
+  alone : {i : ℕ} → is_data_at rows i ≡ true → Brings rows groupings i i
+  through : {i n : ℕ} (k : ℕ) → Contains (bringing rows groupings i) k → Brings rows groupings k n → Brings rows groupings i n
 
-taken_before : (a b : Bool) → b ≡ true → (a || b) ≡ true
-taken_before true b e = refl
-taken_before false b e = e
+-- node n stands in row i, or in what row i leads to
+pub record Stands (rows : List Row) (groupings : List (Option ℕ)) (i n : ℕ) : Type 0 where
+  pub part : ℕ
+  pub among : Contains (holding rows groupings i) part
+  pub brings : Brings rows groupings part n
 
-same_holder : (h : ℕ) → same_parent (Some h) (Some h) ≡ true
-same_holder h = grind (arith, common_steps)
+-- why row i leads to row k
+pub data IsStep (rows : List Row) (groupings : List (Option ℕ)) (i k : ℕ) : Type 0 where
+  inside : (r : Row) → slice_get rows i ≡ Some r → is_holder r.word ≡ true → is_part_at rows k ≡ true → around rows k ≡ Some i → IsStep rows groupings i k
+  used : (r : Row) → slice_get rows i ≡ Some r → is_uses r.word ≡ true → grouping_at groupings i ≡ Some k → IsStep rows groupings i k
 
-below_or_at : (k n : ℕ) → k < suc n → (k < n) ⊎ (k ≡ n)
-below_or_at k n lt = grind (arith, nat_tests)
+uses_holder : (w : Word) → is_uses w ≡ true → is_holder w ≡ true → ⊥
+uses_holder word.Uses e f = absurd (cc)
+uses_holder _ e f = absurd (cc)
 
-parent_is : (p : Option ℕ) (i : ℕ) → same_parent p (Some i) ≡ true → p ≡ Some i
-parent_is None i e = absurd (cc)
-parent_is (Some j) i e = let h : j ≡ i = grind (arith, common_steps) in ap (λ k. Some k) h
+uses_fork : (w : Word) → is_uses w ≡ true → is_fork w ≡ true → ⊥
+uses_fork word.Uses e f = absurd (cc)
+uses_fork _ e f = absurd (cc)
 
-module _ (rows : List Row) (bringer : ℕ → Option (List ℕ)) (h : ℕ) where
-  -- what an earlier row brings is taken
-  taken : (k at : ℕ) (name : List ℕ) → k < at → holder_of rows k ≡ Some h → has_name (names_from rows (bringer k)) name ≡ true → is_taken bringer rows h at name ≡ true
-  unfolding is_taken
-  taken k zero name lt held has = absurd (omega (arith, lt))
-  taken k (suc at) name lt held has = by (taken k at name) (below_or_at k at lt)
-    where
-      by : (k < at → holder_of rows k ≡ Some h → has_name (names_from rows (bringer k)) name ≡ true → is_taken bringer rows h at name ≡ true) → (k < at) ⊎ (k ≡ at)
-          → ((same_parent (holder_of rows at) (Some h) && has_name (names_from rows (bringer at)) name) || is_taken bringer rows h at name) ≡ true
-      by rest (inl before) = taken_before (same_parent (holder_of rows at) (Some h) && has_name (names_from rows (bringer at)) name) (is_taken bringer rows h at name) (rest before held has)
-      by rest (inr same) =
-          let first : same_parent (holder_of rows at) (Some h) ≡ true = ap (λ (j : ℕ). same_parent (holder_of rows j) (Some h)) (sym same) ∙ ap (λ (p : Option ℕ). same_parent p (Some h)) held ∙ same_holder h in
-          let second : has_name (names_from rows (bringer at)) name ≡ true = ap (λ (j : ℕ). has_name (names_from rows (bringer j)) name) (sym same) ∙ has in
-          taken_now (same_parent (holder_of rows at) (Some h)) (has_name (names_from rows (bringer at)) name) (is_taken bringer rows h at name) first second
+data_fork : (w : Word) → is_data w ≡ true → is_fork w ≡ true → ⊥
+data_fork word.Choice e f = absurd (cc)
+data_fork word.Case e f = absurd (cc)
+data_fork _ e f = absurd (cc)
 
-held_row : (h : ℕ) (o : Option Row) → holder_in o ≡ Some h → (r : Row) × (o ≡ Some r)
-held_row h None e = absurd (cc)
-held_row h (Some r) e = (r, refl)
+data_node : (w : Word) → is_data w ≡ true → is_node w ≡ true
+data_node word.Choice e = refl
+data_node _ e = e
 
-module _ (rows : List Row) (facts : Facts) (all : AreFaultless rows facts) where
-  clash_none : (at h : ℕ) → holder_of rows at ≡ Some h → find (is_taken (brought rows (definitions rows)) rows h at) (names_from rows (brought rows (definitions rows) at)) ≡ None
-  unfolding holder_of clash_flaw clash_by
-  clash_none at h held =
-      let r = held_row h (slice_get rows at) held in
-      let none = no_duplicate (clash_in (brought rows (definitions rows)) rows at (holder_in (slice_get rows at))) (all at r.0 r.1).clash in
-      sym (ap (clash_in (brought rows (definitions rows)) rows at) held) ∙ none
+no_node : (w : Word) → is_fork w ≡ false → is_data w ≡ false → is_node w ≡ false
+no_node word.Choice f d = absurd (cc)
+no_node _ f d = d
 
-  -- two rows that stand in one bring no name both
-  apart : (h k j : ℕ) (one other : List ℕ) (name : List ℕ) → k < j → holder_of rows k ≡ Some h → holder_of rows j ≡ Some h
-      → brought rows (definitions rows) k ≡ Some one → brought rows (definitions rows) j ≡ Some other
-      → Contains (map (argument_at rows) one) name → Contains (map (argument_at rows) other) name → ⊥
-  apart h k j one other name lt held later_held is are c d =
-      let b = brought rows (definitions rows) in
-      let none : find (is_taken b rows h j) (map (argument_at rows) other) ≡ None = sym (ap (λ (o : Option (List ℕ)). find (is_taken b rows h j) (names_from rows o)) are) ∙ clash_none j h later_held in
-      let free = finds_none (is_taken b rows h j) (map (argument_at rows) other) name none d in
-      let has : has_name (names_from rows (b k)) name ≡ true = ap (λ (o : Option (List ℕ)). has_name (names_from rows o) name) is ∙ has_named (map (argument_at rows) one) name c in
-      let full = taken rows b h k j name lt held has in
-      cc
-
--- these rows, from row n on, stand in row h in ascending order
-abbrev AreHeld : List Row → ℕ → ℕ → List ℕ → Type 0
-AreHeld rows h n [] = Unit {0}
-AreHeld rows h n (k ∷ ks) = (n ≤ k) × (holder_of rows k ≡ Some h) × AreHeld rows h (suc k) ks
-
-held_weaker : (rows : List Row) (h n m : ℕ) (ks : List ℕ) → n ≤ m → AreHeld rows h m ks → AreHeld rows h n ks
-held_weaker rows h n m [] le are = tt
-held_weaker rows h n m (k ∷ ks) le are = (omega (arith, le, are.0), are.1, are.2)
-
-held_each : (rows : List Row) (h n : ℕ) (ks : List ℕ) (j : ℕ) → AreHeld rows h n ks → Contains ks j → (n ≤ j) × (holder_of rows j ≡ Some h)
-held_each rows h n [] j are c = absurd (nothing j c)
-held_each rows h n (k ∷ ks) j are c = elim (first_or_later k j ks c) [
-  | inl e ↦ (omega (arith, e, are.0), ap (holder_of rows) (sym e) ∙ are.1)
-  | inr d ↦ let l = held_each rows h (suc k) ks j are.2 d in (omega (arith, l.0, are.0), l.1)
-]
-
-held_one : (rows : List Row) (h n : ℕ) (r : Row) → slice_get rows n ≡ Some r → same_parent r.parent (Some h) ≡ true → is_part_at rows n ≡ true → holder_of rows n ≡ Some h
-unfolding holder_of is_part_at
-held_one rows h n r is in_h part =
-    let word : is_part r.word ≡ true = sym (ap is_part_row is) ∙ part in
-    ap holder_in is ∙ rw word (parent_is r.parent h in_h)
-
-held_cons : (rows : List Row) (h n : ℕ) (r : Row) (ks : List ℕ) (p : Bool) → slice_get rows n ≡ Some r → same_parent r.parent (Some h) ≡ true → is_part_at rows n ≡ p
-    → AreHeld rows h (suc n) ks → AreHeld rows h n (cond p (n ∷ ks) ks)
-held_cons rows h n r ks true is in_h part rest = (omega arith, held_one rows h n r is in_h part, rest)
-held_cons rows h n r ks false is in_h part rest = held_weaker rows h n (suc n) ks (omega arith) rest
-
-held_next : (rows : List Row) (h n : ℕ) (r : Row) (ks : List ℕ) (b : Bool) → slice_get rows n ≡ Some r → same_parent r.parent (Some h) ≡ b
-    → AreHeld rows h (suc n) (filter (is_part_at rows) ks) → AreHeld rows h n (filter (is_part_at rows) (cond b (n ∷ ks) ks))
-held_next rows h n r ks true is in_h rest = held_cons rows h n r (filter (is_part_at rows) ks) (is_part_at rows n) is in_h refl rest
-held_next rows h n r ks false is in_h rest = held_weaker rows h n (suc n) (filter (is_part_at rows) ks) (omega arith) rest
-
-held_from : (rows : List Row) (h n : ℕ) (rest : List Row) → ((j : ℕ) → slice_get rows (n + j) ≡ slice_get rest j) → AreHeld rows h n (filter (is_part_at rows) (those_in n (Some h) rest))
-unfolding those_in
-held_from rows h n [] same = tt
-held_from rows h n (r ∷ rest) same =
-    let first : slice_get rows n ≡ Some r = ap (slice_get rows) (omega arith) ∙ same 0 in
-    held_next rows h n r (those_in (suc n) (Some h) rest) (same_parent r.parent (Some h)) first refl
-    (held_from rows h (suc n) rest (λ j. ap (slice_get rows) (omega arith) ∙ same (suc j)))
-
-held : (rows : List Row) (h : ℕ) → AreHeld rows h 0 (filter (is_part_at rows) (children rows h))
-held rows h = held_from rows h 0 rows (λ j. ap (slice_get rows) (omega arith))
-
--- ---- what several rows bring
-
--- what these rows bring has no name twice among two of them
-abbrev AreSeparate : List Row → (ℕ → Option (List ℕ)) → List ℕ → Type 0
-AreSeparate rows f [] = Unit {0}
-AreSeparate rows f (k ∷ ks) =
-    ((j : ℕ) (one other : List ℕ) (name : List ℕ) → Contains ks j → f k ≡ Some one → f j ≡ Some other → Contains (map (argument_at rows) one) name → Contains (map (argument_at rows) other) name → ⊥)
-    × AreSeparate rows f ks
-
-of_concat : (rows : List Row) (f : ℕ → Option (List ℕ)) (ks : List ℕ) (known : List (List ℕ)) (name : List ℕ) → all_there (map f ks) ≡ Some known → Contains (map (argument_at rows) (concat known)) name
-    → (j : ℕ) × (nodes : List ℕ) × Contains ks j × (f j ≡ Some nodes) × Contains (map (argument_at rows) nodes) name
-of_concat rows f [] known name e c =
-    let none : known ≡ [] = cc in
-    absurd (nothing name (subst (λ (l : List (List ℕ)). Contains (map (argument_at rows) (concat l)) name) none c))
-of_concat rows f (k ∷ ks) known name e c =
-    let s = split f k ks known e in
-    let d : Contains (map (argument_at rows) s.first ++ map (argument_at rows) (concat s.others)) name =
-    subst (λ (l : List (List ℕ)). Contains l name) (map-append (argument_at rows) s.first (concat s.others)) (subst (λ (l : List (List ℕ)). Contains (map (argument_at rows) (concat l)) name) s.known_is c) in
-    elim (Contains-append_cases (map (argument_at rows) s.first) (map (argument_at rows) (concat s.others)) name d) [
-      | inl i ↦ (k, s.first, here k k ks refl, s.first_is, i)
-      | inr i ↦ let r = of_concat rows f ks s.others name s.others_are i in (r.0, r.1, later k r.0 ks r.2, r.3, r.4)
-    ]
-
-concat_once : (rows : List Row) (f : ℕ → Option (List ℕ)) → ((k : ℕ) (nodes : List ℕ) → f k ≡ Some nodes → IsOnce (map (argument_at rows) nodes))
-    → (ks : List ℕ) (known : List (List ℕ)) → AreSeparate rows f ks → all_there (map f ks) ≡ Some known → IsOnce (map (argument_at rows) (concat known))
-concat_once rows f once [] known sep e =
-    let none : known ≡ [] = cc in
-    subst (λ (l : List (List ℕ)). IsOnce (map (argument_at rows) (concat l))) (sym none) tt
-concat_once rows f once (k ∷ ks) known sep e =
-    let s = split f k ks known e in
-    let both = once_both (map (argument_at rows) s.first) (map (argument_at rows) (concat s.others)) (once k s.first s.first_is) (concat_once rows f once ks s.others sep.1 s.others_are)
-    (λ name c d. (let r = of_concat rows f ks s.others name s.others_are d in sep.0 r.0 s.first r.1 name r.2 s.first_is r.3 c r.4)) in
-    subst (λ (l : List (List ℕ)). IsOnce (map (argument_at rows) (concat l))) (sym s.known_is)
-    (subst (λ (l : List (List ℕ)). IsOnce l) (sym (map-append (argument_at rows) s.first (concat s.others))) both)
-
-few : (limit : ℕ) (nodes all : List ℕ) (b : Bool) → cond b (Some nodes) None ≡ Some all → all ≡ nodes
-few limit nodes all true e = cc
-few limit nodes all false e = absurd (cc)
+no_uses : (w : Word) → is_holder w ≡ true → is_uses w ≡ false
+no_uses word.Uses e = absurd (cc)
+no_uses _ e = refl
 
 -- what is gathered is all
 pub gathers : (limit : ℕ) (o : Option (List (List ℕ))) (all : List ℕ) → gathered limit o ≡ Some all → (known : List (List ℕ)) × (o ≡ Some known) × (all ≡ concat known)
 gathers limit None all e = absurd (cc)
 gathers limit (Some known) all e = (known, refl, few limit (concat known) all (nat_le (length (concat known)) limit) e)
 
-module _ (rows : List Row) (facts : Facts) (all : AreFaultless rows facts) where
-  within : ℕ → ℕ → Option (List ℕ)
-  within steps i = worth_within (strict (bring_step rows (definitions rows))) (bringing rows (definitions rows)) steps i
-
-  more : (steps i : ℕ) (nodes : List ℕ) → within steps i ≡ Some nodes → within (suc steps) i ≡ Some nodes
-  unfolding within
-  more steps i nodes e =
-      let u = unfold_within (bring_step rows (definitions rows)) (bringing rows (definitions rows)) steps i nodes e in
-      ap (λ (known : Option (List (List ℕ))). option_and_then (bring_step rows (definitions rows) i) known) u.there ∙ u.made
-
-  much_more : (d steps i : ℕ) (nodes : List ℕ) → within steps i ≡ Some nodes → within (d + steps) i ≡ Some nodes
-  much_more zero steps i nodes e = ap (λ n. within n i) (omega arith) ∙ e
-  much_more (suc d) steps i nodes e = ap (λ n. within n i) (omega arith) ∙ more (d + steps) i nodes (much_more d steps i nodes e)
-
-  brings : (steps i : ℕ) (nodes : List ℕ) → steps ≤ length rows → within steps i ≡ Some nodes → brought rows (definitions rows) i ≡ Some nodes
-  unfolding within brought worth_of
-  brings steps i nodes le e =
-      let d : ℕ = length rows - steps in
-      let at : d + steps ≡ length rows = omega (arith, le) in
-      ap (λ n. within n i) (sym at) ∙ much_more d steps i nodes e
-
-  held_separate : (f : ℕ → Option (List ℕ)) → ((k : ℕ) (nodes : List ℕ) → f k ≡ Some nodes → brought rows (definitions rows) k ≡ Some nodes)
-      → (h n : ℕ) (ks : List ℕ) → AreHeld rows h n ks → AreSeparate rows f ks
-  held_separate f below h n [] are = tt
-  held_separate f below h n (k ∷ ks) are = (
-    λ j one other name c is js a b. (let l = held_each rows h (suc k) ks j are.2 c in apart rows facts all h k j one other name (omega (arith, l.0)) are.1 l.1 (below k one is) (below j other js) a b),
-    held_separate f below h (suc k) ks are.2,
-  )
-
-  one_separate : (f : ℕ → Option (List ℕ)) (o : Option ℕ) → AreSeparate rows f (option_to_list o)
-  one_separate f None = tt
-  one_separate f (Some g) = ((λ j one other name c is js a b. absurd (nothing j c)), tt)
-
-  -- what a row leads to
-  led_separate : (f : ℕ → Option (List ℕ)) → ((k : ℕ) (nodes : List ℕ) → f k ≡ Some nodes → brought rows (definitions rows) k ≡ Some nodes)
-      → (i : ℕ) (o : Option Row) → AreSeparate rows f (led_to rows (definitions rows) i o)
-  led_separate f below i None = tt
-  led_separate f below i (Some r) = by (is_holder r.word) (is_uses r.word)
+module _ (rows : List Row) (groupings : List (Option ℕ)) where
+  led_step : (i k : ℕ) (o : Option Row) → slice_get rows i ≡ o → Contains (led_to rows groupings i o) k → IsStep rows groupings i k
+  led_step i k None is c = absurd (nothing k c)
+  led_step i k (Some r) is c = by (is_holder r.word) (is_uses r.word) refl refl c
     where
-      by : (h u : Bool) → AreSeparate rows f (cond h (filter (is_part_at rows) (children rows i)) (cond u (option_to_list (grouping_at (definitions rows) i)) []))
-      by true u = held_separate f below i 0 (filter (is_part_at rows) (children rows i)) (held rows i)
-      by false true = one_separate f (grouping_at (definitions rows) i)
+      by : (h u : Bool) → is_holder r.word ≡ h → is_uses r.word ≡ u → Contains (cond h (filter (is_part_at rows) (children rows i)) (cond u (option_to_list (grouping_at groupings i)) [])) k → IsStep rows groupings i k
+      by true u holder uses d = let f = of_filter (is_part_at rows) (children rows i) k d in inside r is holder f.1 (stands_in rows i k f.0)
+      by false true holder uses d = used r is uses (of_option (grouping_at groupings i) k d)
+      by false false holder uses d = absurd (nothing k d)
+
+  pub step_of : (i k : ℕ) → Contains (holding rows groupings i) k → IsStep rows groupings i k
+  unfolding holding
+  step_of i k c = led_step i k (slice_get rows i) refl c
+
+  holding_ascends : (i : ℕ) → Ascend 0 (holding rows groupings i)
+  unfolding holding
+  holding_ascends i = by_row (slice_get rows i)
+    where
+      one : (o : Option ℕ) → Ascend 0 (option_to_list o)
+      one None = tt
+      one (Some g) = (omega arith, tt)
+
+      by : (h u : Bool) → Ascend 0 (cond h (filter (is_part_at rows) (children rows i)) (cond u (option_to_list (grouping_at groupings i)) []))
+      by true u = ascend_filter (is_part_at rows) 0 (children rows i) (ascend_those 0 (Some i) rows)
+      by false true = one (grouping_at groupings i)
       by false false = tt
 
-  holding_separate : (f : ℕ → Option (List ℕ)) → ((k : ℕ) (nodes : List ℕ) → f k ≡ Some nodes → brought rows (definitions rows) k ≡ Some nodes)
-      → (i : ℕ) → AreSeparate rows f (holding rows (definitions rows) i)
-  unfolding holding
-  holding_separate f below i = led_separate f below i (slice_get rows i)
+      by_row : (o : Option Row) → Ascend 0 (led_to rows groupings i o)
+      by_row None = tt
+      by_row (Some r) = by (is_holder r.word) (is_uses r.word)
 
-  bringing_separate : (f : ℕ → Option (List ℕ)) → ((k : ℕ) (nodes : List ℕ) → f k ≡ Some nodes → brought rows (definitions rows) k ≡ Some nodes)
-      → (i : ℕ) → AreSeparate rows f (bringing rows (definitions rows) i)
+  pub of_bringing : (i k : ℕ) → Contains (bringing rows groupings i) k → (is_data_at rows i ≡ false) × Contains (holding rows groupings i) k
   unfolding bringing
-  bringing_separate f below i = by (is_data_at rows i)
+  of_bringing i k c = by (is_data_at rows i) refl c
     where
-      by : (b : Bool) → AreSeparate rows f (cond b [] (holding rows (definitions rows) i))
+      by : (b : Bool) → is_data_at rows i ≡ b → Contains (cond b [] (holding rows groupings i)) k → (is_data_at rows i ≡ false) × Contains (holding rows groupings i) k
+      by true is d = absurd (nothing k d)
+      by false is d = (is, d)
+
+  bringing_ascends : (i : ℕ) → Ascend 0 (bringing rows groupings i)
+  unfolding bringing
+  bringing_ascends i = by (is_data_at rows i)
+    where
+      by : (b : Bool) → Ascend 0 (cond b [] (holding rows groupings i))
       by true = tt
-      by false = holding_separate f below i
+      by false = holding_ascends i
 
-  bring_once : (i : ℕ) (known : List (List ℕ)) (nodes : List ℕ) (o : Option Row) → IsOnce (map (argument_at rows) (concat known)) → bring rows (definitions rows) i o known ≡ Some nodes → IsOnce (map (argument_at rows) nodes)
-  bring_once i known nodes None once e = absurd (cc)
-  bring_once i known nodes (Some r) once e = by (is_data r.word) (is_astray (definitions rows) i r) e
+  -- ---- values along some of what rows lead to
+
+  -- these are some of the rows that row i leads to, in order
+  record AreSome (ks these : List ℕ) : Type 0 where
+    order : Ascend 0 ks
+    among : (k : ℕ) → Contains ks k → Contains these k
+
+  some_kept : (p : ℕ → Bool) (these : List ℕ) → Ascend 0 these → AreSome (filter p these) these
+  some_kept p these order = record { order = ascend_filter p 0 these order; among = λ k c. (of_filter p these k c).0 }
+
+  all_some : (these : List ℕ) → Ascend 0 these → AreSome these these
+  all_some these order = record { order = order; among = λ k c. c }
+
+  data_in : (i : ℕ) (r : Row) → slice_get rows i ≡ Some r → is_data r.word ≡ true → is_data_at rows i ≡ true
+  data_in i r is d = ap is_data_row is ∙ d
+
+  -- what a step makes of what some rows bring
+  made_of : (i : ℕ) (known : List (List ℕ)) (nodes : List ℕ) (o : Option Row) → slice_get rows i ≡ o → bring rows groupings i o known ≡ Some nodes → ((is_data_at rows i ≡ true) × (nodes ≡ i ∷ [])) ⊎ (nodes ≡ concat known)
+  made_of i known nodes None is e = absurd (cc)
+  made_of i known nodes (Some r) is e = by (is_data r.word) (is_astray groupings i r) refl e
     where
-      by : (d a : Bool) → cond d (Some (i ∷ [])) (cond a None (gathered (length rows) (Some known))) ≡ Some nodes → IsOnce (map (argument_at rows) nodes)
-      by true a f = let same : nodes ≡ i ∷ [] = cc in subst (λ (l : List ℕ). IsOnce (map (argument_at rows) l)) (sym same) ((λ c. nothing (argument_at rows i) c), tt)
-      by false true f = absurd (cc)
-      by false false f =
-          let same = few (length rows) (concat known) nodes (nat_le (length (concat known)) (length rows)) f in
-          subst (λ (l : List ℕ). IsOnce (map (argument_at rows) l)) (sym same) once
+      by : (d a : Bool) → is_data r.word ≡ d → cond d (Some (i ∷ [])) (cond a None (gathered (length rows) (Some known))) ≡ Some nodes → ((is_data_at rows i ≡ true) × (nodes ≡ i ∷ [])) ⊎ (nodes ≡ concat known)
+      by true a d f = inl (data_in i r is d, sym (same_Some (i ∷ []) nodes f))
+      by false true d f = absurd (cc)
+      by false false d f = inr (few (length rows) (concat known) nodes (nat_le (length (concat known)) (length rows)) f)
 
-  within_once : (steps i : ℕ) (nodes : List ℕ) → steps ≤ length rows → within steps i ≡ Some nodes → IsOnce (map (argument_at rows) nodes)
-  unfolding within bring_step
-  within_once zero i nodes le e = absurd (cc)
-  within_once (suc steps) i nodes le e =
-      let u = unfold_one (bring_step rows (definitions rows)) (bringing rows (definitions rows)) steps i nodes e in
-      let fewer : steps ≤ length rows = omega (arith, le) in
-      let once = concat_once rows (within steps) (λ k some is. within_once steps k some fewer is) (bringing rows (definitions rows) i) u.known (bringing_separate (within steps) (λ k some is. brings steps k some fewer is) i) u.there in
-      bring_once i u.known nodes (slice_get rows i) once u.made
+  made_by : (i : ℕ) (known : List (List ℕ)) (nodes : List ℕ) → bring_step rows groupings i known ≡ Some nodes → ((is_data_at rows i ≡ true) × (nodes ≡ i ∷ [])) ⊎ (nodes ≡ concat known)
+  unfolding bring_step
+  made_by i known nodes e = made_of i known nodes (slice_get rows i) refl e
 
-  brought_once : (i : ℕ) (nodes : List ℕ) → brought rows (definitions rows) i ≡ Some nodes → IsOnce (map (argument_at rows) nodes)
-  unfolding brought worth_of within
-  brought_once i nodes e = within_once (length rows) i nodes (omega arith) e
+  module _ (next : ℕ → List ℕ) (along : (i : ℕ) → AreSome (next i) (bringing rows groupings i)) where
+    abbrev value : ℕ → ℕ → Option (List ℕ)
+    value steps i = worth_within (strict (bring_step rows groupings)) next steps i
 
-  -- the members of a row have names of their own (RFC 7950 sections 6.2.1 and 7.13)
-  pub members_once : (i : ℕ) (nodes : List ℕ) → members rows (definitions rows) i ≡ Some nodes → IsOnce (map (argument_at rows) nodes)
+    value_brings : (steps i : ℕ) (nodes : List ℕ) (n : ℕ) → value steps i ≡ Some nodes → Contains nodes n → Brings rows groupings i n
+    value_brings zero i nodes n e c = absurd (cc)
+    value_brings (suc steps) i nodes n e c =
+        let u = unfold_one (bring_step rows groupings) next steps i nodes e in
+        elim (made_by i u.known nodes u.made) [
+          | inl m ↦ elim (first_or_later i n [] (subst (λ (l : List ℕ). Contains l n) m.1 c)) [
+            | inl same ↦ subst (λ (x : ℕ). Brings rows groupings i x) same (alone m.0)
+            | inr d ↦ absurd (nothing n d)
+          ]
+          | inr all ↦
+              let r = of_concat (value steps) (next i) u.known n u.there (subst (λ (l : List ℕ). Contains l n) all c) in
+              through r.row ((along i).among r.row r.among) (value_brings steps r.row r.nodes n r.known r.there)
+        ]
+
+  abbrev BringBy : (ℕ → Option (List ℕ)) → Type 0
+  BringBy f = (k : ℕ) (nodes : List ℕ) (n : ℕ) → f k ≡ Some nodes → Contains nodes n → Brings rows groupings k n
+
+  gathered_stand : (f : ℕ → Option (List ℕ)) → BringBy f → (i : ℕ) (ks : List ℕ) → AreSome ks (holding rows groupings i) → (nodes : List ℕ) → gathered (length rows) (all_there (map f ks)) ≡ Some nodes → (n : ℕ) → Contains nodes n → Stands rows groupings i n
+  gathered_stand f brings i ks are nodes e n c =
+      let g = gathers (length rows) (all_there (map f ks)) nodes e in
+      let r = of_concat f ks g.0 n g.1 (subst (λ (l : List ℕ). Contains l n) g.2 c) in
+      record { part = r.row; among = are.among r.row r.among; brings = brings r.row r.nodes n r.known r.there }
+
+  brought_brings : BringBy (brought rows groupings)
+  unfolding brought worth_of
+  brought_brings k nodes n e c = value_brings (bringing rows groupings) (λ i. all_some (bringing rows groupings i) (bringing_ascends i)) (length rows) k nodes n e c
+
+  along_brings : (next : ℕ → List ℕ) → ((i : ℕ) → AreSome (next i) (bringing rows groupings i)) → BringBy (brought_along rows groupings next)
+  unfolding brought_along worth_of
+  along_brings next along k nodes n e c = value_brings next along (length rows) k nodes n e c
+
+  kept_along : (i : ℕ) → AreSome (kept_of (bringing rows groupings) rows i) (bringing rows groupings i)
+  unfolding kept_of
+  kept_along i = some_kept (is_kept rows) (bringing rows groupings i) (bringing_ascends i)
+
+  plain_along : (i : ℕ) → AreSome (plain_of (bringing rows groupings) rows i) (bringing rows groupings i)
+  unfolding plain_of
+  plain_along i = some_kept (is_plain rows) (bringing rows groupings i) (bringing_ascends i)
+
+  kept_parts : (i : ℕ) → AreSome (configuring rows groupings i) (holding rows groupings i)
+  unfolding kept_of
+  kept_parts i = some_kept (is_kept rows) (holding rows groupings i) (holding_ascends i)
+
+  plain_parts : (i : ℕ) → AreSome (plain_of (holding rows groupings) rows i) (holding rows groupings i)
+  unfolding plain_of
+  plain_parts i = some_kept (is_plain rows) (holding rows groupings i) (holding_ascends i)
+
+  -- the members of a row stand in it
+  pub member_stands : (i : ℕ) (nodes : List ℕ) → members rows groupings i ≡ Some nodes → (n : ℕ) → Contains nodes n → Stands rows groupings i n
   unfolding members
-  members_once i nodes e =
-      let b = brought rows (definitions rows) in
-      let g = gathers (length rows) (all_there (map b (holding rows (definitions rows) i))) nodes e in
-      let once = concat_once rows b brought_once (holding rows (definitions rows) i) g.0 (holding_separate b (λ k some is. is) i) g.1 in
-      subst (λ (l : List ℕ). IsOnce (map (argument_at rows) l)) (sym g.2) once
+  member_stands i nodes e n c = gathered_stand (brought rows groupings) brought_brings i (holding rows groupings i) (all_some (holding rows groupings i) (holding_ascends i)) nodes e n c
 
-  -- and so have those that are kept
-  pub kept_once : (i : ℕ) → IsOnce (map (argument_at rows) (kept_below rows (definitions rows) i))
-  unfolding kept_below kept_members
-  kept_once i = by (members rows (definitions rows) i) refl
+  -- and so do those that stand in no choice
+  pub plain_stands : (i : ℕ) (nodes : List ℕ) → plain_members rows groupings i ≡ Some nodes → (n : ℕ) → Contains nodes n → Stands rows groupings i n
+  unfolding plain_members
+  plain_stands i nodes e n c =
+      gathered_stand (brought_along rows groupings (plain_of (bringing rows groupings) rows)) (along_brings (plain_of (bringing rows groupings) rows) plain_along) i (plain_of (holding rows groupings) rows i) (plain_parts i) nodes e n c
+
+  kept_stand : (i : ℕ) (nodes : List ℕ) → kept_members rows groupings i ≡ Some nodes → (n : ℕ) → Contains nodes n → Stands rows groupings i n
+  unfolding kept_members
+  kept_stand i nodes e n c =
+      gathered_stand (brought_along rows groupings (kept_of (bringing rows groupings) rows)) (along_brings (kept_of (bringing rows groupings) rows) kept_along) i (configuring rows groupings i) (kept_parts i) nodes e n c
+
+  -- and those that are kept
+  pub kept_stands : (i n : ℕ) → Contains (kept_below rows groupings i) n → Stands rows groupings i n
+  unfolding kept_below
+  kept_stands i n c = by (kept_members rows groupings i) refl c
     where
-      by : (o : Option (List ℕ)) → members rows (definitions rows) i ≡ o → IsOnce (map (argument_at rows) (unwrap_or (option_map (filter (is_kept rows)) o) []))
-      by None e = tt
-      by (Some nodes) e = once_kept (argument_at rows) (is_kept rows) nodes (members_once i nodes e)
+      by : (o : Option (List ℕ)) → kept_members rows groupings i ≡ o → Contains (unwrap_or o []) n → Stands rows groupings i n
+      by None e d = absurd (nothing n d)
+      by (Some nodes) e d = kept_stand i nodes e n d
 
--- what is kept is a member
-pub kept_member : (rows : List Row) (groupings : List (Option ℕ)) (i k : ℕ) → Contains (kept_below rows groupings i) k → (nodes : List ℕ) × (members rows groupings i ≡ Some nodes) × Contains nodes k
-unfolding kept_below kept_members
-kept_member rows groupings i k c = by (members rows groupings i) refl c
-  where
-    by : (o : Option (List ℕ)) → members rows groupings i ≡ o → Contains (unwrap_or (option_map (filter (is_kept rows)) o) []) k → (nodes : List ℕ) × (members rows groupings i ≡ Some nodes) × Contains nodes k
-    by None e d = absurd (nothing k d)
-    by (Some nodes) e d = (nodes, e, (of_filter (is_kept rows) nodes k d).0)
+  -- ---- names
+
+  module _ (are : AreOrderly rows groupings) where
+    abbrev Claim : ℕ → ℕ → Type 0
+    Claim i n = Claims rows groupings are i (argument_at rows n)
+
+    -- what row p claims of row h, it claims by a row that stands in h and is p or under it
+    record IsClaimedIn (h p n : ℕ) : Type 0 where
+      row : ℕ
+      under : Under rows p row
+      held_in : holder_of rows row ≡ Some h
+      claims : Claim row n
+
+    -- the name of what a row brings is claimed: by itself, or by what stands in it, where it is a choice or a case
+    abbrev IsClaimed : ℕ → ℕ → Type 0
+    IsClaimed i n = (is_fork_at rows i ≡ false → IsClaimer rows i → Claim i n) × ((h : ℕ) → is_part_at rows i ≡ true → holder_of rows i ≡ Some h → IsClaimedIn h i n)
+
+    claimed_both : (i n : ℕ) → (is_fork_at rows i ≡ false → IsClaimer rows i → Claim i n) → (is_fork_at rows i ≡ true → (h : ℕ) → holder_of rows i ≡ Some h → IsClaimedIn h i n) → IsClaimed i n
+    claimed_both i n own inner_ones = (own, λ h part e. by h part e (is_fork_at rows i) refl)
+      where
+        by : (h : ℕ) → is_part_at rows i ≡ true → holder_of rows i ≡ Some h → (b : Bool) → is_fork_at rows i ≡ b → IsClaimedIn h i n
+        by h part e true fork = inner_ones fork h e
+        by h part e false plain = record { row = i; under = itself; held_in = e; claims = own plain (part_claimer rows i part) }
+
+    fork_here : (i : ℕ) (r : Row) → slice_get rows i ≡ Some r → is_fork_at rows i ≡ is_fork r.word
+    unfolding is_fork_at
+    fork_here i r is = ap is_fork_row is
+
+    data_here : (i : ℕ) (r : Row) → slice_get rows i ≡ Some r → is_data_at rows i ≡ is_data r.word
+    data_here i r is = ap is_data_row is
+
+    data_plain : (i : ℕ) (o : Option Row) → slice_get rows i ≡ o → is_data_row o ≡ true → is_fork_at rows i ≡ true → ⊥
+    data_plain i None is d f = absurd (cc)
+    data_plain i (Some r) is d f = data_fork r.word d (sym (fork_here i r is) ∙ f)
+
+    own_claim : (i : ℕ) → is_data_at rows i ≡ true → IsClaimer rows i → Claim i i
+    own_claim i d c = claims_own rows groupings are i c (data_node c.row.word (sym (data_here i c.row c.there) ∙ d))
+
+    through_step : (i n k : ℕ) → is_data_at rows i ≡ false → IsStep rows groupings i k → IsClaimed k n → IsClaimed i n
+    through_step i n k data_not (inside r is holder part in_i) below = claimed_both i n
+        (λ plain c. (
+        let same : r ≡ c.row = same_Some r c.row (sym is ∙ c.there) in
+        let holds : is_holder c.row.word ≡ true = ap (λ (x : Row). is_holder x.word) (sym same) ∙ holder in
+        let node = no_node c.row.word (sym (fork_here i c.row c.there) ∙ plain) (sym (data_here i c.row c.there) ∙ data_not) in
+        let b = below.1 i part (held_directly rows are.before k i part in_i plain) in
+        claims_up rows groupings are i b.row c (argument_at rows n) node (rests_on_held rows groupings are i b.row c node (no_uses c.row.word holds) b.held_in) b.claims
+        ))
+        (λ fork h e. (
+        let b = below.1 h part (held_inner rows are.before k i h part in_i fork e) in
+        record { row = b.row; under = under_up rows i k b.row in_i b.under; held_in = b.held_in; claims = b.claims }
+        ))
+    through_step i n k data_not (used r is uses e) below = claimed_both i n
+        (λ plain c. (
+        let same : r ≡ c.row = same_Some r c.row (sym is ∙ c.there) in
+        let u : is_uses c.row.word ≡ true = ap (λ (x : Row). is_uses x.word) (sym same) ∙ uses in
+        let node : is_node c.row.word ≡ false = ap is_node (uses_word c.row.word u) in
+        let g = are.named i k r is uses e in
+        let flat : is_fork_at rows k ≡ false = fork_here k g.0 g.1 ∙ ap is_fork g.2 in
+        let b = below.0 flat (record { row = g.0; there = g.1; sort = inr g.2 }) in
+        claims_up rows groupings are i k c (argument_at rows n) node (rests_on_used rows groupings are i k c u e) b
+        ))
+        (λ fork h f. absurd (uses_fork r.word uses (sym (fork_here i r is) ∙ fork)))
+
+    is_claimed : (i n : ℕ) → Brings rows groupings i n → IsClaimed i n
+    is_claimed i n (alone d) = claimed_both i i (λ plain c. own_claim i d c) (λ fork h e. absurd (data_plain i (slice_get rows i) refl d fork))
+    is_claimed i n (through k c b) = let o = of_bringing i k c in through_step i n k o.0 (step_of i k o.1) (is_claimed k n b)
+
+    -- the parts of one row stand in one, choices and cases left aside
+    together : (i k j : ℕ) → is_part_at rows k ≡ true → around rows k ≡ Some i → is_part_at rows j ≡ true → around rows j ≡ Some i → (h : ℕ) × (holder_of rows k ≡ Some h) × (holder_of rows j ≡ Some h)
+    together i k j part_k in_k part_j in_j = by (is_fork_at rows i) refl
+      where
+        by : (b : Bool) → is_fork_at rows i ≡ b → (h : ℕ) × (holder_of rows k ≡ Some h) × (holder_of rows j ≡ Some h)
+        by false plain = (i, held_directly rows are.before k i part_k in_k plain, held_directly rows are.before j i part_j in_j plain)
+        by true fork =
+            let g = held rows are.before are.outer i (fork_part rows i fork) in
+            (g.0, held_inner rows are.before k i g.0 part_k in_k fork g.1, held_inner rows are.before j i g.0 part_j in_j fork g.1)
+
+    one_step : (i k j a b : ℕ) → IsStep rows groupings i k → IsStep rows groupings i j → Brings rows groupings k a → Brings rows groupings j b → argument_at rows a ≡ argument_at rows b → k ≡ j
+    one_step i k j a b (inside r is holder part_k in_k) (inside s at holds part_j in_j) c d same =
+        let t = together i k j part_k in_k part_j in_j in
+        let x = (is_claimed k a c).1 t.0 part_k t.1 in
+        let y = (is_claimed j b d).1 t.0 part_j t.2 in
+        let rows_same = one_claims rows groupings are t.0 x.row y.row a b x.held_in y.held_in x.claims y.claims same in
+        under_one rows are.before k j i y.row in_k in_j (subst (λ (z : ℕ). Under rows k z) rows_same x.under) y.under
+    one_step i k j a b (used r is uses e) (used s at used_too f) c d same = same_Some k j (sym e ∙ f)
+    one_step i k j a b (inside r is holder part_k in_k) (used s at uses f) c d same =
+        let rows_same : r ≡ s = same_Some r s (sym is ∙ at) in
+        absurd (uses_holder s.word uses (ap (λ (x : Row). is_holder x.word) (sym rows_same) ∙ holder))
+    one_step i k j a b (used r is uses e) (inside s at holder part_j in_j) c d same =
+        let rows_same : r ≡ s = same_Some r s (sym is ∙ at) in
+        absurd (uses_holder s.word (ap (λ (x : Row). is_uses x.word) (sym rows_same) ∙ uses) holder)
+
+    one_part : (i k j a b : ℕ) → Contains (holding rows groupings i) k → Contains (holding rows groupings i) j → Brings rows groupings k a → Brings rows groupings j b → argument_at rows a ≡ argument_at rows b → k ≡ j
+    one_part i k j a b c d x y same = one_step i k j a b (step_of i k c) (step_of i j d) x y same
+
+    no_more : (i k : ℕ) → is_data_at rows i ≡ true → Contains (bringing rows groupings i) k → ⊥
+    no_more i k d c = let no : true ≡ false = sym d ∙ (of_bringing i k c).0 in absurd (cc)
+
+    one_brought : (i a b : ℕ) → Brings rows groupings i a → Brings rows groupings i b → argument_at rows a ≡ argument_at rows b → a ≡ b
+    one_brought i a b (alone d) (alone e) same = refl
+    one_brought i a b (alone d) (through j e y) same = absurd (no_more i j d e)
+    one_brought i a b (through k c x) (alone d) same = absurd (no_more i k d c)
+    one_brought i a b (through k c x) (through j d y) same =
+        let parts = one_part i k j a b (of_bringing i k c).1 (of_bringing i j d).1 x y same in
+        one_brought k a b x (subst (λ (z : ℕ). Brings rows groupings z b) (sym parts) y) same
+
+    -- of the nodes that stand in one row, one has a name
+    pub one_stands : (i a b : ℕ) → Stands rows groupings i a → Stands rows groupings i b → argument_at rows a ≡ argument_at rows b → a ≡ b
+    one_stands i a b x y same =
+        let parts = one_part i x.part y.part a b x.among y.among x.brings y.brings same in
+        one_brought x.part a b x.brings (subst (λ (z : ℕ). Brings rows groupings z b) (sym parts) y.brings) same
+
+    some_separate : (f : ℕ → Option (List ℕ)) → BringBy f → (i : ℕ) (ks : List ℕ) → AreSome ks (holding rows groupings i) → AreSeparate rows f ks
+    some_separate f brings i ks these =
+        separate rows f 0 ks these.order (λ k j c d lt these_nodes those_nodes a b is_k is_j x y same. (
+        let e = one_part i k j a b (these.among k c) (these.among j d) (brings k these_nodes a is_k x) (brings j those_nodes b is_j y) same in
+        absurd (omega (arith, lt, e))
+        ))
+
+    once_alone : (i : ℕ) (nodes : List ℕ) → nodes ≡ i ∷ [] → IsOnce (map (argument_at rows) nodes)
+    once_alone i nodes is = subst (λ (l : List ℕ). IsOnce (map (argument_at rows) l)) (sym is) ((λ c. nothing (argument_at rows i) c), tt)
+
+    some_of_holding : (i : ℕ) (ks : List ℕ) → AreSome ks (bringing rows groupings i) → AreSome ks (holding rows groupings i)
+    some_of_holding i ks these = record { order = these.order; among = λ k c. (of_bringing i k (these.among k c)).1 }
+
+    module _ (next : ℕ → List ℕ) (along : (i : ℕ) → AreSome (next i) (bringing rows groupings i)) where
+      value_once : (steps i : ℕ) (nodes : List ℕ) → value next along steps i ≡ Some nodes → IsOnce (map (argument_at rows) nodes)
+      value_once zero i nodes e = absurd (cc)
+      value_once (suc steps) i nodes e =
+          let u = unfold_one (bring_step rows groupings) next steps i nodes e in
+          let parts = some_separate (value next along steps) (value_brings next along steps) i (next i) (some_of_holding i (next i) (along i)) in
+          let once = concat_once rows (value next along steps) (value_once steps) (next i) u.known parts u.there in
+          elim (made_by i u.known nodes u.made) [
+            | inl m ↦ once_alone i nodes m.1
+            | inr all ↦ subst (λ (l : List ℕ). IsOnce (map (argument_at rows) l)) (sym all) once
+          ]
+
+    abbrev OnceBy : (ℕ → Option (List ℕ)) → Type 0
+    OnceBy f = (k : ℕ) (nodes : List ℕ) → f k ≡ Some nodes → IsOnce (map (argument_at rows) nodes)
+
+    gathered_once : (f : ℕ → Option (List ℕ)) → BringBy f → OnceBy f → (i : ℕ) (ks : List ℕ) → AreSome ks (holding rows groupings i) → (nodes : List ℕ) → gathered (length rows) (all_there (map f ks)) ≡ Some nodes → IsOnce (map (argument_at rows) nodes)
+    gathered_once f brings once i ks these nodes e =
+        let g = gathers (length rows) (all_there (map f ks)) nodes e in
+        subst (λ (l : List ℕ). IsOnce (map (argument_at rows) l)) (sym g.2) (concat_once rows f once ks g.0 (some_separate f brings i ks these) g.1)
+
+    brought_once : OnceBy (brought rows groupings)
+    unfolding brought worth_of
+    brought_once k nodes e = value_once (bringing rows groupings) (λ i. all_some (bringing rows groupings i) (bringing_ascends i)) (length rows) k nodes e
+
+    along_once : (next : ℕ → List ℕ) → ((i : ℕ) → AreSome (next i) (bringing rows groupings i)) → OnceBy (brought_along rows groupings next)
+    unfolding brought_along worth_of
+    along_once next along k nodes e = value_once next along (length rows) k nodes e
+
+    -- the members of a row have names of their own
+    pub members_once : (i : ℕ) (nodes : List ℕ) → members rows groupings i ≡ Some nodes → IsOnce (map (argument_at rows) nodes)
+    unfolding members
+    members_once i nodes e = gathered_once (brought rows groupings) brought_brings brought_once i (holding rows groupings i) (all_some (holding rows groupings i) (holding_ascends i)) nodes e
+
+    kept_members_once : (i : ℕ) (nodes : List ℕ) → kept_members rows groupings i ≡ Some nodes → IsOnce (map (argument_at rows) nodes)
+    unfolding kept_members
+    kept_members_once i nodes e =
+        let next = kept_of (bringing rows groupings) rows in
+        gathered_once (brought_along rows groupings next) (along_brings next kept_along) (along_once next kept_along) i (configuring rows groupings i) (kept_parts i) nodes e
+
+    -- and so have those that are kept
+    pub kept_once : (i : ℕ) → IsOnce (map (argument_at rows) (kept_below rows groupings i))
+    unfolding kept_below
+    kept_once i = by (kept_members rows groupings i) refl
+      where
+        by : (o : Option (List ℕ)) → kept_members rows groupings i ≡ o → IsOnce (map (argument_at rows) (unwrap_or o []))
+        by None e = tt
+        by (Some nodes) e = kept_members_once i nodes e

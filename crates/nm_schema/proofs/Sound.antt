@@ -27,6 +27,9 @@ use Rattle.nm_base.specs.Words.{marker_name}
 use Rattle.nm_schema.specs.Marker.{change_type, changes_node, applied_node, change_node, marker_nodes}
 use Rattle.nm_schema.specs.Built.{is_unknown, first_unknown, first_ungrown, tree_of, outcome, built, AreBuilt, Builds, Answered}
 use Rattle.nm_schema.proofs.Elements.{here, later, nothing, first_or_later, in_range, finds_none}
+use Rattle.nm_schema.proofs.Holders.{StandBefore}
+use Rattle.nm_schema.proofs.Claims.{AreOrderly}
+use Rattle.nm_schema.proofs.Orderly.{modules_stand, orderly}
 use Rattle.nm_schema.proofs.Faultless.{AreFaultless, within, faultless}
 use Rattle.nm_schema.proofs.Putting.{are-more, none-put}
 use Rattle.nm_schema.proofs.Nodes.{placed, some_of, given_named, given_unmarked, given_apart, given_parent, given_module, given_holder, given_type, given_keys}
@@ -91,7 +94,7 @@ marker_case rows facts n i node (suc zero) at e = let same : applied_node n ≡ 
 marker_case rows facts n i node (suc (suc zero)) at e = let same : change_node n ≡ node = cc in change (omega (arith, at)) (sym same)
 marker_case rows facts n i node (suc (suc (suc k))) at e = absurd (cc)
 
-module _ (rows : List Row) (facts : Facts) (all : AreFaultless rows facts) (expansion : IsExpansion rows (definitions rows) facts.nodes) (known : (x : ℕ) → x < length facts.nodes → is_some (node_of rows facts x) ≡ true) where
+module _ (rows : List Row) (facts : Facts) (all : AreFaultless rows facts) (order : AreOrderly rows (definitions rows)) (expansion : IsExpansion rows (definitions rows) facts.nodes) (known : (x : ℕ) → x < length facts.nodes → is_some (node_of rows facts x) ≡ true) where
   abbrev firsts : List Node
   firsts = known_nodes rows facts
 
@@ -125,7 +128,7 @@ module _ (rows : List Row) (facts : Facts) (all : AreFaultless rows facts) (expa
   above : (x p : ℕ) (n : Node) → node_of rows facts x ≡ Some n → n.parent ≡ Some p → (m : Node) × (node_of rows facts p ≡ Some m)
   above x p n e parent =
       let are = are_all rows facts known in
-      some_of (node_of rows facts p) (known p (omega (arith, given_parent rows facts all expansion x p n e parent, inside x n e, are.size)))
+      some_of (node_of rows facts p) (known p (omega (arith, given_parent rows facts all order expansion x p n e parent, inside x n e, are.size)))
 
   marker_at : (k : ℕ) (i : ℕ) → i ≡ count + k → slice_get nodes i ≡ slice_get (marker_nodes count) k
   marker_at k i is = ap (slice_get (known_nodes rows facts ++ marker_nodes (length (known_nodes rows facts)))) is ∙ behind (known_nodes rows facts) (marker_nodes (length (known_nodes rows facts))) k
@@ -134,14 +137,14 @@ module _ (rows : List Row) (facts : Facts) (all : AreFaultless rows facts) (expa
 
   names_by : (i : ℕ) (n : Node) → IsCase rows facts count i n → (form.is_identifier n.name ≡ true) × (form.is_identifier n.«module» ≡ true)
   unfolding marker_name changes_node applied_node change_node form.is_start form.is_name
-  names_by i n (given e) = given_named rows facts all expansion i n e
+  names_by i n (given e) = given_named rows facts all order expansion i n e
   names_by i n (changes is e) = rw e (refl, refl)
   names_by i n (applied is e) = rw e (refl, refl)
   names_by i n (change is e) = rw e (refl, refl)
 
   has_keys : (i : ℕ) (n : Node) → IsCase rows facts count i n → HasKeys nodes i n.kind × IsOnce (map (λ k. name_at nodes k) (keys_of n.kind))
   unfolding changes_node applied_node change_node IsDistinct
-  has_keys i n (given e) = given_keys rows facts all expansion known nodes at i n e
+  has_keys i n (given e) = given_keys rows facts all order expansion known nodes at i n e
   has_keys i n (changes is e) = rw e (tt, tt)
   has_keys i n (change is e) = rw e (tt, tt)
   has_keys i n (applied is e) =
@@ -158,7 +161,7 @@ module _ (rows : List Row) (facts : Facts) (all : AreFaultless rows facts) (expa
 
   type_by : (i : ℕ) (n : Node) (t : TypeOfLeaf) → IsCase rows facts count i n → type_of n.kind ≡ Some t → HasLow t.kind × HasDistinctNames t.kind × HasHeldBounds t.kind
   unfolding changes_node applied_node change_node
-  type_by i n t (given e) h = given_type rows facts all expansion i n t e h
+  type_by i n t (given e) h = given_type rows facts all order expansion i n t e h
   type_by i n t (changes is e) h = absurd (let no = rw e at h in cc)
   type_by i n t (applied is e) h = absurd (let no = rw e at h in cc)
   type_by i n t (change is e) h =
@@ -174,7 +177,7 @@ module _ (rows : List Row) (facts : Facts) (all : AreFaultless rows facts) (expa
   unmarked : (x : ℕ) (n m : Node) → node_of rows facts x ≡ Some n → n.«module» ≡ m.«module» → m.«module» ≡ marker_name → ⊥
   unfolding marker_name is_marker
   unmarked x n m e same is =
-      let no = given_unmarked rows facts all expansion x n e in
+      let no = given_unmarked rows facts all order expansion x n e in
       let yes : is_marker n.«module» ≡ true = ap is_marker (same ∙ is) in
       cc
 
@@ -204,7 +207,7 @@ module _ (rows : List Row) (facts : Facts) (all : AreFaultless rows facts) (expa
   mark i n (change is e) = inr (inner is (rw e refl), rw e refl)
 
   apart_by : (i j : ℕ) (n m : Node) → HaveOneName n m → (node_of rows facts i ≡ Some n) ⊎ (IsMark i n × (n.«module» ≡ marker_name)) → (node_of rows facts j ≡ Some m) ⊎ (IsMark j m × (m.«module» ≡ marker_name)) → i ≡ j
-  apart_by i j n m h (inl e) (inl f) = given_apart rows facts all expansion i j n m e f h
+  apart_by i j n m h (inl e) (inl f) = given_apart rows facts all order expansion i j n m e f h
   apart_by i j n m h (inl e) (inr f) = absurd (unmarked i n m e h.«module» f.1)
   apart_by i j n m h (inr e) (inl f) = absurd (unmarked j m n f (sym h.«module») e.1)
   apart_by i j n m h (inr e) (inr f) = same_mark i j n m e.0 f.0 h.parent
@@ -212,7 +215,7 @@ module _ (rows : List Row) (facts : Facts) (all : AreFaultless rows facts) (expa
   -- ---- what nodes stand in
 
   before_by : (i p : ℕ) (n : Node) → (node_of rows facts i ≡ Some n) ⊎ (IsMark i n × (n.«module» ≡ marker_name)) → n.parent ≡ Some p → p < i
-  before_by i p n (inl e) parent = given_parent rows facts all expansion i p n e parent
+  before_by i p n (inl e) parent = given_parent rows facts all order expansion i p n e parent
   before_by i p n (inr e) parent = by e.0
     where
       by : IsMark i n → p < i
@@ -224,7 +227,7 @@ module _ (rows : List Row) (facts : Facts) (all : AreFaultless rows facts) (expa
   unfolding changes_node applied_node
   module_by i p n (inl e) parent =
       let a = above i p n e parent in
-      ap module_in (at p a.0 a.1) ∙ ap (λ (w : List ℕ). Some w) (given_module rows facts all expansion i p n a.0 e parent a.1)
+      ap module_in (at p a.0 a.1) ∙ ap (λ (w : List ℕ). Some w) (given_module rows facts all order expansion i p n a.0 e parent a.1)
   module_by i p n (inr (m, is)) parent = by m
     where
       named : (k : ℕ) (a : Node) → p ≡ count + k → slice_get (marker_nodes count) k ≡ Some a → a.«module» ≡ marker_name → module_at nodes p ≡ Some n.«module»
@@ -239,7 +242,7 @@ module _ (rows : List Row) (facts : Facts) (all : AreFaultless rows facts) (expa
   unfolding changes_node applied_node
   holder_by i p n (inl e) parent =
       let a = above i p n e parent in
-      record { node = a.0; there = at p a.0 a.1; holder = given_holder rows facts all expansion i p n a.0 e parent a.1 }
+      record { node = a.0; there = at p a.0 a.1; holder = given_holder rows facts all order expansion i p n a.0 e parent a.1 }
   holder_by i p n (inr (m, is)) parent = by m
     where
       by : IsMark i n → IsHolder nodes p
@@ -267,28 +270,29 @@ module _ (rows : List Row) (facts : Facts) (all : AreFaultless rows facts) (expa
 
 -- ---- the law
 
-of_outcome : (rows : List Row) (facts : Facts) (t : SchemaTree) → AreFacts rows facts → (f : Option Fault) (m x : Option ℕ) → first_fault rows facts ≡ f → first_unknown rows facts ≡ x → Ok t ≡ outcome rows facts f m x → IsSound t.nodes
-of_outcome rows facts t are (Some f) m x no_fault unknown e = absurd (cc)
-of_outcome rows facts t are None (Some m) x no_fault unknown e = absurd (cc)
-of_outcome rows facts t are None None (Some x) no_fault unknown e = absurd (cc)
-of_outcome rows facts t are None None None no_fault unknown e =
+of_outcome : (rows : List Row) (facts : Facts) (t : SchemaTree) → AreFacts rows facts → StandBefore rows → (f : Option Fault) (m x : Option ℕ) → first_fault rows facts ≡ f → first_unknown rows facts ≡ x → Ok t ≡ outcome rows facts f m x → IsSound t.nodes
+of_outcome rows facts t are before (Some f) m x no_fault unknown e = absurd (cc)
+of_outcome rows facts t are before None (Some m) x no_fault unknown e = absurd (cc)
+of_outcome rows facts t are before None None (Some x) no_fault unknown e = absurd (cc)
+of_outcome rows facts t are before None None None no_fault unknown e =
     let same : t ≡ tree_of rows facts = cc in
-    let it : IsSound (tree_of rows facts).nodes = sound rows facts (faultless rows facts no_fault) are.nodes (all_known rows facts unknown) in
+    let all = faultless rows facts no_fault in
+    let it : IsSound (tree_of rows facts).nodes = sound rows facts all (orderly rows facts all are.cycle before) are.nodes (all_known rows facts unknown) in
     subst (λ (s : SchemaTree). IsSound s.nodes) (sym same) it
 
-rows_sound : (rows : List Row) (t : SchemaTree) → AreBuilt rows (Ok t) → IsSound t.nodes
+rows_sound : (rows : List Row) → StandBefore rows → (t : SchemaTree) → AreBuilt rows (Ok t) → IsSound t.nodes
 unfolding built
-rows_sound rows t b = of_outcome rows b.facts t b.facts_are (first_fault rows b.facts) (first_ungrown rows) (first_unknown rows b.facts) refl refl b.given_is
+rows_sound rows before t b = of_outcome rows b.facts t b.facts_are before (first_fault rows b.facts) (first_ungrown rows) (first_unknown rows b.facts) refl refl b.given_is
 
 -- the nodes of the tree that modules give are sound
 pub modules_sound : (modules : List Tree) (t : SchemaTree) → Builds modules (Ok t) → IsSound t.nodes
-modules_sound modules t b = rows_sound (rows_of modules) t b
+modules_sound modules t b = rows_sound (rows_of modules) (modules_stand modules) t b
 
 -- a tree that is answered is sound
-pub answer_sound : (rows : List Row) (answer : Result SchemaTree SchemaFault) → Answered rows answer → IfOk answer (λ t. IsSound t.nodes)
-answer_sound rows (Ok t) a = rows_sound rows t a
-answer_sound rows (Err fault) a = tt
+pub answer_sound : (modules : List Tree) (rows : List Row) (answer : Result SchemaTree SchemaFault) → rows ≡ rows_of modules → Answered rows answer → IfOk answer (λ t. IsSound t.nodes)
+answer_sound modules rows (Ok t) is a = rows_sound rows (subst StandBefore (sym is) (modules_stand modules)) t a
+answer_sound modules rows (Err fault) is a = tt
 
-pub answer_named : (rows : List Row) (answer : Result SchemaTree SchemaFault) → Answered rows answer → IfOk answer (λ t. IsWellNamed t.nodes)
-answer_named rows (Ok t) a = (rows_sound rows t a).named
-answer_named rows (Err fault) a = tt
+pub answer_named : (modules : List Tree) (rows : List Row) (answer : Result SchemaTree SchemaFault) → rows ≡ rows_of modules → Answered rows answer → IfOk answer (λ t. IsWellNamed t.nodes)
+answer_named modules rows (Ok t) is a = (rows_sound rows (subst StandBefore (sym is) (modules_stand modules)) t a).named
+answer_named modules rows (Err fault) is a = tt

@@ -15,7 +15,8 @@ use Rattle.nm_flaws.specs.Facts.{Facts, AreFacts, definitions}
 use Rattle.nm_flaws.specs.Fault.{first_fault}
 use Rattle.nm_schema.specs.declared.fault.SchemaFault.{SchemaFault}
 use Rattle.nm_schema.specs.declared.fault.SchemaFault.TheVariants as schema
-use Rattle.nm_schema.specs.Node.{node_of, known_nodes, module_names}
+use Rattle.nm_schema.specs.Choices.{module_names, tree_choices, tree_cases}
+use Rattle.nm_schema.specs.Node.{node_of, known_nodes}
 use Rattle.nm_schema.specs.Marker.{marker_nodes}
 
 -- ---- what isn't known. Whatever rests on that has a flaw of its own, so it is never told as far as is seen; with it, Ok says that everything is known
@@ -41,10 +42,10 @@ first_unknown rows facts = find (is_unknown rows facts) (range_with_len 0 (lengt
 
 -- ---- the tree
 
--- the nodes of the given modules, and those of the marker module after them; no choices
+-- the nodes of the given modules with their choices and cases, and the nodes of the marker module after them
 abbrev pub tree_of : List Row → Facts → SchemaTree
 tree_of rows facts =
-    record { modules = module_names rows; nodes = known_nodes rows facts ++ marker_nodes (length (known_nodes rows facts)); choices = []; cases = [] }
+    record { modules = module_names rows; nodes = known_nodes rows facts ++ marker_nodes (length (known_nodes rows facts)); choices = tree_choices rows facts; cases = tree_cases rows facts }
 
 abbrev pub outcome : List Row → Facts → Option Fault → Option ℕ → Option ℕ → Result SchemaTree Fault
 outcome rows facts (Some f) m x = Err f

@@ -6,7 +6,7 @@ use Rattle.nm_grammar.specs.declared.word.Word.{Word}
 use Rattle.nm_grammar.specs.declared.word.Word.TheVariants as word
 use Rattle.nm_grammar.specs.Rows.{first_below}
 use Rattle.nm_graph.specs.Value.{all_there}
-use Rattle.nm_shape.specs.Clash.{argument_at}
+use Rattle.nm_shape.specs.Arguments.{argument_at}
 use Rattle.nm_shape.specs.Config.{is_true}
 use Rattle.nm_types.specs.declared.value.Value.{Value}
 use Rattle.nm_types.specs.declared.fault.ValueFault.{ValueFault}
@@ -21,7 +21,7 @@ use Rattle.nm_typing.specs.Defaults.{default_of}
 use Rattle.nm_keys.specs.Keys.{keys_of}
 use Rattle.nm_keys.specs.Uniques.{uniques_of}
 use Rattle.nm_expansion.specs.declared.instance.Instance.{Instance}
-use Rattle.nm_expansion.specs.Expansion.{kept_members}
+use Rattle.nm_shape.specs.Passing.{kept_members}
 use Rattle.nm_expansion.specs.Named.{child_named}
 use Rattle.nm_leafref.specs.declared.led.Led.{Led}
 use Rattle.nm_leafref.specs.declared.led.Led.TheVariants as led

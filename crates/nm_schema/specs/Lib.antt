@@ -1,4 +1,5 @@
 pub mod Kind
+pub mod Choices
 pub mod Node
 pub mod Marker
 pub mod Built

@@ -1,37 +1,29 @@
 -- The nodes of a schema tree (RFC 7950 section 3).
-use Rattle.std.specs.Prelude.{◌≡◌, ◌<◌, ℕ, List, [], map, length, Option, Some, None, get_or, slice_get}
+use Rattle.std.specs.Prelude.{◌≡◌, ◌<◌, ℕ, List, length, Option, Some, None, slice_get}
 use Rattle.std.specs.List.{filter_map, range_with_len}
 use Rattle.nm_grammar.specs.declared.row.Row.{Row}
-use Rattle.nm_grammar.specs.Rows.{roots}
-use Rattle.nm_shape.specs.Clash.{argument_at}
+use Rattle.nm_shape.specs.Arguments.{argument_at}
 use Rattle.nm_tree.specs.declared.node.Node.{Node}
 use Rattle.nm_tree.specs.declared.node.NodeKind.{NodeKind}
 use Rattle.nm_expansion.specs.declared.instance.Instance.{Instance}
 use Rattle.nm_flaws.specs.Facts.{Facts}
 use Rattle.nm_schema.specs.Kind.{kind_of}
+use Rattle.nm_schema.specs.Choices.{module_name, case_of}
 
--- the names of the given modules, in order
-unfoldable pub module_names : List Row → List (List ℕ)
-module_names rows = map (argument_at rows) (roots rows)
-
--- the name of module m
-abbrev pub module_name : List Row → ℕ → List ℕ
-module_name rows m = get_or (module_names rows) m []
-
-abbrev pub node_with : List Row → Instance → Option NodeKind → Option Node
-node_with rows node None = None
-node_with rows node (Some k) =
-    Some (record { parent = node.parent; case_in = None; «module» = module_name rows node.owner; name = argument_at rows node.row; kind = k })
+abbrev pub node_with : List Row → Facts → ℕ → Instance → Option NodeKind → Option Node
+node_with rows facts x node None = None
+node_with rows facts x node (Some k) =
+    Some (record { parent = node.parent; case_in = case_of rows facts x node; «module» = module_name rows node.owner; name = argument_at rows node.row; kind = k })
 
 abbrev pub node_by : List Row → Facts → ℕ → Instance → Option Row → Option Node
 node_by rows facts x node None = None
-node_by rows facts x node (Some r) = node_with rows node (kind_of rows facts x node r.word)
+node_by rows facts x node (Some r) = node_with rows facts x node (kind_of rows facts x node r.word)
 
 abbrev pub node_in : List Row → Facts → ℕ → Option Instance → Option Node
 node_in rows facts x None = None
 node_in rows facts x (Some node) = node_by rows facts x node (slice_get rows node.row)
 
--- node x: with its parent, the module whose tree it is in, its name and its kind; none where something that it rests on isn't known
+-- node x: with its parent, its case, the module whose tree it is in, its name and its kind; none where something that it rests on isn't known
 unfoldable pub node_of : List Row → Facts → ℕ → Option Node
 node_of rows facts x = node_in rows facts x (slice_get facts.nodes x)
 

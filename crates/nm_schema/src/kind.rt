@@ -30,7 +30,7 @@ fn argument_below(rows: &Rows, at: usize, word: Word) -> Option<&Label>
 // ---- containers
 
 // Whether what stands in a row is known.
-#[tactic(auto, unfolding(crate::specs::Kind::is_filled, nm_expansion::specs::Expansion::kept_members))]
+#[tactic(auto, unfolding(crate::specs::Kind::is_filled))]
 pub(crate) fn is_filled(
     alloc: Global,
     grounds: &Grounds<'_, '_>,
@@ -38,7 +38,7 @@ pub(crate) fn is_filled(
 ) -> Result<bool, NoMemory>
     ensures { IfOk result (λ filled. filled ≡ spec.is_filled grounds.now.rows row) }
 {
-    let members = grounds.shape().members(alloc, row)?;
+    let members = grounds.shape().kept_members(alloc, row)?;
     Ok(members.is_some())
 }
 
@@ -104,7 +104,7 @@ fn is_true(text: &str) -> bool
 }
 
 // Whether a statement with a word stands in a row and says true.
-fn says_true(rows: &Rows, at: usize, word: Word) -> bool
+pub(crate) fn says_true(rows: &Rows, at: usize, word: Word) -> bool
     ensures { result ≡ spec.says_true (argument_below rows.now at word) }
 {
     match argument_below(rows, at, word) {

@@ -1,8 +1,8 @@
 //! Laws of the trees that modules give. Each function does nothing: its contract is the law.
 
-ghost use Rattle.std.specs.Prelude.{◌≡◌, List, Result, Ok};
+ghost use Rattle.std.specs.Prelude.{◌≡◌, ◌<◌, ℕ, List, length, Some, Result, Ok};
 ghost use Rattle.nm_yang.specs.Tree.{Tree};
-ghost use Rattle.nm_tree.specs.Nodes.{SchemaTree};
+ghost use Rattle.nm_tree.specs.Nodes.{SchemaTree, case_at};
 ghost use Rattle.nm_path.specs.Sound.{IsSound};
 ghost use Rattle.nm_flaws.specs.declared.fault.Fault.{Fault};
 ghost use Rattle.nm_schema.specs.Built as spec;
@@ -17,6 +17,11 @@ pub fn sound_nodes()
 /// The nodes of the marker module stand in a tree that modules give.
 pub fn marker_stands()
     ensures { (modules : List Tree) (t : SchemaTree) → spec.Builds modules (Ok t) → HasMarker t }
+{}
+
+/// The cases that nodes of a tree that modules give stand in are there (RFC 7950 section 7.9.2).
+pub fn cases_stand()
+    ensures { (modules : List Tree) (t : SchemaTree) → spec.Builds modules (Ok t) → (x c : ℕ) → case_at t.nodes x ≡ Some c → c < length t.cases }
 {}
 
 /// Modules give one tree or one fault: two that they give are the same.

@@ -5,6 +5,7 @@
 //! of the marker module after them. Such a tree is sound as `nm_path` says it, which reads and writes paths by it.
 #![tactic(auto)]
 
+mod choice;
 mod fault;
 mod kind;
 pub mod laws;

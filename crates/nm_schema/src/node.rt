@@ -1,8 +1,9 @@
 //! The nodes of the given modules.
 
-ghost use Rattle.std.specs.Prelude.{◌≡◌, IfOk, [], get_or, slice_get, map};
-ghost use Rattle.nm_shape.specs.Clash.{argument_at};
+ghost use Rattle.std.specs.Prelude.{◌≡◌, IfOk, [], None, get_or, slice_get, slice_index_or, map};
+ghost use Rattle.nm_shape.specs.Arguments.{argument_at};
 ghost use Rattle.nm_schema.specs.Kind as kinds;
+ghost use Rattle.nm_schema.specs.Choices as choices;
 ghost use Rattle.nm_schema.specs.Node as spec;
 
 use crate::kind::{container_of, leaf_list_of, leaf_of};
@@ -15,7 +16,7 @@ use nm_tree::{Node, NodeKind};
 use std::alloc::Global;
 
 /// The argument of a row, and an empty text without one.
-#[tactic(auto, unfolding(nm_shape::specs::Clash::argument_at))]
+#[tactic(auto, unfolding(nm_shape::specs::Arguments::argument_at))]
 pub(crate) fn argument_at(alloc: Global, rows: &Rows, at: usize) -> Result<Label, NoMemory>
     ensures { IfOk result (λ text. text ≡ argument_at rows.now at) }
 {
@@ -29,9 +30,9 @@ pub(crate) fn argument_at(alloc: Global, rows: &Rows, at: usize) -> Result<Label
 }
 
 /// The names of the modules.
-#[tactic(auto, unfolding(crate::specs::Node::module_names))]
+#[tactic(auto, unfolding(crate::specs::Choices::module_names))]
 pub(crate) fn module_names(alloc: Global, rows: &Rows) -> Result<Vec<Label>, NoMemory>
-    ensures { IfOk result (λ names. names.items ≡ spec.module_names rows.now) }
+    ensures { IfOk result (λ names. names.items ≡ choices.module_names rows.now) }
 {
     let mut names = Vec::with_capacity(alloc, rows.roots().len())?;
     for root in rows.roots() {
@@ -40,12 +41,21 @@ pub(crate) fn module_names(alloc: Global, rows: &Rows) -> Result<Vec<Label>, NoM
     Ok(names)
 }
 
-fn name_of(alloc: Global, names: &[Label], owner: usize) -> Result<Label, NoMemory>
+pub(crate) fn name_of(alloc: Global, names: &[Label], owner: usize) -> Result<Label, NoMemory>
     ensures { IfOk result (λ name. name ≡ get_or names.now owner []) }
 {
     match names.get(owner) {
         None => Label::new(alloc, ""),
         Some(name) => name.copy(),
+    }
+}
+
+fn case_at(cases: &[Option<usize>], number: usize) -> Option<usize>
+    ensures { result ≡ slice_index_or cases.now number None }
+{
+    match cases.get(number) {
+        None => None,
+        Some(case) => *case,
     }
 }
 
@@ -74,9 +84,11 @@ pub(crate) fn node_of(
     alloc: Global,
     grounds: &Grounds<'_, '_>,
     names: &[Label],
+    cases: &[Option<usize>],
     number: usize,
 ) -> Result<Option<Node>, NoMemory>
-    requires { names.now ≡ spec.module_names grounds.now.rows }
+    requires names { names.now ≡ choices.module_names grounds.now.rows }
+    requires cases { choices.AreCases grounds.now.rows grounds.now.facts cases.now }
     ensures { IfOk result (λ node. node ≡ spec.node_of grounds.now.rows grounds.now.facts number) }
 {
     let Some(node) = grounds.expansion().nodes().get(number) else {
@@ -89,7 +101,7 @@ pub(crate) fn node_of(
         None => Ok(None),
         Some(kind) => Ok(Some(Node {
             parent: node.parent,
-            case_in: None,
+            case_in: case_at(cases, number),
             module: name_of(alloc, names, node.owner)?,
             name: argument_at(alloc, grounds.rows(), node.row)?,
             kind,

@@ -296,6 +296,75 @@ fn nodes(rt: HostRuntime) -> Result<(), Fail> {
     Ok(())
 }
 
+fn spot_text(alloc: Global, number: Option<usize>) -> Result<String, AllocError> {
+    match number {
+        None => String::from_str(alloc, "-"),
+        Some(number) => format!(in alloc; "{number}"),
+    }
+}
+
+// The choices: each with the node and the case that it stands in; the cases, each with its choice; and the case of each node.
+fn choices_text(alloc: Global, schema: &Schema) -> Result<String, AllocError> {
+    let mut text = String::new(alloc);
+    for choice in schema.choices() {
+        let (owner, name) = (&choice.module, &choice.name);
+        let parent = spot_text(alloc, choice.parent)?;
+        let case = spot_text(alloc, choice.case_in)?;
+        let must = if choice.mandatory { " mandatory" } else { "" };
+        text.push_str(format!(in alloc; "{owner}:{name} {parent} {case}{must}; ")?.as_str())?;
+    }
+    text.push_str("|")?;
+    for case in schema.cases() {
+        let (choice, name) = (case.choice, &case.name);
+        text.push_str(format!(in alloc; " {name} {choice};")?.as_str())?;
+    }
+    text.push_str(" |")?;
+    for number in 0..schema.len() {
+        let spot = spot_text(alloc, schema.case_in(number))?;
+        text.push_str(format!(in alloc; " {spot}")?.as_str())?;
+    }
+    Ok(text)
+}
+
+// The body of a module m, and its choices, its cases and the case of each node, those of the marker module last (RFC 7950 sections
+// 7.9, 7.13 and 7.21.1).
+const CHOICES: [(&str, &str); 5] = [
+    ("leaf a { type string; }", "| | - - - -"),
+    (
+        "container addr { choice how { mandatory true; case fixed { leaf ip { type string; } leaf len { type uint8; default 24; } } leaf dhcp { type empty; } } }",
+        "m:how 0 - mandatory; | fixed 0; dhcp 0; | - 0 0 1 - - -",
+    ),
+    (
+        "choice c { leaf a { type string; } } container d { choice e { choice f { leaf g { type string; } } } } uses h; grouping h { choice i { mandatory false; leaf j { type string; } } }",
+        "m:c - -; m:i - -; m:e 1 -; m:f 1 2; | a 0; j 1; f 2; g 3; | 0 - 1 3 - - -",
+    ),
+    (
+        "choice c { config false; mandatory true; leaf a { type string; } } container d { choice e { mandatory true; leaf f { type string; config false; } } }",
+        "m:e 0 - mandatory; | | - - - -",
+    ),
+    (
+        "grouping g { choice c { case d { leaf a { type string; } uses h; } case e; } } grouping h { choice i { leaf-list j { type string; } list k { key l; leaf l { type string; } } } } container x { uses g; } container y { leaf z { type string; } uses g; }",
+        "m:c 0 -; m:i 0 0; m:c 1 -; m:i 1 4; | d 0; j 1; k 1; e 0; d 2; j 3; k 3; e 2; | - - 0 1 2 - 4 5 6 - - - - -",
+    ),
+];
+
+#[test]
+fn choices(rt: HostRuntime) -> Result<(), Fail> {
+    let alloc = rt.alloc();
+    for (body, expected) in &CHOICES {
+        let text = format!(in alloc; "module m {{ namespace \"urn:m\"; prefix m; {body} }}")?;
+        let modules = [read_module(alloc, text.as_str().as_bytes())?];
+        match build(alloc, &modules) {
+            Ok(schema) => {
+                let found = choices_text(alloc, &schema)?;
+                assert_eq!(rt; found.as_str(), *expected, "{body}");
+            }
+            Err(_) => assert!(rt; false, "{body}"),
+        }
+    }
+    Ok(())
+}
+
 // The nodes of a used grouping belong to the module that uses it (RFC 7950 section 7.13).
 #[test]
 fn of_the_using_module(rt: HostRuntime) -> Result<(), Fail> {

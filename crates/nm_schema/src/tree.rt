@@ -5,10 +5,12 @@ ghost use Rattle.nm_names.specs.Named.{row_at};
 ghost use Rattle.nm_expansion.specs.Expansion.{row_of, IsExpansion};
 ghost use Rattle.nm_flaws.specs.Facts.{definitions};
 ghost use Rattle.nm_grammar.specs.Flaw.{text_of};
+ghost use Rattle.nm_schema.specs.Choices as choices;
 ghost use Rattle.nm_schema.specs.Node as nodes;
 ghost use Rattle.nm_schema.specs.Marker as marker;
 ghost use Rattle.nm_schema.specs.Built as spec;
 
+use crate::choice::put_choices;
 use crate::fault::SchemaFault;
 use crate::marker::put_marker;
 use crate::node::{module_names, node_of};
@@ -105,10 +107,12 @@ fn put_node(
     alloc: Global,
     grounds: &Grounds<'_, '_>,
     names: &[Label],
+    cases: &[Option<usize>],
     schema: &mut Schema,
     number: usize,
 ) -> Result<bool, NoMemory>
-    requires names { names.now ≡ nodes.module_names grounds.now.rows }
+    requires names { names.now ≡ choices.module_names grounds.now.rows }
+    requires cases { choices.AreCases grounds.now.rows grounds.now.facts cases.now }
     requires expansion { IsExpansion grounds.now.rows (definitions grounds.now.rows) grounds.now.facts.nodes }
     requires before { nodes.AreNodes grounds.now.rows grounds.now.facts number schema.old.nodes }
     ensures known { IfOk result (λ known. known ≡ is_some (nodes.node_of grounds.now.rows grounds.now.facts number)) }
@@ -118,7 +122,7 @@ fn put_node(
     ensures choices { schema.new.choices ≡ schema.old.choices }
     ensures cases { schema.new.cases ≡ schema.old.cases }
 {
-    let Some(node) = node_of(alloc, grounds, names, number)? else {
+    let Some(node) = node_of(alloc, grounds, names, cases, number)? else {
         return Ok(false);
     };
     schema.push(node)?;
@@ -129,9 +133,11 @@ fn put_node(
 fn put_nodes(
     alloc: Global,
     grounds: &Grounds<'_, '_>,
+    cases: &[Option<usize>],
     schema: &mut Schema,
 ) -> Result<Option<usize>, NoMemory>
-    requires { schema.old.nodes ≡ [] }
+    requires none { schema.old.nodes ≡ [] }
+    requires cases { choices.AreCases grounds.now.rows grounds.now.facts cases.now }
     ensures unknown { IfOk result (λ unknown. unknown ≡ spec.first_unknown grounds.now.rows grounds.now.facts) }
     ensures nodes { result ≡ Ok None → schema.new.nodes ≡ nodes.known_nodes grounds.now.rows grounds.now.facts }
     ensures few { length schema.new.nodes ≤ 20001 }
@@ -144,7 +150,7 @@ fn put_nodes(
     let names = module_names(alloc, grounds.rows())?;
     let count = expansion.nodes().len();
     for number in 0..count {
-        match put_node(alloc, grounds, &names, schema, number) {
+        match put_node(alloc, grounds, &names, cases, schema, number) {
             Ok(true) => {}
             Ok(false) => return Ok(Some(number)),
             Err(error) => return Err(error),
@@ -158,8 +164,9 @@ fn tree_of(alloc: Global, grounds: &Grounds<'_, '_>) -> Result<Schema, SchemaFau
     ensures { spec.Gives result (spec.outcome grounds.now.rows grounds.now.facts None None (spec.first_unknown grounds.now.rows grounds.now.facts)) }
 {
     let names = module_names(alloc, grounds.rows())?;
-    let mut schema = Schema::new(alloc, names);
-    match put_nodes(alloc, grounds, &mut schema)? {
+    let mut schema = Schema::new(alloc, module_names(alloc, grounds.rows())?);
+    let cases = put_choices(alloc, grounds, &names, &mut schema)?;
+    match put_nodes(alloc, grounds, &cases, &mut schema)? {
         None => {
             put_marker(alloc, &mut schema)?;
             Ok(schema)

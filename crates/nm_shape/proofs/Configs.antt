@@ -1,5 +1,5 @@
 -- What is reached in a graph, and the graph without state.
-use Rattle.std.proofs.Common.{◌≡◌, ◌∙◌, ◌<◌, ◌≤◌, ◌+◌, ◌↔◌, ◌⊎◌, inl, inr, ℕ, List, [], ◌∷◌, ◌++◌, length, All, Contains, filter, Bool, true, false, slice_index_or, refl, sym, ap, subst, arith}
+use Rattle.std.proofs.Common.{◌≡◌, ◌∙◌, ◌<◌, ◌≤◌, ◌+◌, ◌↔◌, ◌⊎◌, inl, inr, ℕ, List, [], ◌∷◌, ◌++◌, length, All, Contains, filter, Bool, true, false, slice_index_or, get_or, refl, sym, ap, subst, arith}
 use Rattle.std.proofs.lemmas.Bool.{cases_lt}
 use Rattle.std.proofs.lemmas.Option.{slice_get_past}
 use Rattle.std.proofs.lemmas.List.Elements.{All-filter, All-nil, All-push, All-contains, Contains-append_left, Contains-push}
@@ -9,9 +9,12 @@ use Rattle.nm_graph.specs.Graph.{Graph, IsGraph, successors_of, Leads, Reaches, 
 use Rattle.nm_graph.specs.Graph as graphs
 use Rattle.nm_shape.specs.Holding.{Draws}
 use Rattle.nm_shape.specs.Config.{is_state, is_kept, LeadsBy, one, further, ReachesBy, IsRooted, IsBelowState, Marks, kept_of}
+use Rattle.nm_shape.specs.Passing.{is_plain, plain_of}
 use Rattle.nm_shape.specs.declared.settings.Settings.{Settings}
 use Rattle.nm_shape.specs.Settled.{AreSettings}
-use Rattle.nm_shape.proofs.Graphs.{successors-within, successors-past}
+use Rattle.nm_shape.proofs.Graphs.{IsDrawn, drawn_more, drawn_all, drawn-graph, successors-within, successors-read, successors-past}
+use Rattle.std.specs.declared.vec.Vec.{Vec}
+use Rattle.std.specs.declared.alloc.Global.{Global}
 use mathlib.Core.Path.{fun_ext}
 
 leads_by : (graph : Graph) (i j : ℕ) → Leads graph i j → LeadsBy (successors_of graph) i j
@@ -79,20 +82,41 @@ state-within rows i is (inr le) = let e = slice_get_past rows i le in let f : fa
 pub states_all : (rows : List Row) (n : ℕ) (states : List ℕ) → HaveStates rows n states → length rows ≤ n → (i : ℕ) → is_state rows i ≡ true → Contains states i
 states_all rows n states h le i is = let lt = state-within rows i is (cases_lt i (length rows)) in h.listed i (omega arith) is
 
-pub kept-within : (graph : Graph) (rows : List Row) → IsGraph graph → (i : ℕ) → All (λ node. node < length graph) (kept_of (successors_of graph) rows i)
-unfolding kept_of
-kept-within graph rows h i = All-filter (is_kept rows) (λ node. node < length graph) (successors_of graph i) (successors-within graph h i)
+-- those that pass a test, of what rows lead to
+abbrev pub picked_of : (ℕ → Bool) → (ℕ → List ℕ) → ℕ → List ℕ
+picked_of test next i = filter test (next i)
 
-pub kept-past : (graph : Graph) (rows : List Row) (i : ℕ) → length graph ≤ i → kept_of (successors_of graph) rows i ≡ []
-unfolding kept_of
-kept-past graph rows i le = rw (successors-past graph i le) refl
+pub picked_more : (test : ℕ → Bool) (graph picked : Graph) (n : ℕ) (read : Vec ℕ Global) (row : List ℕ) (nodes : Vec ℕ Global) → IsGraph graph → n < length graph → read ≡ get_or graph n read → row ≡ read.items → nodes.items ≡ filter test row
+    → IsDrawn (picked_of test (successors_of graph)) (length graph) picked n → IsDrawn (picked_of test (successors_of graph)) (length graph) (picked ++ nodes ∷ []) (n + 1)
+picked_more test graph picked n read row nodes within lt at e is h =
+    drawn_more (picked_of test (successors_of graph)) (length graph) picked n nodes (All-filter test (λ node. node < length graph) (successors_of graph n) (successors-within graph within n)) h
+    (is ∙ ap (λ (l : List ℕ). filter test l) (e ∙ successors-read graph n read lt at))
 
-kept-is : (next : ℕ → List ℕ) (rows : List Row) (i : ℕ) (nodes : List ℕ) → next i ≡ nodes → filter (is_kept rows) nodes ≡ kept_of next rows i
-unfolding kept_of
-kept-is next rows i nodes e = ap (λ (l : List ℕ). filter (is_kept rows) l) (sym e)
+picked-past : (test : ℕ → Bool) (graph : Graph) (i : ℕ) → length graph ≤ i → filter test (successors_of graph i) ≡ []
+picked-past test graph i le = rw (successors-past graph i le) refl
 
-pub kept-read : (graph : Graph) (rows : List Row) (i : ℕ) (row kept : List ℕ) → row ≡ successors_of graph i → kept ≡ filter (is_kept rows) row → kept ≡ kept_of (successors_of graph) rows i
-kept-read graph rows i row kept e is = is ∙ kept-is (successors_of graph) rows i row (sym e)
+pub picked_all : (test : ℕ → Bool) (graph picked : Graph) (n : ℕ) → n ≡ length graph → IsDrawn (picked_of test (successors_of graph)) (length graph) picked n → Draws (picked_of test (successors_of graph)) (length graph) picked
+picked_all test graph picked n all h = drawn_all (picked_of test (successors_of graph)) (length graph) picked (subst (λ n. IsDrawn (picked_of test (successors_of graph)) (length graph) picked n) all h) (picked-past test graph)
+
+pub picked-graph : (test : ℕ → Bool) (graph picked : Graph) (n : ℕ) → n ≡ length graph → IsDrawn (picked_of test (successors_of graph)) (length graph) picked n → IsGraph picked
+picked-graph test graph picked n all h = drawn-graph (picked_of test (successors_of graph)) (length graph) picked (subst (λ n. IsDrawn (picked_of test (successors_of graph)) (length graph) picked n) all h)
+
+draws-again : (before after : ℕ → List ℕ) (count : ℕ) (graph : Graph) → ((i : ℕ) → before i ≡ after i) → Draws before count graph → Draws after count graph
+draws-again before after count graph same h = record { size = h.size; each = λ i. h.each i ∙ same i }
+
+kept-picked : (next : ℕ → List ℕ) (rows : List Row) (i : ℕ) → picked_of (is_kept rows) next i ≡ kept_of next rows i
+unfolding kept_of
+kept-picked next rows i = refl
+
+plain-picked : (next : ℕ → List ℕ) (rows : List Row) (i : ℕ) → picked_of (is_plain rows) next i ≡ plain_of next rows i
+unfolding plain_of
+plain-picked next rows i = refl
+
+pub draws-kept : (next : ℕ → List ℕ) (rows : List Row) (count : ℕ) (graph : Graph) → Draws (picked_of (is_kept rows) next) count graph → Draws (kept_of next rows) count graph
+draws-kept next rows count graph h = draws-again (picked_of (is_kept rows) next) (kept_of next rows) count graph (kept-picked next rows) h
+
+pub draws-plain : (next : ℕ → List ℕ) (rows : List Row) (count : ℕ) (graph : Graph) → Draws (picked_of (is_plain rows) next) count graph → Draws (plain_of next rows) count graph
+draws-plain next rows count graph h = draws-again (picked_of (is_plain rows) next) (plain_of next rows) count graph (plain-picked next rows) h
 
 pub marks-along : (P : (ℕ → List ℕ) → ℕ → Type 0) (next : ℕ → List ℕ) (count : ℕ) (graph : Graph) (marks : List Bool) → Draws next count graph → Marks (P (successors_of graph)) marks → Marks (P next) marks
 marks-along P next count graph marks h m = let same : successors_of graph ≡ next = fun_ext h.each in subst (λ (n : ℕ → List ℕ). Marks (P n) marks) same m

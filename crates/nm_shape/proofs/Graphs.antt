@@ -10,7 +10,7 @@ use Rattle.std.specs.declared.alloc.Global.{Global}
 use Rattle.nm_grammar.specs.declared.row.Row.{Row}
 use Rattle.nm_grammar.specs.Rows.{children, AreRows}
 use Rattle.nm_graph.specs.Graph.{Graph, IsGraph, successors_of}
-use Rattle.nm_shape.specs.Holding.{is_holder, is_uses, is_part_at, grouping_at, led_to, holding, is_data_at, bringing, AreNamed, Draws}
+use Rattle.nm_shape.specs.Holding.{is_holder, is_uses, is_part_at, grouping_at, led_to, holding, is_data_at, bringing, AreNamed, AreLeading, Draws, IsHolding}
 
 -- after so many rows, the graph has what these lead to, all of it rows
 pub record IsDrawn (next : ℕ → List ℕ) (count : ℕ) (graph : Graph) (n : ℕ) : Type 0 where
@@ -117,6 +117,10 @@ successors-all (r ∷ rows) P h (suc i) = successors-all rows P (λ k d l. h (su
 
 pub successors-within : (graph : Graph) → IsGraph graph → (i : ℕ) → All (λ node. node < length graph) (successors_of graph i)
 successors-within graph h i = successors-all graph (λ node. node < length graph) h i
+
+pub all-leading : (rows : List Row) (groupings : List (Option ℕ)) (graph : Graph) → IsHolding rows groupings graph → IsGraph graph → AreLeading rows groupings
+all-leading rows groupings graph h is = λ i.
+    subst (λ (nodes : List ℕ). All (λ node. node < length rows) nodes) (h.each i) (subst (λ n. All (λ node. node < n) (successors_of graph i)) h.size (successors-within graph is i))
 
 -- what is read at a row is what it leads to
 pub successors-read : (graph : Graph) (i : ℕ) (row : Vec ℕ Global) → i < length graph → row ≡ get_or graph i row → row.items ≡ successors_of graph i

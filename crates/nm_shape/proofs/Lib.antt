@@ -2,8 +2,6 @@ pub mod Graphs
 pub mod Worths
 pub mod Gathering
 pub mod Bringing
-pub mod Naming
 pub mod Configs
 pub mod Sizing
-pub mod Parts
-pub mod Sharing
+pub mod Without

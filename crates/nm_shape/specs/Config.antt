@@ -5,10 +5,10 @@ use Rattle.nm_grammar.specs.declared.word.Word.TheVariants as word
 use Rattle.nm_grammar.specs.declared.row.Row.{Row}
 use Rattle.nm_grammar.specs.declared.flaw.Flaw.{Flaw}
 use Rattle.nm_grammar.specs.Word.{same_word}
-use Rattle.nm_grammar.specs.Flaw.{is_data, text_of, is_there}
+use Rattle.nm_grammar.specs.Flaw.{text_of, is_there}
 use Rattle.nm_grammar.specs.Rows.{first_below, roots}
-use Rattle.nm_shape.specs.Holding.{holding}
-use Rattle.nm_shape.specs.Clash.{argument_at}
+use Rattle.nm_shape.specs.Holding.{is_node, holding}
+use Rattle.nm_shape.specs.Arguments.{argument_at}
 
 unfoldable pub is_false : List ℕ → Bool
 is_false text = bytes_eq text (codes "false")
@@ -23,9 +23,9 @@ says_false rows (Some k) = is_false (argument_at rows k)
 
 abbrev pub state_in : List Row → ℕ → Option Row → Bool
 state_in rows i None = false
-state_in rows i (Some r) = is_data r.word && says_false rows (first_below rows i word.Config)
+state_in rows i (Some r) = is_node r.word && says_false rows (first_below rows i word.Config)
 
--- row i is a node that has `config false` directly
+-- row i is a node or a choice that has `config false` directly
 unfoldable pub is_state : List Row → ℕ → Bool
 is_state rows i = state_in rows i (slice_get rows i)
 

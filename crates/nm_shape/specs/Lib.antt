@@ -3,7 +3,8 @@ pub mod Worth
 pub mod Members
 pub mod Outline
 pub mod Sharing
-pub mod Clash
+pub mod Arguments
 pub mod Config
+pub mod Passing
 pub mod Sizes
 pub mod Settled

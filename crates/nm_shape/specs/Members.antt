@@ -31,12 +31,13 @@ bring rows groupings i (Some r) known =
 unfoldable pub bring_step : List Row → List (Option ℕ) → ℕ → List (List ℕ) → Option (List ℕ)
 bring_step rows groupings i known = bring rows groupings i (slice_get rows i) known
 
--- the nodes that row i brings to the statement that it stands in, in order: a node of data always itself, whatever stands in it, and a uses, a grouping
--- and a module what stands in them; none where a uses that this rests on has no grouping or leads to itself
+-- the nodes that row i brings to the statement that it stands in, in order: a node of data always itself, whatever stands in it, and a uses, a grouping,
+-- a module, a choice and a case what stands in them; none where a uses that this rests on has no grouping or leads to itself
 unfoldable pub brought : List Row → List (Option ℕ) → ℕ → Option (List ℕ)
 brought rows groupings i = worth_of (bring_step rows groupings) (bringing rows groupings) (length rows) i
 
--- the nodes of data that stand directly in row i once each uses stands for what its grouping holds, in order (RFC 7950 section 7.13); none where a uses
--- directly in it, or in the groupings that these use, has no grouping or leads to itself, and none of this for a uses that stands in a node below it
+-- the nodes of data that stand directly in row i once each uses stands for what its grouping holds, and each choice and case for what it holds, in order
+-- (RFC 7950 sections 7.9 and 7.13); none where a uses directly in it, or in the groupings that these use, has no grouping or leads to itself, and none of
+-- this for a uses that stands in a node below it
 unfoldable pub members : List Row → List (Option ℕ) → ℕ → Option (List ℕ)
 members rows groupings i = gathered (length rows) (all_there (map (brought rows groupings) (holding rows groupings i)))

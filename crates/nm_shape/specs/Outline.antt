@@ -5,7 +5,7 @@ use Rattle.nm_graph.specs.Graph.{Graph, IsGraph}
 use Rattle.nm_shape.specs.Holding.{holding, IsHolding}
 use Rattle.nm_shape.specs.Worth.{AreWorth}
 use Rattle.nm_shape.specs.Members.{brought}
-use Rattle.nm_shape.specs.Clash.{AreClashes}
+use Rattle.nm_shape.specs.Passing.{AreKept, ArePlain}
 use Rattle.nm_shape.specs.declared.settings.Settings.{Settings}
 use Rattle.nm_shape.specs.Settled.{AreSettings}
 
@@ -17,10 +17,11 @@ pub record Outline : Type 0 where
 abbrev pub outline : List Row → List (Option ℕ) → Outline
 outline rows groupings = record { rows = rows; groupings = groupings }
 
--- what is known of them: what each leads to, what each brings, which names come twice, and where each is set
-pub record IsShape (rows : List Row) (groupings : List (Option ℕ)) (graph : Graph) (known found : List (Option (List ℕ))) (settings : Settings) : Type 0 where
+-- what is known of them: what each leads to; what each brings in all, but for state, and but for choices; and where each is set
+pub record IsShape (rows : List Row) (groupings : List (Option ℕ)) (graph : Graph) (known kept plain : List (Option (List ℕ))) (settings : Settings) : Type 0 where
   pub leads : IsHolding rows groupings graph
   pub within : IsGraph graph
   pub bring : AreWorth (brought rows groupings) (length rows) known
-  pub clash : AreClashes (brought rows groupings) rows found
+  pub bring_kept : AreKept rows groupings kept
+  pub bring_plain : ArePlain rows groupings plain
   pub settled : AreSettings (holding rows groupings) rows settings

@@ -1,20 +1,20 @@
 //! State and configuration.
 
-ghost use Rattle.std.specs.Prelude.{◌≡◌, ◌<◌, ℕ, All, Contains, IfOk, filter, length, true};
+ghost use Rattle.std.specs.Prelude.{◌≡◌, ◌<◌, ℕ, All, Contains, IfOk, filter, length, true, false};
 ghost use Rattle.nm_grammar.specs.Flaw.{text_of};
 ghost use Rattle.nm_graph.specs.Graph.{IsGraph, successors_of};
-ghost use Rattle.nm_shape.specs.Clash.{argument_at};
+ghost use Rattle.nm_shape.specs.Arguments.{argument_at};
 ghost use Rattle.nm_shape.specs.Holding.{Draws};
 ghost use Rattle.nm_shape.specs.Config as spec;
 
-use crate::kinds::is_data;
+use crate::kinds::is_node;
 use nm_base::{Label, NoMemory};
 use nm_grammar::{Rows, Word};
 use nm_graph::reached;
 use std::alloc::Global;
 
 /// The argument of a row, and an empty text where it has none.
-#[tactic(auto, unfolding(crate::specs::Clash::argument_at))]
+#[tactic(auto, unfolding(crate::specs::Arguments::argument_at))]
 pub fn argument_at(rows: &Rows, at: usize) -> &str
     ensures { result.now ≡ argument_at rows.now at }
 {
@@ -36,7 +36,7 @@ fn says_false(rows: &Rows, config: Option<usize>) -> bool
     }
 }
 
-// Whether a row is a node that has `config false` directly.
+// Whether a row is a node or a choice that has `config false` directly.
 #[tactic(auto, unfolding(crate::specs::Config::is_state))]
 pub(crate) fn is_state(rows: &Rows, at: usize) -> bool
     ensures { result ≡ spec.is_state rows.now at }
@@ -45,10 +45,10 @@ pub(crate) fn is_state(rows: &Rows, at: usize) -> bool
         None => return false,
         Some(row) => row.word,
     };
-    is_data(word) && says_false(rows, rows.first_below(at, Word::Config))
+    is_node(word) && says_false(rows, rows.first_below(at, Word::Config))
 }
 
-/// Whether a row isn't a node that has `config false` directly.
+/// Whether a row isn't a node or a choice that has `config false` directly.
 #[tactic(auto, unfolding(crate::specs::Config::is_kept))]
 pub fn is_kept(rows: &Rows, at: usize) -> bool
     ensures { result ≡ spec.is_kept rows.now at }
@@ -93,7 +93,11 @@ pub(crate) fn is_keyless(rows: &Rows, at: usize) -> bool
 }
 
 // Those of some rows that aren't state.
-fn kept_among(alloc: Global, rows: &Rows, numbers: &[usize]) -> Result<Vec<usize>, NoMemory>
+pub(crate) fn kept_among(
+    alloc: Global,
+    rows: &Rows,
+    numbers: &[usize],
+) -> Result<Vec<usize>, NoMemory>
     ensures { IfOk result (λ kept. kept.items ≡ filter (spec.is_kept rows.now) numbers.now) }
 {
     let kept = numbers
@@ -120,6 +124,18 @@ pub(crate) fn kept_graph(
         kept.push(nodes)?;
     }
     Ok(kept)
+}
+
+// Whether some row is state.
+pub(crate) fn has_state(rows: &Rows) -> bool
+    ensures { result ≡ false → (i : ℕ) → spec.is_state rows.now i ≡ false }
+{
+    for at in 0..rows.len() {
+        if is_state(rows, at) {
+            return true;
+        }
+    }
+    false
 }
 
 // The rows that are state.

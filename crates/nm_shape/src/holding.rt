@@ -10,7 +10,7 @@ use nm_base::NoMemory;
 use nm_grammar::Rows;
 use std::alloc::Global;
 
-// Those of some rows that are nodes of data or uses.
+// Those of some rows that are nodes of data, uses, choices or cases.
 fn parts_among(alloc: Global, rows: &Rows, numbers: &[usize]) -> Result<Vec<usize>, NoMemory>
     ensures { IfOk result (λ parts. parts.items ≡ filter (spec.is_part_at rows.now) numbers.now) }
 {
@@ -22,7 +22,7 @@ fn parts_among(alloc: Global, rows: &Rows, numbers: &[usize]) -> Result<Vec<usiz
     Ok(parts)
 }
 
-pub(crate) fn grouping_at(groupings: &[Option<usize>], at: usize) -> Option<usize>
+pub fn grouping_at(groupings: &[Option<usize>], at: usize) -> Option<usize>
     ensures { result ≡ spec.grouping_at groupings.now at }
 {
     if at < groupings.len() {
@@ -31,7 +31,7 @@ pub(crate) fn grouping_at(groupings: &[Option<usize>], at: usize) -> Option<usiz
     None
 }
 
-fn one_or_none(alloc: Global, node: Option<usize>) -> Result<Vec<usize>, NoMemory>
+pub fn one_or_none(alloc: Global, node: Option<usize>) -> Result<Vec<usize>, NoMemory>
     ensures { IfOk result (λ nodes. nodes.items ≡ option_to_list node) }
 {
     let mut nodes = Vec::new(alloc);
@@ -101,8 +101,8 @@ fn is_named(rows: &Rows, grouping: &Option<usize>) -> bool
     }
 }
 
-// What each row leads to in one step: a module, container, list or grouping to the nodes of data and the uses that stand
-// directly in it, in order, a uses to the grouping that it names, and any other row to nothing.
+// What each row leads to in one step: a module, container, list, grouping, choice or case to the nodes of data, the uses, the
+// choices and the cases that stand directly in it, in order, a uses to the grouping that it names, and any other row to nothing.
 //
 // `groupings` has for the row of a uses the row of the grouping that it names.
 pub(crate) fn graph_of(
@@ -123,7 +123,7 @@ pub(crate) fn graph_of(
     Ok(graph)
 }
 
-// What the nodes that each row brings rest on: a uses on its grouping, a module and a grouping on the nodes and uses that stand in
+// What the nodes that each row brings rest on: a uses on its grouping, a module, a grouping, a choice and a case on what stands in
 // them, and a node of data, which brings itself, on nothing.
 pub(crate) fn bringing_of(
     alloc: Global,

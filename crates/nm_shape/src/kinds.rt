@@ -11,11 +11,30 @@ pub(crate) fn is_holder(word: Word) -> bool
 {
     match word {
         Word::Module | Word::Container | Word::List | Word::Grouping => true,
+        Word::Choice | Word::Case => true,
         _ => false,
     }
 }
 
-pub(crate) fn is_uses(word: Word) -> bool
+pub(crate) fn is_fork(word: Word) -> bool
+    ensures { result ≡ spec.is_fork word }
+{
+    match word {
+        Word::Choice | Word::Case => true,
+        _ => false,
+    }
+}
+
+pub fn is_node(word: Word) -> bool
+    ensures { result ≡ spec.is_node word }
+{
+    match word {
+        Word::Choice => true,
+        _ => is_data(word),
+    }
+}
+
+pub fn is_uses(word: Word) -> bool
     ensures { result ≡ spec.is_uses word }
 {
     match word {
@@ -37,7 +56,7 @@ pub(crate) fn is_part(word: Word) -> bool
     ensures { result ≡ spec.is_part word }
 {
     match word {
-        Word::Uses => true,
+        Word::Uses | Word::Choice | Word::Case => true,
         _ => is_data(word),
     }
 }
@@ -52,9 +71,20 @@ pub(crate) fn is_data_at(rows: &Rows, at: usize) -> bool
     }
 }
 
-// Whether the row of a number is there, and is a node of data or a uses.
+// Whether the row of a number is there, and is a choice or a case.
+#[tactic(auto, unfolding(crate::specs::Holding::is_fork_at))]
+pub fn is_fork_at(rows: &Rows, at: usize) -> bool
+    ensures { result ≡ spec.is_fork_at rows.now at }
+{
+    match rows.row(at) {
+        None => false,
+        Some(row) => is_fork(row.word),
+    }
+}
+
+// Whether the row of a number is there, and is a node of data, a uses, a choice or a case.
 #[tactic(auto, unfolding(crate::specs::Holding::is_part_at))]
-pub(crate) fn is_part_at(rows: &Rows, at: usize) -> bool
+pub fn is_part_at(rows: &Rows, at: usize) -> bool
     ensures { result ≡ spec.is_part_at rows.now at }
 {
     match rows.row(at) {

@@ -1,4 +1,5 @@
-//! What stands in what in YANG modules, once each `uses` stands for what its grouping holds.
+//! What stands in what in YANG modules, once each `uses` stands for what its grouping holds, and each choice for what its cases
+//! hold.
 //!
 //! Stands on `nm_base`, `nm_grammar` and `nm_graph`. The layers above give for each row of a `uses` the row of the grouping
 //! that it names, and rely on what each row leads to, on the nodes of data that stand in it, on names that come twice there, on
@@ -6,22 +7,20 @@
 //! once, and its names looked up there, however often it is used.
 #![tactic(auto)]
 
-mod clash;
 mod config;
-mod earlier;
 mod holding;
 mod kinds;
-mod known;
 mod members;
-mod names;
 mod nodes;
+mod passing;
 mod settings;
 mod shape;
 mod sizes;
-mod sources;
 
 pub use config::{argument_at, is_kept};
-pub use holding::are_named;
+pub use holding::{are_named, grouping_at, one_or_none};
+pub use kinds::{is_fork_at, is_node, is_part_at, is_uses};
+pub use members::{gathered, is_astray};
 pub use nodes::Nodes;
 pub use shape::{Shape, shape_of};
 

@@ -1,4 +1,4 @@
-//! The nodes that stand in each row, once each uses stands for what its grouping holds.
+//! The nodes that stand in each row, once each uses stands for what its grouping holds, and choices and cases for what they hold.
 //!
 //! A node of data brings itself, whatever stands in it. So what stands in a row isn't known only where a uses directly in it, or in
 //! the groupings that these use, has no grouping or leads to itself.
@@ -63,7 +63,7 @@ fn joined(
 }
 
 // What some rows bring, at most so many. What one row brings is shared, and not copied.
-pub(crate) fn gathered(
+pub fn gathered(
     alloc: Global,
     limit: usize,
     values: &[Option<Nodes>],
@@ -78,7 +78,7 @@ pub(crate) fn gathered(
     joined(alloc, limit, values, successors)
 }
 
-fn is_astray(groupings: &[Option<usize>], at: usize, row: &Row) -> bool
+pub fn is_astray(groupings: &[Option<usize>], at: usize, row: &Row) -> bool
     ensures { result ≡ spec.is_astray groupings.now at row.now }
 {
     is_uses(row.word) && grouping_at(groupings, at).is_none()
@@ -86,9 +86,9 @@ fn is_astray(groupings: &[Option<usize>], at: usize, row: &Row) -> bool
 
 // What each row brings.
 #[derive(Drop)]
-struct Bringing<'a> {
-    rows: &'a Rows,
-    groupings: &'a [Option<usize>],
+pub(crate) struct Bringing<'a> {
+    pub rows: &'a Rows,
+    pub groupings: &'a [Option<usize>],
 }
 
 impl Visitor for Bringing<'_> {

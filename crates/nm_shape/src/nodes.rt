@@ -24,7 +24,7 @@ impl Model for Nodes {
 
 impl Nodes {
     /// The rows of a list.
-    pub(crate) fn new(alloc: Global, all: Vec<usize>) -> Result<Nodes, NoMemory>
+    pub fn new(alloc: Global, all: Vec<usize>) -> Result<Nodes, NoMemory>
         ensures { IfOk result (λ nodes. nodes ≡ all.items) }
     {
         if all.is_empty() {

@@ -6,18 +6,17 @@ ghost use Rattle.nm_grammar.specs.declared.word.Word.TheVariants as word;
 ghost use Rattle.nm_grammar.specs.Word.{word_text};
 ghost use Rattle.nm_shape.specs.Config as config;
 ghost use Rattle.nm_shape.specs.Sizes as sizes;
-ghost use Rattle.nm_shape.specs.Clash.{clash_flaw, duplicate};
-ghost use Rattle.nm_shape.specs.Holding.{AreNamed, holding};
+ghost use Rattle.nm_shape.specs.Holding.{AreLeading, AreNamed, holding};
 ghost use Rattle.nm_shape.specs.Members as spec;
+ghost use Rattle.nm_shape.specs.Passing as passing;
 ghost use Rattle.nm_shape.specs.Outline.{outline};
 
-use crate::clash::clashes;
-use crate::config::{claim_at, is_keyless};
+use crate::config::{claim_at, is_keyless, kept_among};
 use crate::holding::{bringing_of, graph_of};
 use crate::members::{brought, gathered};
 use crate::nodes::Nodes;
+use crate::passing::{brought_kept, brought_plain, plain_among};
 use crate::settings::{Settings, settings_of};
-use crate::sources::sources;
 use nm_base::{Label, NoMemory};
 use nm_grammar::{Flaw, Rows, Word};
 use nm_graph::order;
@@ -31,8 +30,10 @@ pub struct Shape<'a> {
     rows: &'a Rows,
     groupings: &'a [Option<usize>],
     graph: Vec<Vec<usize>>,
+    // What each row brings in all, but for state, and but for what stands in choices.
     brought: Vec<Option<Nodes>>,
-    clashes: Vec<Option<Label>>,
+    kept: Vec<Option<Nodes>>,
+    plain: Vec<Option<Nodes>>,
     settings: Settings,
 }
 
@@ -43,7 +44,7 @@ impl<'a> Model for Shape<'a> {
 
     ghost view = { λ s. outline s.rows.now s.groupings.now };
 
-    ghost invariant = { λ s. IsShape s.rows.now s.groupings.now s.graph.items s.brought.items s.clashes.items s.settings };
+    ghost invariant = { λ s. IsShape s.rows.now s.groupings.now s.graph.items s.brought.items s.kept.items s.plain.items s.settings };
 }
 
 impl<'a> Shape<'a> {
@@ -56,8 +57,16 @@ impl<'a> Shape<'a> {
 }
 
 impl Shape<'_> {
-    /// What a row leads to in one step: a module, container, list or grouping to the nodes of data and the uses that stand
-    /// directly in it, in order, a uses to the grouping that it names, and any other row to nothing.
+    /// What holds of them. It does nothing: its contract is the law.
+    pub fn laws(&self)
+        ensures { AreLeading self.now.rows self.now.groupings }
+    {
+        let _count = self.graph.len();
+    }
+
+    /// What a row leads to in one step: a module, container, list, grouping, choice or case to the nodes of data, the uses, the
+    /// choices and the cases that stand directly in it, in order, a uses to the grouping that it names, and any other row to
+    /// nothing.
     pub fn leads_to(&self, at: usize) -> &[usize]
         ensures { result.now ≡ holding self.now.rows self.now.groupings at }
     {
@@ -67,8 +76,8 @@ impl Shape<'_> {
         &[]
     }
 
-    /// What a row brings to the statement that it stands in: a node of data itself, whatever stands in it, and a uses what stands
-    /// in its grouping. None where a uses that this rests on has no grouping or leads to itself.
+    /// What a row brings to the statement that it stands in: a node of data itself, whatever stands in it, a choice and a case what
+    /// stands in them, and a uses what stands in its grouping. None where a uses that this rests on has no grouping or leads to itself.
     pub fn brought(&self, at: usize) -> Option<&Nodes>
         ensures { MatchOption result (spec.brought self.now.rows self.now.groupings at ≡ None) (λ nodes. spec.brought self.now.rows self.now.groupings at ≡ Some nodes.now) }
     {
@@ -78,8 +87,9 @@ impl Shape<'_> {
         None
     }
 
-    /// The nodes of data that stand directly in a row once each uses stands for what its grouping holds, in order (RFC 7950
-    /// section 7.13). None where a uses directly in it, or in the groupings that these use, has no grouping or leads to itself.
+    /// The nodes of data that stand directly in a row once each uses stands for what its grouping holds, and each choice and case
+    /// for what it holds, in order (RFC 7950 sections 7.9 and 7.13). None where a uses directly in it, or in the groupings that these
+    /// use, has no grouping or leads to itself.
     pub fn members(&self, alloc: Global, at: usize) -> Result<Option<Nodes>, NoMemory>
         ensures { IfOk result (λ nodes. nodes ≡ spec.members self.now.rows self.now.groupings at) }
     {
@@ -87,15 +97,23 @@ impl Shape<'_> {
         gathered(alloc, self.rows.len(), &self.brought, successors)
     }
 
-    /// The first name that a node of data or a uses brings to the statement that it stands in, and that an earlier one brings
-    /// there already: Duplicate with the name (RFC 7950 sections 6.2.1 and 7.13).
-    pub fn clash_flaw(&self, at: usize) -> Result<Option<Flaw>, NoMemory>
-        ensures { IfOk result (λ flaw. flaw ≡ clash_flaw self.now.rows self.now.groupings at) }
+    /// The members of a row that are no state themselves and stand in no choice that is, in order: a choice with `config false` is
+    /// left out with all that is in it (RFC 7950 sections 7.9.2 and 7.21.1). None where they aren't known.
+    #[tactic(auto, unfolding(crate::specs::Passing::kept_members, crate::specs::Config::kept_of))]
+    pub fn kept_members(&self, alloc: Global, at: usize) -> Result<Option<Nodes>, NoMemory>
+        ensures { IfOk result (λ nodes. nodes ≡ passing.kept_members self.now.rows self.now.groupings at) }
     {
-        if at >= self.clashes.len() {
-            return Ok(None);
-        }
-        duplicate(&self.clashes[at])
+        let successors = kept_among(alloc, self.rows, self.leads_to(at))?;
+        gathered(alloc, self.rows.len(), &self.kept, &successors)
+    }
+
+    /// The members of a row that stand in no choice, in order. None where they aren't known.
+    #[tactic(auto, unfolding(crate::specs::Passing::plain_members, crate::specs::Passing::plain_of))]
+    pub fn plain_members(&self, alloc: Global, at: usize) -> Result<Option<Nodes>, NoMemory>
+        ensures { IfOk result (λ nodes. nodes ≡ passing.plain_members self.now.rows self.now.groupings at) }
+    {
+        let successors = plain_among(alloc, self.rows, self.leads_to(at))?;
+        gathered(alloc, self.rows.len(), &self.plain, &successors)
     }
 
     /// For each row whether it is used as configuration.
@@ -198,15 +216,6 @@ fn bad_argument(alloc: Global, keyword: Word) -> Result<Option<Flaw>, NoMemory>
     Ok(Some(Flaw::BadArgument(name)))
 }
 
-fn duplicate(name: &Option<Label>) -> Result<Option<Flaw>, NoMemory>
-    ensures { IfOk result (λ flaw. flaw ≡ duplicate name.now) }
-{
-    match name {
-        None => Ok(None),
-        Some(name) => Ok(Some(Flaw::Duplicate(name.copy()?))),
-    }
-}
-
 /// What stands in what in modules. `groupings` has for the row of a uses the row of the grouping that it names.
 pub fn shape_of<'a>(
     alloc: Global,
@@ -220,15 +229,16 @@ pub fn shape_of<'a>(
     let bringing = bringing_of(alloc, rows, groupings)?;
     let ordered = order(alloc, &bringing)?;
     let brought = brought(alloc, rows, groupings, &bringing, &ordered.nodes)?;
-    let sources = sources(alloc, rows, &bringing, &brought, &ordered.nodes)?;
-    let clashes = clashes(alloc, rows, &brought, &sources)?;
+    let kept = brought_kept(alloc, rows, groupings, &bringing, &brought)?;
+    let plain = brought_plain(alloc, rows, groupings, &bringing, &brought)?;
     let settings = settings_of(alloc, rows, &graph)?;
     Ok(Shape {
         rows,
         groupings,
         graph,
         brought,
-        clashes,
+        kept,
+        plain,
         settings,
     })
 }

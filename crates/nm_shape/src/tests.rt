@@ -33,7 +33,6 @@ fn groupings_of(alloc: Global, rows: &Rows) -> Result<Vec<Option<usize>>, NoMemo
 // What a flaw says, and where.
 fn flaw_text(alloc: Global, flaw: &Flaw, at: usize) -> Result<String, AllocError> {
     match flaw {
-        Flaw::Duplicate(name) => format!(in alloc; "duplicate {name} {at}"),
         Flaw::BadArgument(name) => format!(in alloc; "bad-argument {name} {at}"),
         _ => String::from_str(alloc, "other"),
     }
@@ -41,9 +40,6 @@ fn flaw_text(alloc: Global, flaw: &Flaw, at: usize) -> Result<String, AllocError
 
 // The first flaw of a row.
 fn row_flaw(alloc: Global, shape: &Shape<'_>, at: usize) -> Result<Option<Flaw>, NoMemory> {
-    if let Some(flaw) = shape.clash_flaw(at)? {
-        return Ok(Some(flaw));
-    }
     if let Some(flaw) = shape.config_flaw(alloc, at)? {
         return Ok(Some(flaw));
     }
@@ -61,54 +57,8 @@ fn first_flaw(alloc: Global, shape: &Shape<'_>, count: usize) -> Result<String, 
     String::from_str(alloc, "none")
 }
 
-// A module's text; the nodes in it, and the first flaw, by the number of its row (RFC 7950 sections 7.8.2, 7.13 and 7.21.1).
-const FLAWS: [(&str, &str); 20] = [
-    ("module m { leaf a; leaf b; }", "none"),
-    ("module m { leaf a; leaf b; container a; }", "duplicate a 3"),
-    (
-        "module m { grouping g { leaf a; leaf b; leaf c; } leaf b; leaf c; uses g; }",
-        "duplicate b 7",
-    ),
-    (
-        "module m { grouping g { leaf a; } uses g; uses g; }",
-        "duplicate a 4",
-    ),
-    (
-        "module m { grouping g { leaf a; } uses g; container c { uses g; } }",
-        "none",
-    ),
-    (
-        "module m { grouping g { uses h; } grouping h { leaf a; } uses g; leaf a; }",
-        "duplicate a 6",
-    ),
-    (
-        "module m { grouping g { leaf a; leaf b; leaf c; leaf d; leaf e; leaf f; leaf g; leaf h; leaf i; } leaf i; uses g; }",
-        "duplicate i 12",
-    ),
-    (
-        "module m { grouping g { leaf a; leaf b; leaf c; leaf d; leaf e; leaf f; leaf g; leaf h; leaf i; } uses g; leaf i; }",
-        "duplicate i 12",
-    ),
-    (
-        "module m { grouping g { leaf a; leaf b; leaf c; leaf d; leaf e; leaf f; leaf g; leaf h; leaf i; } grouping o { leaf j; leaf k; leaf l; leaf m; leaf n; leaf h; leaf i; leaf o; leaf p; leaf q; } uses g; uses o; }",
-        "duplicate h 23",
-    ),
-    (
-        "module m { grouping g { leaf a; leaf b; leaf c; leaf d; leaf e; leaf f; leaf g; leaf h; leaf i; } leaf j; uses g; leaf k; container z { uses g; leaf j; } }",
-        "none",
-    ),
-    (
-        "module m { leaf a; uses nowhere; leaf a; }",
-        "duplicate a 3",
-    ),
-    (
-        "module m { leaf c; container c { uses nowhere; } }",
-        "duplicate c 2",
-    ),
-    (
-        "module m { grouping g { leaf a; container c { uses g; } } uses g; leaf a; }",
-        "duplicate a 6",
-    ),
+// A module's text; the nodes in it, and the first flaw, by the number of its row (RFC 7950 sections 7.8.2 and 7.21.1).
+const FLAWS: [(&str, &str); 11] = [
     (
         "module m { container c { config false; leaf a { config true; } } }",
         "bad-argument config 4",
@@ -128,6 +78,22 @@ const FLAWS: [(&str, &str); 20] = [
     ("module m { list l { leaf a; } }", "bad-argument key 1"),
     ("module m { list l { config false; leaf a; } }", "none"),
     ("module m { grouping g { list l { leaf a; } } }", "none"),
+    (
+        "module m { choice c { config false; leaf a { config true; } } }",
+        "bad-argument config 4",
+    ),
+    (
+        "module m { container c { config false; choice d { config true; } } }",
+        "bad-argument config 4",
+    ),
+    (
+        "module m { choice c { config false; list l { leaf a; } } }",
+        "none",
+    ),
+    (
+        "module m { choice c { list l { leaf a; } } }",
+        "bad-argument key 2",
+    ),
 ];
 
 #[test]
@@ -160,7 +126,7 @@ fn listed(alloc: Global, nodes: Option<&Nodes>) -> Result<String, AllocError> {
 }
 
 // A module's text; the nodes that stand in it, how many nodes are below it, and how many stand one in another.
-const SIZES: [(&str, &str, Option<usize>, Option<usize>); 8] = [
+const SIZES: [(&str, &str, Option<usize>, Option<usize>); 10] = [
     ("module m { }", "[]", Some(0), Some(0)),
     (
         "module m { leaf a; container b { leaf c; } }",
@@ -204,7 +170,74 @@ const SIZES: [(&str, &str, Option<usize>, Option<usize>); 8] = [
         None,
         None,
     ),
+    (
+        "module m { choice c { leaf a; case d { container e { leaf f; } } } leaf g; }",
+        "[2, 4, 6]",
+        Some(4),
+        Some(2),
+    ),
+    (
+        "module m { choice c { config false; leaf a; } leaf b; }",
+        "[3, 4]",
+        Some(1),
+        Some(1),
+    ),
 ];
+
+// A module's text; the members of the module that are neither state nor in a choice that is, and those that stand in no choice
+// (RFC 7950 sections 7.8.2, 7.9, 7.13 and 7.21.1).
+const PASSED: [(&str, &str, &str); 6] = [
+    (
+        "module m { leaf a; choice c { leaf b; } leaf d { config false; } }",
+        "[1, 3]",
+        "[1, 4]",
+    ),
+    (
+        "module m { choice c { config false; leaf a; case d { uses g; } } grouping g { leaf b; } leaf e; }",
+        "[8]",
+        "[8]",
+    ),
+    (
+        "module m { uses g; grouping g { leaf a; choice c { leaf b; } } }",
+        "[3, 5]",
+        "[3]",
+    ),
+    (
+        "module m { choice c { case d { uses nowhere; } } leaf a; }",
+        "none",
+        "[4]",
+    ),
+    (
+        "module m { leaf a; uses g; grouping g { leaf b; container k { leaf c; } } }",
+        "[1, 4, 5]",
+        "[1, 4, 5]",
+    ),
+    (
+        "module m { leaf a { config false; } leaf b; }",
+        "[3]",
+        "[1, 3]",
+    ),
+];
+
+#[test]
+fn passes_choices(rt: HostRuntime) -> Result<(), Fail> {
+    let alloc = rt.alloc();
+    for (text, kept, plain) in &PASSED {
+        let modules = [read_module(alloc, text.as_bytes())?];
+        let rows = rows_of(alloc, &modules)?;
+        let groupings = groupings_of(alloc, &rows)?;
+        if are_named(&rows, &groupings) {
+            let shape = shape_of(alloc, &rows, &groupings)?;
+            let found = shape.kept_members(alloc, 0)?;
+            assert_eq!(rt; listed(alloc, found.as_ref())?.as_str(), *kept, "{text}");
+            let found = shape.plain_members(alloc, 0)?;
+            assert_eq!(rt; listed(alloc, found.as_ref())?.as_str(), *plain, "{text}");
+        } else {
+            assert!(rt; false, "{text}");
+        }
+    }
+    Ok(())
+}
 
 #[test]
 fn measures(rt: HostRuntime) -> Result<(), Fail> {
@@ -287,7 +320,6 @@ fn shapes_wide_groupings(rt: HostRuntime) -> Result<(), Fail> {
     let groupings = groupings_of(alloc, &rows)?;
     if are_named(&rows, &groupings) && rows.len() > 0 {
         let shape = shape_of(alloc, &rows, &groupings)?;
-        assert_eq!(rt; first_flaw(alloc, &shape, rows.len())?.as_str(), "none");
         assert_eq!(rt; shape.count(0), Some(20001));
         assert_eq!(rt; shape.height(0), Some(2));
     } else {

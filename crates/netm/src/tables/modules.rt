@@ -329,7 +329,7 @@ static BODIES: [Row; 40] = [
     Row(
         "a choice",
         "choice x { case y { leaf z { type string; } } }",
-        "scenario schema /modules/0",
+        "",
     ),
     Row(
         "must",

@@ -16,10 +16,6 @@ pub const STATEMENTS: &[(&str, &str)] = &[
         "leaf a { units s; status current; reference r; type string; }",
         "fine",
     ),
-    (
-        "@choice c { leaf a { type string; } }",
-        "unsupported choice",
-    ),
     ("leaf a { @must \"1\"; type string; }", "unsupported must"),
     (
         "leaf a { type string { @pattern \"a\"; } }",

@@ -2,7 +2,7 @@ use Rattle.std.proofs.Common.{◌≡◌, ◌+◌, ◌-◌, ◌∙◌, List, ℕ,
 use Rattle.std.proofs.lemmas.Map.Text.{btree_map_updates_str}
 use Rattle.std.specs.Str.{bytes_eq}
 use Rattle.nm_grammar.specs.declared.row.Row.{Row}
-use Rattle.nm_shape.specs.Clash.{argument_at}
+use Rattle.nm_shape.specs.Arguments.{argument_at}
 use Rattle.nm_keys.specs.Membership.{led}
 use Rattle.nm_keys.proofs.Looking.{unfilled, filled}
 use Rattle.nm_keys.proofs.members.first_of_each.Goals as goal

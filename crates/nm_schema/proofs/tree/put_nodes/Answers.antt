@@ -7,7 +7,7 @@ use Rattle.nm_schema.proofs.tree.put_nodes.Goals as goal
 
 pub loop-number-init : goal.loop-number-init
 loop-number-init c = record {
-  put = none-put c.args.grounds.now.rows c.args.grounds.now.facts c.args.schema.now.nodes c.requires;
+  put = none-put c.args.grounds.now.rows c.args.grounds.now.facts c.args.schema.now.nodes c.requires.none;
   modules = refl;
   choices = refl;
   cases = refl;

@@ -1,14 +1,16 @@
-use Rattle.std.proofs.Common.{◌≡◌, ◌∙◌, List, ap}
-use Rattle.nm_grammar.specs.declared.row.Row.{Row}
+use Rattle.std.proofs.Common.{◌∙◌, ap}
 use Rattle.nm_shape.specs.Outline.{Outline}
-use Rattle.nm_shape.specs.Members.{members}
-use Rattle.nm_keys.specs.Membership.{membership}
+use Rattle.nm_keys.specs.Found.{seen_among, member_named}
+use Rattle.nm_keys.specs.Membership.{Sight}
 use Rattle.nm_keys.specs.Kept.{members_at}
 use Rattle.nm_keys.proofs.finder.Finder.named.Goals as goal
 
 pub keep-requires : goal.keep-requires
+keep-requires c = c.in_ok-members.ensures ∙ ap (λ (o : Outline). members_at o.rows o.groupings c.args.at) c.self.view_is
+
+pub returns-clause-found : goal.returns-clause-found
 unfolding members_at
-keep-requires c =
-    c.in_ok-members.ensures
-    ∙ ap (λ (rows : List Row). membership rows (members rows c.self.inside.shape.now.groupings c.args.at)) c.self.invariant.0
-    ∙ ap (λ (o : Outline). membership o.rows (members o.rows o.groupings c.args.at)) c.self.view_is
+returns-clause-found c =
+    c.named-found.ensures
+    ∙ ap (λ (s : Sight). seen_among s.rows c.args.loses s.nodes s.kept c.args.name.now) c.in_ok-members.ensures
+    ∙ ap (λ (o : Outline). member_named o.rows o.groupings c.args.loses c.args.at c.args.name.now) c.self.view_is

@@ -1,5 +1,0 @@
-use Rattle.nm_shape.specs.Sharing.{AreSources}
-use Rattle.nm_shape.proofs.sources.sources.Given as goal
-
-abbrev pub invariant-loop-node : goal.invariant-loop-node
-invariant-loop-node l = AreSources l.brought l.sources.items
