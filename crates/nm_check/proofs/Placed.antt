@@ -1,16 +1,19 @@
 -- The places that rows stand below.
-use Rattle.std.proofs.Common.{◌≡◌, ◌⊎◌, ℕ, zero, suc, ◌+◌, ◌-◌, ◌<◌, ◌≤◌, List, [], ◌∷◌, ◌++◌, map, take, length, Bool, true, false, if◌then◌else◌, Bor, refl, sym, ap, ◌∙◌, subst, inl, inr, append_assoc, arith}
+use Rattle.std.proofs.Common.{◌≡◌, ◌⊎◌, ℕ, zero, suc, ◌+◌, ◌-◌, ◌<◌, ◌≤◌, List, [], ◌∷◌, ◌++◌, map, take, length, Bool, true, false, if◌then◌else◌, refl, sym, ap, ◌∙◌, subst, inl, inr, append_assoc, arith}
 use Rattle.std.proofs.lemmas.Bool.Decides.{nat_tests}
 use Rattle.std.specs.Prelude.{nat_lt}
 use Rattle.std.specs.List.{range_with_len}
 use Rattle.std.specs.Ordering.{eq_by_cmp}
-use Rattle.std.specs.FinMap.{keys, entries}
-use Rattle.std.specs.Map.Iter.{deref_pair}
-use Rattle.nm_types.specs.declared.value.Value.{Value}
+use Rattle.std.specs.FinMap.{keys}
 use Rattle.nm_types.specs.Path.{PathStep, step_cmp}
+use Rattle.nm_tree.specs.Nodes.{SchemaTree}
 use Rattle.nm_config.specs.Rows.{Rows}
 use Rattle.nm_config.proofs.Contiguous.{one_step}
 use Rattle.nm_rules.proofs.Among.{Among, among_map, among_left, among_right, among_range}
+use Rattle.nm_validate.specs.declared.areas.Grouped.{Grouped}
+use Rattle.nm_validate.specs.declared.areas.NodeRow.{NodeRow}
+use Rattle.nm_validate.specs.Groups.{IsGrouped}
+use Rattle.nm_validate.specs.Listed.{Row, alone}
 use Rattle.nm_validate.proofs.Leasts.{range_step}
 use Rattle.nm_check.specs.Places.{shared_places, places_from, places_after}
 
@@ -86,12 +89,12 @@ all_placed ks path a n lt = first_placed ks path n (placed [] ks path a n lt)
 
 -- ---- rows as they are listed
 
-paths_listed : (xs : List (Bor (List PathStep) × Bor Value)) → map (λ r. r.0.now) xs ≡ map (λ e. e.0) (map deref_pair xs)
-paths_listed [] = refl
-paths_listed (x ∷ xs) = ap (λ l. x.0.now ∷ l) (paths_listed xs)
+paths_alone : (rs : List NodeRow) → map (λ r. r.path.now) rs ≡ map (λ e. e.0) (map alone rs)
+paths_alone [] = refl
+paths_alone (r ∷ rs) = ap (λ l. r.path.now ∷ l) (paths_alone rs)
 
--- the places of the rows as they are listed are those of the paths that have rows
-pub listed_places : (rows : Rows) (all lent : List (Bor (List PathStep) × Bor Value)) (places : List (List PathStep)) → lent ≡ all → map deref_pair all ≡ entries rows → places ≡ places_after [] (map (λ r. r.0.now) lent)
-    → places ≡ places_after [] (keys rows)
-listed_places rows all lent places same is made =
-    made ∙ ap (λ l. places_after [] (map (λ (r : Bor (List PathStep) × Bor Value). r.0.now) l)) same ∙ ap (places_after []) (paths_listed all ∙ ap (map (λ (e : List PathStep × Value). e.0)) is)
+-- the places of the rows as they are grouped are those of the paths that have rows
+pub listed_places : (t : SchemaTree) (rows : Rows) (grouped : Grouped) (lent : List NodeRow) (places : List (List PathStep)) → lent ≡ grouped.rows.items → IsGrouped t rows grouped
+    → places ≡ places_after [] (map (λ r. r.path.now) lent) → places ≡ places_after [] (keys rows)
+listed_places t rows grouped lent places same h made =
+    made ∙ ap (λ l. places_after [] (map (λ (r : NodeRow). r.path.now) l)) same ∙ ap (places_after []) (paths_alone grouped.rows.items ∙ ap (map (λ (e : Row). e.0)) h.rows_are)

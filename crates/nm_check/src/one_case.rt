@@ -7,6 +7,7 @@ ghost use Rattle.nm_rules.specs.declared.rule.Rule.TheVariants as rule;
 ghost use Rattle.nm_rules.specs.Guards as guard;
 ghost use Rattle.nm_rules.specs.Values.{is_same_path};
 ghost use Rattle.nm_rules.specs.Violation.{least_at};
+ghost use Rattle.nm_validate.specs.Groups.{IsGrouped};
 ghost use Rattle.nm_validate.specs.Least.{least_with};
 ghost use Rattle.nm_check.specs.Others as spec;
 
@@ -17,6 +18,7 @@ use nm_config::RowMap;
 use nm_path::node_of;
 use nm_tree::Schema;
 use nm_types::Path;
+use nm_validate::areas::Grouped;
 use nm_validate::{front, nodes_of, with_path};
 use std::alloc::Global;
 
@@ -138,15 +140,16 @@ pub fn least_other_case<M: RowMap>(
     alloc: Global,
     schema: &Schema,
     config: &M,
+    grouped: &Grouped<'_>,
 ) -> Result<Option<Path>, NoMemory>
+    requires { IsGrouped schema.now (M.rows config.now) grouped.now }
     ensures { IfOk result (λ found. found ≡ least_at schema.now (M.rows config.now) rule.OneCase) }
 {
     if choice_count(schema) == 0 {
         return Ok(None);
     }
     schema.laws();
-    let all = config.listed(alloc)?;
-    let places = places_of(alloc, &all)?;
+    let places = places_of(alloc, &grouped.rows)?;
     let mut least = None;
     for choice in 0..choice_count(schema) {
         least = least_of_choice(alloc, schema, config, choice, &places, least)?;

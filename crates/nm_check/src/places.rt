@@ -4,7 +4,8 @@ ghost use Rattle.std.specs.Prelude.{◌≡◌, ◌++◌, [], IfOk, OnOk, map, ta
 ghost use Rattle.nm_check.specs.Places as spec;
 
 use nm_base::NoMemory;
-use nm_types::{Path, Step, Value};
+use nm_types::{Path, Step};
+use nm_validate::areas::NodeRow;
 use std::alloc::Global;
 
 // How many of the places that a path stands below, from the top down, another path stands below too.
@@ -66,12 +67,13 @@ fn put_places(
 }
 
 /// The places that rows stand below, each where the row before doesn't stand below it.
-pub fn places_of(alloc: Global, all: &[(&Path, &Value)]) -> Result<Vec<Path>, NoMemory>
-    ensures { IfOk result (λ places. places.items ≡ spec.places_after [] (map (λ row. row.0.now) all.now)) }
+pub fn places_of(alloc: Global, rows: &[NodeRow<'_>]) -> Result<Vec<Path>, NoMemory>
+    ensures { IfOk result (λ places. places.items ≡ spec.places_after [] (map (λ row. row.path.now) rows.now)) }
 {
     let mut places = Vec::new(alloc);
     let mut before: &[Step] = &[];
-    for (path, _value) in all {
+    for row in rows {
+        let path = row.path;
         put_places(alloc, before, path, &mut places)?;
         before = path.steps.as_slice();
     }

@@ -5,6 +5,7 @@ use nm_json::read_config;
 use nm_path::write_path;
 use nm_tree::{CaseNode, ChoiceNode, Elements, Node, NodeKind, Schema, SharedType};
 use nm_types::{LeafType, Path, TypeKind};
+use nm_validate::areas::group_rows;
 use std::alloc::Global;
 use std::test::Fail;
 
@@ -143,7 +144,8 @@ fn other_in(alloc: Global, schema: &Schema, text: &str) -> Result<Label, NoMemor
     match read_config(alloc, schema, text.as_bytes()) {
         Err(_) => Label::new(alloc, "not read"),
         Ok(config) => {
-            let found = least_other_case(alloc, schema, &config)?;
+            let grouped = group_rows(alloc, schema, &config)?;
+            let found = least_other_case(alloc, schema, &config, &grouped)?;
             path_text(alloc, schema, &found)
         }
     }
@@ -186,6 +188,8 @@ fn two_cases_are_answered(rt: HostRuntime) -> Result<(), Fail> {
             "{text}"
         );
     }
-    assert!(rt; least_other_case(alloc, &schema, &Config::new(alloc))?.is_none());
+    let none = Config::new(alloc);
+    let grouped = group_rows(alloc, &schema, &none)?;
+    assert!(rt; least_other_case(alloc, &schema, &none, &grouped)?.is_none());
     Ok(())
 }

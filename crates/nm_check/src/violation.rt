@@ -4,6 +4,7 @@ ghost use Rattle.std.specs.Prelude.{◌≡◌, IfOk};
 ghost use Rattle.nm_path.specs.Sound.{IsSound};
 ghost use Rattle.nm_rules.specs.Rule.{all_rules};
 ghost use Rattle.nm_rules.specs.Violation as spec;
+ghost use Rattle.nm_validate.specs.Groups.{IsGrouped};
 
 use crate::one_case::least_other_case;
 use nm_base::NoMemory;
@@ -12,6 +13,7 @@ use nm_reached::least_unreached;
 use nm_rules::Rule;
 use nm_tree::Schema;
 use nm_types::Path;
+use nm_validate::areas::{Grouped, group_rows};
 use nm_validate::{
     least_bad_key, least_bad_value, least_missing_choice, least_missing_leaf, least_repeated_entry,
     least_too_few, least_too_many,
@@ -58,21 +60,23 @@ fn least_at<M: RowMap>(
     alloc: Global,
     schema: &Schema,
     config: &M,
+    grouped: &Grouped<'_>,
     rule: Rule,
 ) -> Result<Option<Path>, NoMemory>
-    requires { IsSound schema.now.nodes }
+    requires sound { IsSound schema.now.nodes }
+    requires grouped { IsGrouped schema.now (M.rows config.now) grouped.now }
     ensures { IfOk result (λ found. found ≡ spec.least_at schema.now (M.rows config.now) rule) }
 {
     match rule {
-        Rule::ValueType => least_bad_value(alloc, schema, config),
-        Rule::Key => least_bad_key(alloc, schema, config),
-        Rule::Mandatory => least_missing_leaf(alloc, schema, config),
-        Rule::Leafref => least_unreached(alloc, schema, config),
-        Rule::Unique => least_repeated_entry(alloc, schema, config),
-        Rule::MinElements => least_too_few(alloc, schema, config),
-        Rule::MaxElements => least_too_many(alloc, schema, config),
-        Rule::MandatoryChoice => least_missing_choice(alloc, schema, config),
-        Rule::OneCase => least_other_case(alloc, schema, config),
+        Rule::ValueType => least_bad_value(alloc, schema, config, grouped),
+        Rule::Key => least_bad_key(alloc, schema, config, grouped),
+        Rule::Mandatory => least_missing_leaf(alloc, schema, config, grouped),
+        Rule::Leafref => least_unreached(alloc, schema, config, grouped),
+        Rule::Unique => least_repeated_entry(alloc, schema, config, grouped),
+        Rule::MinElements => least_too_few(alloc, schema, config, grouped),
+        Rule::MaxElements => least_too_many(alloc, schema, config, grouped),
+        Rule::MandatoryChoice => least_missing_choice(alloc, schema, config, grouped),
+        Rule::OneCase => least_other_case(alloc, schema, config, grouped),
     }
 }
 
@@ -86,8 +90,9 @@ pub fn violation_of<M: RowMap>(
     requires { IsSound schema.now.nodes }
     ensures { IfOk result (λ found. found ≡ spec.violation schema.now (M.rows config.now)) }
 {
+    let grouped = group_rows(alloc, schema, config)?;
     for rule in rules() {
-        if let Some(path) = least_at(alloc, schema, config, *rule)? {
+        if let Some(path) = least_at(alloc, schema, config, &grouped, *rule)? {
             return Ok(Some(Violation { rule: *rule, path }));
         }
     }

@@ -15,9 +15,9 @@ use Rattle.nm_rules.specs.Values.{Claim, key_in_entry, default_in_use, row_value
 use Rattle.nm_rules.specs.Violated.{last_chosen}
 use Rattle.nm_rules.proofs.Among.{both}
 use Rattle.nm_reached.specs.Kept.{kept_at, mark_of, with_kept, with_value, with_values}
-use Rattle.nm_reached.specs.Known.{rows_of, entries_of, with_target, with_known, Knows}
+use Rattle.nm_reached.specs.Known.{rows_of, entries_of, gives, has_below, with_target, with_known, Knows}
 use Rattle.nm_reached.proofs.Paths.{number_is, number_same, same_kept, kept_no_mark, mark_no_kept, same_mark, put_then, bare_list, under_is, never_under}
-use Rattle.nm_reached.proofs.Reaching.{gives, has_below, by_rows, by_keys, by_defaults}
+use Rattle.nm_reached.proofs.Reaching.{by_rows, by_keys, by_defaults}
 
 -- ---- tests
 

@@ -3,3 +3,4 @@ pub mod Reaching
 pub mod Knowing
 pub mod Grouping
 pub mod Losing
+pub mod AtHand

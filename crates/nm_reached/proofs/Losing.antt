@@ -8,10 +8,14 @@ use Rattle.nm_rules.specs.declared.rule.Rule.TheVariants.{Leafref}
 use Rattle.nm_rules.specs.Values.{Claim, claims_by, is_reached}
 use Rattle.nm_rules.specs.Violated.{violated}
 use Rattle.nm_rules.specs.Violation.{least_at}
+use Rattle.nm_path.specs.Spelling.{node_of}
+use Rattle.nm_validate.specs.declared.areas.Grouped.{Grouped}
+use Rattle.nm_validate.specs.declared.areas.NodeRow.{NodeRow}
+use Rattle.nm_validate.specs.Groups.{IsGrouped}
 use Rattle.nm_validate.specs.Listed.{Row}
 use Rattle.nm_validate.proofs.Firsts.{least_key}
-use Rattle.nm_validate.proofs.Rows.{Have, all_there, same_first}
-use Rattle.nm_reached.specs.Lost.{any_lost, is_lost_row, first_lost}
+use Rattle.nm_validate.proofs.Rows.{Have, all_there, same_first, where_is}
+use Rattle.nm_reached.specs.Lost.{any_lost, is_lost_at, first_lost}
 
 or_or : (a b c : Bool) → (a || (b || c)) ≡ ((a || b) || c)
 or_or true b c = refl
@@ -26,11 +30,13 @@ module _ (t : SchemaTree) (rows : Rows) where
   pub lost_append : (one other : List Claim) → any_lost t rows (one ++ other) ≡ (any_lost t rows one || any_lost t rows other)
   lost_append one other = any_append (λ claim. not (is_reached t rows claim)) one other
 
-  by_rows : (es : List Row) → Have rows es → AllByRecursion (λ e. violated t rows Leafref e.0 ≡ is_lost_row t rows e) es
+  by_rows : (es : List Row) → Have rows es → AllByRecursion (λ e. violated t rows Leafref e.0 ≡ is_lost_at t rows (node_of t e.0) e.0 e.1) es
   by_rows [] h = tt
   by_rows (e ∷ es) h = (ap (λ o. any_lost t rows (claims_by t e.0 o)) h.0, by_rows es h.1)
 
   -- the first row that isn't all reached is the least at which the rule is violated
-  pub lost_rows : first_lost t rows (entries rows) ≡ least_at t rows Leafref
+  pub lost_rows : (grouped : Grouped) (lent : List NodeRow) → lent ≡ grouped.rows.items → IsGrouped t rows grouped → first_lost t rows lent ≡ least_at t rows Leafref
   unfolding least_at
-  lost_rows = sym (least_key (violated t rows Leafref) rows ∙ same_first (violated t rows Leafref) (is_lost_row t rows) (entries rows) (by_rows (entries rows) (all_there rows)))
+  lost_rows grouped lent same h =
+      where_is t rows (is_lost_at t rows) grouped lent same h
+      ∙ sym (least_key (violated t rows Leafref) rows ∙ same_first (violated t rows Leafref) (λ e. is_lost_at t rows (node_of t e.0) e.0 e.1) (entries rows) (by_rows (entries rows) (all_there rows)))

@@ -16,16 +16,7 @@ use Rattle.nm_rules.specs.Values.{key_in_entry, default_in_use, row_values, key_
 use Rattle.nm_validate.specs.Listed.{Row}
 use Rattle.nm_validate.proofs.Below.{any_kept}
 use Rattle.nm_validate.proofs.Rows.{Have, all_there}
-use Rattle.nm_reached.specs.Known.{rows_of, entries_of}
-
--- a value is the one that is there
-abbrev pub gives : Value → Option Value → Bool
-gives v None = false
-gives v (Some w) = is_same_value v w
-
--- a path is below a place and has a value there
-abbrev pub has_below : List PathStep → Value → (List PathStep → Option Value) → List PathStep → Bool
-has_below context v value path = is_under context path && gives v (value path)
+use Rattle.nm_reached.specs.Known.{rows_of, entries_of, gives, has_below}
 
 any_same : {X : Type 0} (f g : X → Bool) (xs : List X) → ((x : X) → f x ≡ g x) → list_any f xs ≡ list_any g xs
 any_same f g [] same = refl

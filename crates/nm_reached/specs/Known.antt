@@ -1,15 +1,18 @@
 -- What is known of the targets of leafrefs: which values are reached from where.
-use Rattle.std.specs.Prelude.{◌≡◌, ℕ, List, [], length, filter, ◌&&◌, if◌then◌else◌}
+use Rattle.std.specs.Prelude.{◌≡◌, ℕ, List, [], ◌∷◌, ◌++◌, length, filter, Bool, false, ◌&&◌, Option, Some, None, if◌then◌else◌}
 use Rattle.std.specs.FinMap.{get, insert, contains_key, keys}
 use Rattle.nm_types.specs.declared.value.Value.{Value}
 use Rattle.nm_types.specs.declared.value.Value.TheVariants.{Present}
-use Rattle.nm_types.specs.Path.{PathStep}
+use Rattle.nm_types.specs.Value.{is_same_value}
+use Rattle.nm_types.specs.Path.{PathStep, keys as by_keys}
 use Rattle.nm_tree.specs.Nodes.{SchemaTree, same_parent, parent_of, is_key}
 use Rattle.nm_path.specs.Spelling.{node_of}
 use Rattle.nm_config.specs.Rows.{Rows}
-use Rattle.nm_rules.specs.Guards.{leads_to}
+use Rattle.nm_config.specs.Under.{is_under}
+use Rattle.nm_rules.specs.Cases.{bare}
+use Rattle.nm_rules.specs.Guards.{front, leads_to}
 use Rattle.nm_rules.specs.Places.{places}
-use Rattle.nm_rules.specs.Values.{Claim, key_in_entry, default_in_use, is_reached}
+use Rattle.nm_rules.specs.Values.{Claim, key_in_entry, default_in_use, path_in, is_reached}
 use Rattle.nm_reached.specs.Kept.{kept_at, mark_of, with_values}
 
 -- the rows of node x
@@ -49,3 +52,27 @@ claim_to target context value = record { target = target; context = context; val
 pub record Knows (t : SchemaTree) (rows kept : Rows) : Type 0 where
   pub each : (claim : Claim) → contains_key kept (kept_at claim.context claim.target claim.value)
       ≡ (contains_key kept (mark_of claim.target (length claim.context)) && is_reached t rows claim)
+
+-- ---- what one look-up tells
+
+-- a value is the one that is there
+abbrev pub gives : Value → Option Value → Bool
+gives v None = false
+gives v (Some w) = is_same_value v w
+
+-- a path is below a place and has a value there
+abbrev pub has_below : List PathStep → Value → (List PathStep → Option Value) → List PathStep → Bool
+has_below context v value path = is_under context path && gives v (value path)
+
+-- the step to the entry of list x whose one key has a value
+abbrev pub step_to : SchemaTree → ℕ → Value → PathStep
+step_to t x v = record { «module» = (bare t.nodes x).«module»; name = (bare t.nodes x).name; chosen = by_keys (v ∷ []) }
+
+-- the path of that entry below a place
+abbrev pub entry_by : SchemaTree → List PathStep → ℕ → Value → List PathStep
+entry_by t place x v = front (path_in t place x) ++ step_to t x v ∷ []
+
+-- a path has a row, of an entry below a place that has a value by key leaf x
+abbrev pub is_entry_with : SchemaTree → Rows → List PathStep → ℕ → Value → List PathStep → Bool
+is_entry_with t rows place x v path =
+    contains_key rows path && is_key t.nodes x && same_parent (parent_of t.nodes x) (node_of t path) && has_below place v (key_in_entry t x) path

@@ -1,13 +1,14 @@
 -- Claims of leafrefs that aren't reached, and the first row that has one (RFC 7950 section 9.9).
-use Rattle.std.specs.Prelude.{ℕ, List, [], ◌∷◌, ◌++◌, Bool, not, Option, Some}
-use Rattle.std.specs.List.{list_any, find}
+use Rattle.std.specs.Prelude.{ℕ, List, [], ◌∷◌, ◌++◌, Bool, not, Option}
+use Rattle.std.specs.List.{list_any}
 use Rattle.nm_types.specs.declared.value.Value.{Value}
 use Rattle.nm_types.specs.Path.{PathStep}
 use Rattle.nm_tree.specs.Nodes.{SchemaTree, reference_at}
 use Rattle.nm_config.specs.Rows.{Rows}
 use Rattle.nm_rules.specs.Cases.{bare}
-use Rattle.nm_rules.specs.Values.{Claim, claim_of, claims_by, is_reached}
-use Rattle.nm_validate.specs.Listed.{Row, path_in}
+use Rattle.nm_rules.specs.Values.{Claim, claim_of, claims_at, is_reached}
+use Rattle.nm_validate.specs.declared.areas.NodeRow.{NodeRow}
+use Rattle.nm_validate.specs.Listed.{first_where}
 
 -- what key leaf k of an entry claims with this value
 abbrev pub key_claim : SchemaTree → List PathStep → ℕ → Value → List Claim
@@ -17,10 +18,10 @@ key_claim t entry k value = claim_of (entry ++ bare t.nodes k ∷ []) value (ref
 abbrev pub any_lost : SchemaTree → Rows → List Claim → Bool
 any_lost t rows claims = list_any (λ claim. not (is_reached t rows claim)) claims
 
--- a row has a claim that isn't reached
-abbrev pub is_lost_row : SchemaTree → Rows → Row → Bool
-is_lost_row t rows row = any_lost t rows (claims_by t row.0 (Some row.1))
+-- a row of a node with this path and this value has a claim that isn't reached
+abbrev pub is_lost_at : SchemaTree → Rows → Option ℕ → List PathStep → Value → Bool
+is_lost_at t rows node path value = any_lost t rows (claims_at t path value node)
 
 -- the path of the first row that has a claim that isn't reached
-abbrev pub first_lost : SchemaTree → Rows → List Row → Option (List PathStep)
-first_lost t rows all = path_in (find (is_lost_row t rows) all)
+abbrev pub first_lost : SchemaTree → Rows → List NodeRow → Option (List PathStep)
+first_lost t rows all = first_where (is_lost_at t rows) all

@@ -4,6 +4,7 @@
 //! defaults. The layers above rely on what is answered being exactly the least path at which the rule is violated.
 #![tactic(auto)]
 
+mod at_hand;
 mod kept;
 mod known;
 mod rows;

@@ -1,33 +1,26 @@
 //! The rule of leafrefs: what each refers to is there (RFC 7950 section 9.9).
 
-ghost use Rattle.std.specs.Prelude.{◌≡◌, ◌-◌, IfOk, Some, length, map};
+ghost use Rattle.std.specs.Prelude.{◌≡◌, IfOk};
 ghost use Rattle.std.specs.FinMap.{keys};
-ghost use Rattle.std.specs.Map.Iter.{deref_pair};
+ghost use Rattle.nm_tree.specs.Nodes.{reference_at};
 ghost use Rattle.nm_rules.specs.declared.rule.Rule.TheVariants as rule;
-ghost use Rattle.nm_rules.specs.Values.{claim_of, claims_by, key_claims};
+ghost use Rattle.nm_rules.specs.Values.{claim_of, key_claims};
 ghost use Rattle.nm_rules.specs.Violation.{least_at};
 ghost use Rattle.nm_validate.specs.Groups as group;
 ghost use Rattle.nm_reached.specs.Known.{Knows};
 ghost use Rattle.nm_reached.specs.Lost as spec;
 
+use crate::at_hand::{is_at_hand, steps_left};
 use crate::kept::begin;
 use crate::known::is_reached;
 use nm_base::NoMemory;
 use nm_config::{Config, RowMap};
-use nm_path::node_of;
 use nm_tree::{Reference, Schema};
 use nm_types::{Path, Value};
-use nm_validate::areas::by_node;
+use nm_validate::areas::{Grouped, NodeRow};
 use nm_validate::cases::bare;
 use nm_validate::keys::values_in;
 use std::alloc::Global;
-
-// How many steps are left of a path that goes up so many.
-fn steps_left(path: &Path, up: usize) -> usize
-    ensures { result ≡ length path.now - up }
-{
-    path.steps.len().saturating_sub(up)
-}
 
 // Whether what a leafref at a path claims isn't reached.
 fn is_lost<M: RowMap>(
@@ -127,6 +120,43 @@ fn is_any_key_lost<M: RowMap>(
     Ok(false)
 }
 
+// How many rows are few: what each of them claims is looked up by itself.
+const FEW: usize = 16;
+
+// Whether a node has few rows.
+fn has_few(groups: &[Vec<&Path>], at: usize) -> bool {
+    match groups.get(at) {
+        None => true,
+        Some(paths) => paths.len() <= FEW,
+    }
+}
+
+// Whether what the leafref of a row claims isn't reached, if there is one.
+#[tactic(auto, using(crate::proofs::Losing::lost_append))]
+fn is_leaf_lost<M: RowMap>(
+    alloc: Global,
+    schema: &Schema,
+    config: &M,
+    groups: &[Vec<&Path>],
+    path: &Path,
+    value: &Value,
+    at: usize,
+    kept: &mut Config,
+) -> Result<bool, NoMemory>
+    requires groups { group.AreOf schema.now (keys (M.rows config.now)) groups.now }
+    requires knows { Knows schema.now (M.rows config.now) kept.old }
+    ensures told { IfOk result (λ lost. lost ≡ spec.any_lost schema.now (M.rows config.now) (claim_of path.now value.now (reference_at schema.now.nodes at))) }
+    ensures knows { IfOk result (λ _. Knows schema.now (M.rows config.now) kept.new) }
+{
+    let reference = schema.reference(at);
+    if has_few(groups, at) {
+        if is_at_hand(alloc, schema, config, path, value, reference)? {
+            return Ok(false);
+        }
+    }
+    is_lost(alloc, schema, config, groups, path, value, reference, kept)
+}
+
 // Whether a row has a claim that isn't reached.
 #[tactic(auto, using(crate::proofs::Losing::lost_append))]
 fn is_lost_row<M: RowMap>(
@@ -134,28 +164,18 @@ fn is_lost_row<M: RowMap>(
     schema: &Schema,
     config: &M,
     groups: &[Vec<&Path>],
-    path: &Path,
-    value: &Value,
+    row: &NodeRow<'_>,
     kept: &mut Config,
 ) -> Result<bool, NoMemory>
     requires groups { group.AreOf schema.now (keys (M.rows config.now)) groups.now }
     requires knows { Knows schema.now (M.rows config.now) kept.old }
-    ensures told { IfOk result (λ lost. lost ≡ spec.any_lost schema.now (M.rows config.now) (claims_by schema.now path.now (Some value.now))) }
+    ensures told { IfOk result (λ lost. lost ≡ spec.is_lost_at schema.now (M.rows config.now) row.now.node row.now.path.now row.now.value.now) }
     ensures knows { IfOk result (λ _. Knows schema.now (M.rows config.now) kept.new) }
 {
-    let Some(at) = node_of(schema, path) else {
+    let Some(at) = row.node else {
         return Ok(false);
     };
-    if is_lost(
-        alloc,
-        schema,
-        config,
-        groups,
-        path,
-        value,
-        schema.reference(at),
-        kept,
-    )? {
+    if is_leaf_lost(alloc, schema, config, groups, row.path, row.value, at, kept)? {
         return Ok(true);
     }
     is_any_key_lost(
@@ -163,9 +183,9 @@ fn is_lost_row<M: RowMap>(
         schema,
         config,
         groups,
-        path,
+        row.path,
         schema.keys(at),
-        values_in(path),
+        values_in(row.path),
         kept,
     )
 }
@@ -176,30 +196,30 @@ fn first_lost<M: RowMap>(
     schema: &Schema,
     config: &M,
     groups: &[Vec<&Path>],
-    all: &[(&Path, &Value)],
+    rows: &[NodeRow<'_>],
 ) -> Result<Option<Path>, NoMemory>
     requires { group.AreOf schema.now (keys (M.rows config.now)) groups.now }
-    ensures { IfOk result (λ found. found ≡ spec.first_lost schema.now (M.rows config.now) (map deref_pair all.now)) }
+    ensures { IfOk result (λ found. found ≡ spec.first_lost schema.now (M.rows config.now) rows.now) }
 {
     let mut kept = Config::new(alloc);
-    for (path, value) in all {
-        if is_lost_row(alloc, schema, config, groups, path, value, &mut kept)? {
-            return Ok(Some(path.copy(alloc)?));
+    for row in rows {
+        if is_lost_row(alloc, schema, config, groups, row, &mut kept)? {
+            return Ok(Some(row.path.copy(alloc)?));
         }
     }
     Ok(None)
 }
 
 /// The least path of a row with a leafref, its own or that of a key, that doesn't reach what it refers to (RFC 7950 section 9.9).
-#[tactic(auto, using(crate::proofs::Losing::lost_rows))]
+#[tactic(auto, using(crate::proofs::Losing::lost_rows, nm_validate::proofs::Loops::lent_groups))]
 pub fn least_unreached<M: RowMap>(
     alloc: Global,
     schema: &Schema,
     config: &M,
+    grouped: &Grouped<'_>,
 ) -> Result<Option<Path>, NoMemory>
+    requires { group.IsGrouped schema.now (M.rows config.now) grouped.now }
     ensures { IfOk result (λ found. found ≡ least_at schema.now (M.rows config.now) rule.Leafref) }
 {
-    let all = config.listed(alloc)?;
-    let groups = by_node(alloc, schema, &all)?;
-    first_lost(alloc, schema, config, &groups, &all)
+    first_lost(alloc, schema, config, &grouped.groups, &grouped.rows)
 }

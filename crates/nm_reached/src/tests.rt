@@ -4,6 +4,7 @@ use nm_json::read_config;
 use nm_path::write_path;
 use nm_schema::build;
 use nm_tree::Schema;
+use nm_validate::areas::group_rows;
 use nm_yang::read_module;
 use std::alloc::Global;
 use std::test::Fail;
@@ -30,7 +31,8 @@ fn lost_in(alloc: Global, schema: &Schema, text: &str) -> Result<Label, NoMemory
     let Ok(config) = read_config(alloc, schema, text.as_bytes()) else {
         return Label::new(alloc, "not read");
     };
-    match least_unreached(alloc, schema, &config)? {
+    let grouped = group_rows(alloc, schema, &config)?;
+    match least_unreached(alloc, schema, &config, &grouped)? {
         None => Label::new(alloc, ""),
         Some(path) => write_path(alloc, schema, &path),
     }

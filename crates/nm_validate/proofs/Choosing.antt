@@ -1,9 +1,8 @@
 -- Where mandatory choices have no node.
-use Rattle.std.proofs.Common.{◌≡◌, ℕ, zero, suc, ◌-◌, ◌<◌, List, [], ◌∷◌, ◌++◌, map, length, Bool, true, false, cond, not, ◌&&◌, ◌||◌, Option, Some, None, Vec, is_some, if◌then◌else◌, slice_get, refl, sym, ap, ◌∙◌, subst, inl, inr, append-nil, append_assoc, arith}
-use Rattle.std.proofs.lemmas.Grind.{common_steps}
+use Rattle.std.proofs.Common.{◌≡◌, ℕ, zero, suc, ◌-◌, ◌<◌, List, [], ◌∷◌, ◌++◌, map, length, Bool, true, false, cond, not, ◌&&◌, Option, Some, None, Vec, if◌then◌else◌, slice_get, refl, sym, ap, ◌∙◌, subst, inl, inr, append-nil, append_assoc, arith}
 use Rattle.std.proofs.lemmas.Bool.Decides.{nat_tests}
 use Rattle.std.specs.Prelude.{filter, nat_lt}
-use Rattle.std.specs.List.{list_any, flat_map, range_with_len, find, fold}
+use Rattle.std.specs.List.{list_any, flat_map, range_with_len, find}
 use Rattle.std.specs.FinMap.{contains_key, keys}
 use Rattle.std.specs.declared.alloc.Global.{Global}
 use Rattle.nm_types.specs.Path.{PathStep}
@@ -16,23 +15,23 @@ use Rattle.nm_path.specs.Sound.{IsSound}
 use Rattle.nm_config.specs.Rows.{Rows}
 use Rattle.nm_rules.specs.declared.rule.Rule.TheVariants.{MandatoryChoice}
 use Rattle.nm_rules.specs.Standing.{is_own_at}
-use Rattle.nm_rules.specs.Cases.{bare, numbers, is_choice, outwards, exists_at, is_allowed}
+use Rattle.nm_rules.specs.Cases.{numbers, is_choice, outwards, exists_at, is_allowed}
 use Rattle.nm_rules.specs.Guards.{front, is_node, leads_to, holds_below, holds_from, holds_at, stands_from, stands, is_open_step}
-use Rattle.nm_rules.specs.Places.{areas, areas_below, placed, places, choice_step, choice_places, choice_places_of}
+use Rattle.nm_rules.specs.Places.{areas, placed, places, choice_step, choice_places, choice_places_of}
 use Rattle.nm_rules.specs.Values.{is_same_path}
 use Rattle.nm_rules.specs.Violated.{is_area_of, is_of_choice, has_node, is_choice_path, is_missing, violated}
-use Rattle.nm_rules.specs.Violation.{least_of, least_at}
+use Rattle.nm_rules.specs.Violation.{least_at}
 use Rattle.nm_rules.proofs.Among.{Among, any_passes, both, among_filter, filter_passes, among_map, among_flat, among_contains}
 use Rattle.nm_rules.proofs.Leading.{node_is, itself, by_last}
 use Rattle.nm_rules.proofs.Areas.{ends, holds_by_last, among_areas}
 use Rattle.nm_rules.proofs.Looked.{get_within}
 use Rattle.nm_rules.proofs.Placed.{any_at, key_there, placed_law}
 use Rattle.nm_validate.specs.Least.{least_with}
-use Rattle.nm_validate.specs.Members.{AreMembers, is_allowed_by}
+use Rattle.nm_validate.specs.Members.{AreMembers}
 use Rattle.nm_validate.specs.Choosing.{is_within, missing_by, missing_places}
 use Rattle.nm_validate.proofs.Below.{any_kept, allowed_is, areas_are}
 use Rattle.nm_validate.proofs.Gathered.{filter_among, flat_among, same_least}
-use Rattle.nm_validate.proofs.Leasts.{filter_none, least_append, least_is_found, range_step}
+use Rattle.nm_validate.proofs.Leasts.{filter_none, least_is_found}
 
 -- ---- a choice among those outwards of a case
 

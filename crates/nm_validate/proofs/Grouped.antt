@@ -1,13 +1,21 @@
 -- Paths are put into their groups, one after another.
-use Rattle.std.proofs.Common.{◌≡◌, ℕ, zero, suc, ◌+◌, ◌<◌, List, [], ◌∷◌, ◌++◌, map, get_or, length, Bool, true, false, cond, ◌==◌, Some, None, slice_get, slice_set, Bor, refl, sym, ap, ◌∙◌, subst, append-nil, append_assoc, arith}
+use Rattle.std.proofs.Common.{◌≡◌, ℕ, zero, suc, ◌+◌, ◌<◌, List, [], ◌∷◌, ◌++◌, map, drop, get_or, length, Bool, true, false, cond, ◌==◌, Some, None, slice_get, slice_set, Bor, refl, sym, ap, ◌∙◌, subst, append-nil, append_assoc, arith}
 use Rattle.std.proofs.lemmas.Grind.{common_steps}
+use Rattle.std.proofs.lemmas.List.{drop_more}
 use Rattle.std.proofs.lemmas.Bool.Decides.{nat_tests}
-use Rattle.std.specs.Prelude.{filter}
+use Rattle.std.specs.Prelude.{filter, Option}
+use Rattle.std.specs.FinMap.{keys, entries}
+use Rattle.std.specs.Map.Iter.{deref_pair}
+use Rattle.nm_types.specs.declared.value.Value.{Value}
 use Rattle.nm_types.specs.Path.{PathStep}
 use Rattle.nm_tree.specs.Nodes.{SchemaTree}
 use Rattle.nm_path.specs.Spelling.{node_of}
 use Rattle.nm_rules.specs.Guards.{is_node, leads_to}
-use Rattle.nm_validate.specs.Groups.{Group, paths_in, in_group, AreEmpty, one_if, Puts, AreOf}
+use Rattle.nm_config.specs.Rows.{Rows}
+use Rattle.nm_validate.specs.declared.areas.Grouped.{Grouped}
+use Rattle.nm_validate.specs.declared.areas.NodeRow.{NodeRow}
+use Rattle.nm_validate.specs.Listed.{Row, alone, HaveNodes}
+use Rattle.nm_validate.specs.Groups.{Group, paths_in, in_group, AreEmpty, one_if, Puts, AreOf, IsGrouped}
 
 -- ---- no groups
 
@@ -67,7 +75,7 @@ at_index [] at g lt e = absurd (omega (arith, lt))
 at_index (h ∷ gs) zero g lt e = ap Some (sym e)
 at_index (h ∷ gs) (suc at) g lt e = at_index gs at g (omega (arith, lt)) e
 
-pub put_is : (gs : List Group) (at : ℕ) (old new : Group) (b : Bor (List PathStep)) → at < length gs → old ≡ get_or gs at old → new.items ≡ old.items ++ b ∷ [] → Puts b.now at gs (slice_set gs at new)
+pub put_is : (gs : List Group) (at : ℕ) (old new : Group) (b : Bor (List PathStep)) → at < length gs → old ≡ get_or gs at old → new.items ≡ old.items ++ b ∷ [] → Puts b.now (Some at) gs (slice_set gs at new)
 put_is gs at old new b lt is e = record {
   same_count = same_length gs at new;
   put = λ x less. put_by gs at x old new b.now (at_index gs at old lt is) (ap (map (λ (p : Bor (List PathStep)). p.now)) e ∙ map_push old.items b) less;
@@ -80,8 +88,12 @@ beyond (g ∷ gs) (suc at) zero is lt = never_back at
 beyond (g ∷ gs) (suc at) (suc x) is lt = same_suc at x ∙ beyond gs at x is (omega (arith, lt))
 
 -- there is no such group
-pub put_none : (gs : List Group) (at : ℕ) (p : List PathStep) → slice_get gs at ≡ None → Puts p at gs gs
+pub put_none : (gs : List Group) (at : ℕ) (p : List PathStep) → slice_get gs at ≡ None → Puts p (Some at) gs gs
 put_none gs at p is = record { same_count = refl; put = λ x lt. no_more (at == x) (in_group gs x) p (beyond gs at x is lt) }
+
+-- the path leads to no node
+pub put_nowhere : (gs : List Group) (p : List PathStep) → Puts p None gs gs
+put_nowhere gs p = record { same_count = refl; put = λ x lt. no_more false (in_group gs x) p refl }
 
 -- ---- all paths
 
@@ -90,10 +102,10 @@ pub record AreLeft (t : SchemaTree) (left all : List (List PathStep)) (groups : 
   pub count : length groups ≡ length t.nodes
   pub each : (x : ℕ) → x < length t.nodes → in_group groups x ++ filter (leads_to t x) left ≡ filter (leads_to t x) all
 
-pub all_left : (t : SchemaTree) (all : List (List PathStep)) (n : ℕ) (gs : List Group) → AreEmpty n gs → n ≡ length t.nodes → AreLeft t all all gs
+all_left : (t : SchemaTree) (all : List (List PathStep)) (n : ℕ) (gs : List Group) → AreEmpty n gs → n ≡ length t.nodes → AreLeft t all all gs
 all_left t all n gs h e = record { count = h.count_is ∙ e; each = λ x lt. ap (λ l. l ++ filter (leads_to t x) all) (h.none x) }
 
-pub none_left : (t : SchemaTree) (left all : List (List PathStep)) (gs : List Group) → left ≡ [] → AreLeft t left all gs → AreOf t all gs
+none_left : (t : SchemaTree) (left all : List (List PathStep)) (gs : List Group) → left ≡ [] → AreLeft t left all gs → AreOf t all gs
 none_left t left all gs e h = record {
   count = h.count;
   each = λ x lt. sym (append-nil (in_group gs x)) ∙ ap (λ l. in_group gs x ++ filter (leads_to t x) l) (sym e) ∙ h.each x lt;
@@ -104,20 +116,74 @@ one_first true p ps = refl
 one_first false p ps = refl
 
 -- a path is put into the group of its node
-pub left_put : (t : SchemaTree) (p : List PathStep) (left all : List (List PathStep)) (at : ℕ) (before after : List Group) → node_of t p ≡ Some at → Puts p at before after
+left_put : (t : SchemaTree) (p : List PathStep) (left all : List (List PathStep)) (node : Option ℕ) (before after : List Group) → node ≡ node_of t p → Puts p node before after
     → AreLeft t (p ∷ left) all before → AreLeft t left all after
-left_put t p left all at before after is put h = record {
+left_put t p left all node before after is put h = record {
   count = put.same_count ∙ h.count;
   each = λ x lt.
       ap (λ l. l ++ filter (leads_to t x) left) (put.put x (subst (λ (n : ℕ). x < n) (sym h.count) lt))
-      ∙ append_assoc (in_group before x) (one_if (at == x) p) (filter (leads_to t x) left)
-      ∙ ap (λ l. in_group before x ++ l) (one_first (at == x) p (filter (leads_to t x) left) ∙ ap (λ o. cond (is_node x o) (p ∷ filter (leads_to t x) left) (filter (leads_to t x) left)) (sym is))
+      ∙ append_assoc (in_group before x) (one_if (is_node x node) p) (filter (leads_to t x) left)
+      ∙ ap (λ l. in_group before x ++ l) (one_first (is_node x node) p (filter (leads_to t x) left) ∙ ap (λ o. cond (is_node x o) (p ∷ filter (leads_to t x) left) (filter (leads_to t x) left)) is)
       ∙ h.each x lt;
 }
 
--- a path leads to no node
-pub left_none : (t : SchemaTree) (p : List PathStep) (left all : List (List PathStep)) (gs : List Group) → node_of t p ≡ None → AreLeft t (p ∷ left) all gs → AreLeft t left all gs
-left_none t p left all gs is h = record {
-  count = h.count;
-  each = λ x lt. ap (λ o. in_group gs x ++ cond (is_node x o) (p ∷ filter (leads_to t x) left) (filter (leads_to t x) left)) (sym is) ∙ h.each x lt;
+-- ---- all rows
+
+abbrev pub Pair : Type 0
+Pair = Bor (List PathStep) × Bor Value
+
+abbrev pub paths_of : List Pair → List (List PathStep)
+paths_of pairs = map (λ p. p.0.now) pairs
+
+-- these rows are listed with their nodes and in their groups, and others are left
+pub record AreListed (t : SchemaTree) (left all : List Pair) (rows : List NodeRow) (groups : List Group) : Type 0 where
+  pub rows_are : map alone rows ++ map deref_pair left ≡ map deref_pair all
+  pub nodes_are : HaveNodes t rows
+  pub groups_are : AreLeft t (paths_of left) (paths_of all) groups
+
+pub none_listed : (t : SchemaTree) (all left : List Pair) (rows : List NodeRow) (n : ℕ) (gs : List Group) → left ≡ all → rows ≡ [] → AreEmpty n gs → n ≡ length t.nodes → AreListed t left all rows gs
+none_listed t all left rows n gs same none h e = record {
+  rows_are = ap (λ l. map alone l ++ map deref_pair left) none ∙ ap (map deref_pair) same;
+  nodes_are = subst (λ l. HaveNodes t l) (sym none) tt;
+  groups_are = subst (λ l. AreLeft t (paths_of l) (paths_of all) gs) (sym same) (all_left t (paths_of all) n gs h e);
+}
+
+alone_push : (rows : List NodeRow) (row : NodeRow) → map alone (rows ++ row ∷ []) ≡ map alone rows ++ alone row ∷ []
+alone_push [] row = refl
+alone_push (r ∷ rows) row = ap (λ l. alone r ∷ l) (alone_push rows row)
+
+have_push : (t : SchemaTree) (rows : List NodeRow) (row : NodeRow) → HaveNodes t rows → row.node ≡ node_of t row.path.now → HaveNodes t (rows ++ row ∷ [])
+have_push t [] row h e = (e, tt)
+have_push t (r ∷ rows) row h e = (h.0, have_push t rows row h.1 e)
+
+-- a row more is listed
+listed_on : (t : SchemaTree) (p : Pair) (left all : List Pair) (rows more : List NodeRow) (before after : List Group) (row : NodeRow) → alone row ≡ deref_pair p → row.node ≡ node_of t row.path.now
+    → Puts row.path.now row.node before after → more ≡ rows ++ row ∷ [] → AreListed t (p ∷ left) all rows before → AreListed t left all more after
+listed_on t p left all rows more before after row same is put one h =
+    let path : p.0.now ≡ row.path.now = ap (λ (r : Row). r.0) (sym same) in
+    record {
+      rows_are = ap (λ l. map alone l ++ map deref_pair left) one ∙ ap (λ l. l ++ map deref_pair left) (alone_push rows row) ∙ append_assoc (map alone rows) (alone row ∷ []) (map deref_pair left)
+          ∙ ap (λ r. map alone rows ++ r ∷ map deref_pair left) same ∙ h.rows_are;
+      nodes_are = subst (λ l. HaveNodes t l) (sym one) (have_push t rows row h.nodes_are is);
+      groups_are = left_put t row.path.now (paths_of left) (paths_of all) row.node before after is put (subst (λ q. AreLeft t (q ∷ paths_of left) (paths_of all) before) path h.groups_are);
+    }
+
+pub listed_turn : (t : SchemaTree) (all : List Pair) (i : ℕ) (p : Pair) (rows more : List NodeRow) (before after : List Group) (row : NodeRow) → i < length all → p ≡ get_or all i p → alone row ≡ deref_pair p
+    → row.node ≡ node_of t row.path.now → Puts row.path.now row.node before after → more ≡ rows ++ row ∷ [] → AreListed t (drop i all) all rows before → AreListed t (drop (i + 1) all) all more after
+listed_turn t all i p rows more before after row lt item same is put one h =
+    listed_on t p (drop (i + 1) all) all rows more before after row same is put one
+    (subst (λ l. AreListed t l all rows before) (drop_more all i p lt ∙ ap (λ (x : Pair). x ∷ drop (i + 1) all) (sym item)) h)
+
+paths_are : (all : List Pair) → paths_of all ≡ map (λ e. e.0) (map deref_pair all)
+paths_are [] = refl
+paths_are (p ∷ ps) = ap (λ l. p.0.now ∷ l) (paths_are ps)
+
+-- once none are left, all are grouped
+pub all_listed : (t : SchemaTree) (rows : Rows) (left all : List Pair) (grouped : Grouped) → left ≡ [] → map deref_pair all ≡ entries rows
+    → AreListed t left all grouped.rows.items grouped.groups.items → IsGrouped t rows grouped
+all_listed t rows left all grouped none is h = record {
+  rows_are = sym (append-nil (map alone grouped.rows.items)) ∙ ap (λ l. map alone grouped.rows.items ++ map deref_pair l) (sym none) ∙ h.rows_are ∙ is;
+  nodes_are = h.nodes_are;
+  groups_are = none_left t (paths_of left) (keys rows) grouped.groups.items (ap paths_of none)
+      (subst (λ l. AreLeft t (paths_of left) l grouped.groups.items) (paths_are all ∙ ap (map (λ (e : Row). e.0)) is) h.groups_are);
 }

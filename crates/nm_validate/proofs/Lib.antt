@@ -14,3 +14,4 @@ pub mod Gathered
 pub mod Choosing
 pub mod Repeated
 pub mod InUse
+pub mod Apart

@@ -1,11 +1,11 @@
 -- Entries whose values were seen before are those that repeat the values of an entry before them.
-use Rattle.std.proofs.Common.{◌≡◌, ◌⊎◌, ℕ, zero, suc, ◌+◌, ◌-◌, ◌<◌, List, [], ◌∷◌, ◌++◌, map, length, Bool, true, false, cond, ◌&&◌, ◌||◌, Option, Some, None, is_some, option_map, if◌then◌else◌, slice_get, refl, sym, ap, ◌∙◌, subst, inl, inr, append_assoc, arith}
+use Rattle.std.proofs.Common.{◌≡◌, ◌⊎◌, ℕ, zero, suc, ◌+◌, ◌-◌, ◌<◌, List, [], ◌∷◌, ◌++◌, map, length, Bool, true, false, cond, ◌&&◌, Option, Some, None, is_some, option_map, if◌then◌else◌, slice_get, refl, sym, ap, ◌∙◌, subst, inl, inr, append_assoc, arith}
 use lib.Dec.{T}
 use Rattle.std.specs.Prelude.{⊤, filter}
 use Rattle.std.specs.List.{list_any, flat_map, range_with_len}
 use Rattle.std.specs.Ordering.{is_lt, eq_by_cmp, ordering_reverse}
 use Rattle.std.specs.Cmp.Lexicographic.{slice_cmp}
-use Rattle.std.specs.FinMap.{get, empty, insert, contains_key, keys, entries, entries_sorted, get-empty, get-insert}
+use Rattle.std.specs.FinMap.{get, empty, contains_key, keys, entries, entries_sorted, get-empty, get-insert}
 use Rattle.std.specs.FinMap.Entries.{is_sorted, below_all}
 use Rattle.std.specs.declared.cmp.Ordering.{Ordering}
 use Rattle.std.specs.declared.cmp.Ordering.TheVariants.{Less, Equal, Greater}
@@ -13,7 +13,7 @@ use Rattle.std.proofs.lemmas.Cmp.{tied_itself}
 use Rattle.nm_types.specs.declared.value.Value.{Value}
 use Rattle.nm_types.specs.declared.value.Value.TheVariants.{Present}
 use Rattle.nm_types.specs.Value.{value_cmp}
-use Rattle.nm_types.specs.Path.{PathStep, Choice, whole, keys as by_keys, choice_values, path_cmp}
+use Rattle.nm_types.specs.Path.{PathStep, whole, keys as by_keys, choice_values, path_cmp}
 use Rattle.nm_types.specs.PathLaws.{paths_total, paths_equiv, same_path_decides, same_choice_decides}
 use Rattle.nm_tree.specs.Nodes.{SchemaTree, uniques_at}
 use Rattle.nm_path.specs.Spelling.{node_of}
@@ -115,7 +115,7 @@ contrary e = absurd (cc)
 sees_none : (key : List PathStep → Option (List PathStep)) → Sees key empty []
 sees_none key = record { to = λ path e. contrary (sym e ∙ ap is_some (get-empty {X = Value} path_cmp path)); from = λ path entry a e. absurd a }
 
-one_key : (path other : List PathStep) → eq_by_cmp path_cmp path other ≡ true → path ≡ other
+pub one_key : (path other : List PathStep) → eq_by_cmp path_cmp path other ≡ true → path ≡ other
 one_key path other e = (same_path_decides path other (eq_by_cmp path_cmp path other) refl).0 e
 
 inserted : (b : Bool) (v : Value) (o : Option Value) → is_some (cond b (Some v) o) ≡ true → (b ≡ true) ⊎ (is_some o ≡ true)

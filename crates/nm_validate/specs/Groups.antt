@@ -1,10 +1,14 @@
 -- The paths of rows, in groups by the nodes that they lead to.
-use Rattle.std.specs.Prelude.{◌≡◌, ◌<◌, ◌++◌, ℕ, List, [], ◌∷◌, length, map, filter, Bool, Option, Some, None, slice_get, if◌then◌else◌, ◌==◌, Vec}
+use Rattle.std.specs.Prelude.{◌≡◌, ◌<◌, ◌++◌, ℕ, List, [], ◌∷◌, length, map, filter, Bool, Option, Some, None, slice_get, if◌then◌else◌, Vec}
 use Rattle.std.specs.Borrow.{Bor}
+use Rattle.std.specs.FinMap.{keys, entries}
 use Rattle.std.specs.declared.alloc.Global.{Global}
 use Rattle.nm_types.specs.Path.{PathStep}
 use Rattle.nm_tree.specs.Nodes.{SchemaTree}
-use Rattle.nm_rules.specs.Guards.{leads_to}
+use Rattle.nm_config.specs.Rows.{Rows}
+use Rattle.nm_rules.specs.Guards.{is_node, leads_to}
+use Rattle.nm_validate.specs.declared.areas.Grouped.{Grouped}
+use Rattle.nm_validate.specs.Listed.{alone, HaveNodes}
 
 -- paths that are lent
 abbrev pub Group : Type 0
@@ -26,12 +30,18 @@ pub record AreEmpty (count : ℕ) (groups : List Group) : Type 0 where
 abbrev pub one_if : Bool → List PathStep → List (List PathStep)
 one_if here path = if here then path ∷ [] else []
 
--- a path is put behind the others of its group, and the other groups stay
-pub record Puts (path : List PathStep) (at : ℕ) (before after : List Group) : Type 0 where
+-- a path is put behind the others of the group of its node, and the other groups stay
+pub record Puts (path : List PathStep) (node : Option ℕ) (before after : List Group) : Type 0 where
   pub same_count : length after ≡ length before
-  pub put : (x : ℕ) → x < length before → in_group after x ≡ in_group before x ++ one_if (at == x) path
+  pub put : (x : ℕ) → x < length before → in_group after x ≡ in_group before x ++ one_if (is_node x node) path
 
 -- each node of a tree has the group of those of these paths that lead to it, in their order
 pub record AreOf (t : SchemaTree) (paths : List (List PathStep)) (groups : List Group) : Type 0 where
   pub count : length groups ≡ length t.nodes
   pub each : (x : ℕ) → x < length t.nodes → in_group groups x ≡ filter (leads_to t x) paths
+
+-- all rows of a configuration in path order, with their nodes, and the paths of each node's rows
+pub record IsGrouped (t : SchemaTree) (rows : Rows) (grouped : Grouped) : Type 0 where
+  pub rows_are : map alone grouped.rows.items ≡ entries rows
+  pub nodes_are : HaveNodes t grouped.rows.items
+  pub groups_are : AreOf t (keys rows) grouped.groups.items

@@ -1,5 +1,5 @@
 -- Entries that have the same values as one before them, in the leafs that a unique statement names (RFC 7950 section 7.8.3).
-use Rattle.std.specs.Prelude.{◌≡◌, ℕ, List, [], ◌∷◌, ◌++◌, Bool, true, false, ◌&&◌, Option, Some, None, Vec, option_map, if◌then◌else◌}
+use Rattle.std.specs.Prelude.{ℕ, List, [], ◌∷◌, ◌++◌, Bool, false, ◌&&◌, Option, Some, None, Vec, option_map, if◌then◌else◌}
 use Rattle.std.specs.Option.{option_or}
 use Rattle.std.specs.List.{flat_map}
 use Rattle.std.specs.FinMap.{get, empty, insert, contains_key}
@@ -14,6 +14,7 @@ use Rattle.nm_config.specs.Under.{is_whole}
 use Rattle.nm_rules.specs.Guards.{front, is_allowed_at}
 use Rattle.nm_rules.specs.Values.{default_in_use, leaf_value, path_in, unique_values}
 use Rattle.nm_rules.specs.Violated.{last_chosen}
+use Rattle.nm_validate.specs.Listed.{Row}
 
 -- the last step of a path has no predicates, and leads to a node whose case holds
 abbrev pub is_open : SchemaTree → Rows → List PathStep → List PathStep → Bool
@@ -42,6 +43,15 @@ unique_path entry values = step_of values ∷ front entry
 -- the path for the values of these leafs in an entry, where all have one
 abbrev pub key_of : SchemaTree → Rows → List ℕ → List PathStep → Option (List PathStep)
 key_of t rows leafs entry = option_map (unique_path entry) (unique_values t rows entry leafs)
+
+-- a row at a path, and none at none
+abbrev pub row_by : Option (List PathStep) → List Row
+row_by None = []
+row_by (Some path) = (path, Present) ∷ []
+
+-- rows at the paths for the values of these leafs in some entries
+abbrev pub keys_in : SchemaTree → Rows → List ℕ → List (List PathStep) → List Row
+keys_in t rows leafs entries = flat_map (λ entry. row_by (key_of t rows leafs entry)) entries
 
 abbrev pub is_seen : Rows → Option (List PathStep) → Bool
 is_seen seen None = false

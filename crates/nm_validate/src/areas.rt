@@ -1,6 +1,6 @@
 //! The places at which nodes may stand, in the configuration at hand.
 
-ghost use Rattle.std.specs.Prelude.{◌≡◌, ◌∷◌, ◌++◌, [], IfOk, OnOk, map};
+ghost use Rattle.std.specs.Prelude.{◌≡◌, ◌∷◌, ◌++◌, [], IfOk, OnOk};
 ghost use Rattle.std.specs.FinMap.{keys};
 ghost use Rattle.nm_rules.specs.Places as spec;
 ghost use Rattle.std.specs.List.{flat_map};
@@ -15,6 +15,21 @@ use nm_tree::Schema;
 use nm_types::{Path, Value};
 use std::alloc::Global;
 
+/// A row with the node that its path leads to.
+#[derive(Drop)]
+pub struct NodeRow<'r> {
+    pub path: &'r Path,
+    pub value: &'r Value,
+    pub node: Option<usize>,
+}
+
+/// The rows of a configuration in path order, and the paths of each node's rows.
+#[derive(Drop)]
+pub struct Grouped<'r> {
+    pub rows: Vec<NodeRow<'r>>,
+    pub groups: Vec<Vec<&'r Path>>,
+}
+
 // So many groups without paths.
 fn no_groups<'r>(alloc: Global, count: usize) -> Result<Vec<Vec<&'r Path>>, NoMemory>
     ensures { IfOk result (λ groups. group.AreEmpty count groups.items) }
@@ -26,31 +41,40 @@ fn no_groups<'r>(alloc: Global, count: usize) -> Result<Vec<Vec<&'r Path>>, NoMe
     Ok(groups)
 }
 
-// Puts a path into a group, where there is one of this number.
-fn put_into<'r>(groups: &mut Vec<Vec<&'r Path>>, at: usize, path: &'r Path) -> Result<(), NoMemory>
-    ensures { OnOk result (group.Puts path.now at groups.old.items groups.new.items) }
+// Puts a path into the group of the node that it leads to, where it leads to one.
+fn put_into<'r>(
+    groups: &mut Vec<Vec<&'r Path>>,
+    node: Option<usize>,
+    path: &'r Path,
+) -> Result<(), NoMemory>
+    ensures { OnOk result (group.Puts path.now node groups.old.items groups.new.items) }
 {
+    let Some(at) = node else {
+        return Ok(());
+    };
     if let Some(paths) = groups.get_mut(at) {
         paths.push(path)?;
     }
     Ok(())
 }
 
-/// The paths of the rows of each node, in path order.
-pub fn by_node<'r>(
+/// The rows of a configuration, each with its node, and the paths of each node's rows. It is made once for all rules.
+pub fn group_rows<'r, M: RowMap>(
     alloc: Global,
     schema: &Schema,
-    all: &[(&'r Path, &'r Value)],
-) -> Result<Vec<Vec<&'r Path>>, NoMemory>
-    ensures { IfOk result (λ groups. group.AreOf schema.now (map (λ row. row.0.now) all.now) groups.items) }
+    config: &'r M,
+) -> Result<Grouped<'r>, NoMemory>
+    ensures { IfOk result (group.IsGrouped schema.now (M.rows config.now)) }
 {
+    let all = config.listed(alloc)?;
+    let mut rows = Vec::with_capacity(alloc, all.len())?;
     let mut groups = no_groups(alloc, schema.len())?;
-    for (path, _value) in all {
-        if let Some(at) = node_of(schema, path) {
-            put_into(&mut groups, at, path)?;
-        }
+    for (path, value) in &all {
+        let node = node_of(schema, path);
+        put_into(&mut groups, node, path)?;
+        rows.push(NodeRow { path, value, node })?;
     }
-    Ok(groups)
+    Ok(Grouped { rows, groups })
 }
 
 // Copies of the paths of a group, and none where there is no group of this number.
@@ -121,17 +145,6 @@ pub fn placed<M: RowMap>(
     Ok(paths)
 }
 
-// The top alone.
-fn top(alloc: Global) -> Result<Vec<Path>, NoMemory>
-    ensures { IfOk result (λ paths. paths.items ≡ [] ∷ []) }
-{
-    let mut paths = Vec::new(alloc);
-    paths.push(Path {
-        steps: Vec::new(alloc),
-    })?;
-    Ok(paths)
-}
-
 /// The places directly below a node, and the top for none.
 #[tactic(auto, using(crate::proofs::Below::other_areas))]
 pub fn areas<M: RowMap>(
@@ -145,7 +158,10 @@ pub fn areas<M: RowMap>(
     ensures { IfOk result (λ paths. paths.items ≡ spec.areas schema.now (M.rows config.now) parent) }
 {
     let Some(at) = parent else {
-        return top(alloc);
+        let mut top = Vec::new(alloc);
+        let steps = Vec::new(alloc);
+        top.push(Path { steps })?;
+        return Ok(top);
     };
     schema.laws();
     if schema.is_guard(at) {

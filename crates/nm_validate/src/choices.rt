@@ -14,7 +14,7 @@ ghost use Rattle.nm_validate.specs.Groups as group;
 ghost use Rattle.nm_validate.specs.Least.{least_with};
 ghost use Rattle.nm_validate.specs.Choosing.{is_within, missing_by, missing_places};
 
-use crate::areas::{areas, by_node};
+use crate::areas::{Grouped, areas};
 use crate::cases::{any_at, is_allowed, members_of};
 use crate::least::with_path;
 use nm_base::NoMemory;
@@ -195,15 +195,16 @@ pub fn least_missing_choice<M: RowMap>(
     alloc: Global,
     schema: &Schema,
     config: &M,
+    grouped: &Grouped<'_>,
 ) -> Result<Option<Path>, NoMemory>
-    requires { IsSound schema.now.nodes }
+    requires sound { IsSound schema.now.nodes }
+    requires grouped { group.IsGrouped schema.now (M.rows config.now) grouped.now }
     ensures { IfOk result (λ found. found ≡ least_at schema.now (M.rows config.now) rule.MandatoryChoice) }
 {
-    let all = config.listed(alloc)?;
-    let groups = by_node(alloc, schema, &all)?;
+    let groups = grouped.groups.as_slice();
     let mut least = None;
     for at in 0..choice_count(schema) {
-        least = least_at_choice(alloc, schema, config, &groups, at, least)?;
+        least = least_at_choice(alloc, schema, config, groups, at, least)?;
     }
     Ok(least)
 }

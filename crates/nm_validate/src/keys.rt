@@ -1,20 +1,19 @@
 //! The rule of keys: each entry of a list has its keys, of their types.
 
-ghost use Rattle.std.specs.Prelude.{◌≡◌, IfOk, None, Some, map, slice_get};
-ghost use Rattle.std.specs.Map.Iter.{deref_pair};
+ghost use Rattle.std.specs.Prelude.{◌≡◌, IfOk, slice_get};
 ghost use Rattle.nm_types.specs.Chosen.{choice_of};
 ghost use Rattle.nm_types.specs.Path.{choice_values};
-ghost use Rattle.nm_path.specs.Spelling as path_spec;
 ghost use Rattle.nm_rules.specs.declared.rule.Rule.TheVariants as rule;
 ghost use Rattle.nm_rules.specs.Values.{chosen_values};
 ghost use Rattle.nm_rules.specs.Violated as spec;
 ghost use Rattle.nm_rules.specs.Violation.{least_at};
-ghost use Rattle.nm_validate.specs.Listed.{first_bad_key};
+ghost use Rattle.nm_validate.specs.Groups.{IsGrouped};
+ghost use Rattle.nm_validate.specs.Listed as row_spec;
 
+use crate::areas::{Grouped, NodeRow};
 use crate::fits::fits_at;
 use nm_base::NoMemory;
 use nm_config::RowMap;
-use nm_path::node_of;
 use nm_tree::{NodeKind, Schema};
 use nm_types::{Chosen, Path, Value};
 use std::alloc::Global;
@@ -64,17 +63,17 @@ fn fit_keys(
     Ok(values_left.is_empty())
 }
 
-// Whether the entry of a list that a path chooses has its keys.
-fn has_keys(alloc: Global, schema: &Schema, path: &Path) -> Result<bool, NoMemory>
-    ensures { IfOk result (λ has. has ≡ spec.has_keys schema.now.nodes (path_spec.node_of schema.now path.now) path.now) }
+// Whether a row has its keys, where it is an entry of a list.
+fn has_keys(alloc: Global, schema: &Schema, row: &NodeRow<'_>) -> Result<bool, NoMemory>
+    ensures { IfOk result (λ has. has ≡ spec.has_keys schema.now.nodes row.now.node row.now.path.now) }
 {
-    let Some(at) = node_of(schema, path) else {
+    let Some(at) = row.node else {
         return Ok(true);
     };
     if !is_list(schema, at) {
         return Ok(true);
     }
-    fit_keys(alloc, schema, schema.keys(at), values_in(path))
+    fit_keys(alloc, schema, schema.keys(at), values_in(row.path))
 }
 
 // Whether a node is a list.
@@ -94,27 +93,28 @@ fn is_list(schema: &Schema, at: usize) -> bool
 fn first_bad_key(
     alloc: Global,
     schema: &Schema,
-    all: &[(&Path, &Value)],
+    rows: &[NodeRow<'_>],
 ) -> Result<Option<Path>, NoMemory>
-    ensures { IfOk result (λ found. found ≡ first_bad_key schema.now (map deref_pair all.now)) }
+    ensures { IfOk result (λ found. found ≡ row_spec.first_bad_key schema.now.nodes rows.now) }
 {
-    for (path, _value) in all {
-        if !has_keys(alloc, schema, path)? {
-            return Ok(Some(path.copy(alloc)?));
+    for row in rows {
+        if !has_keys(alloc, schema, row)? {
+            return Ok(Some(row.path.copy(alloc)?));
         }
     }
     Ok(None)
 }
 
-/// The least path of an entry that lacks a key or has a bad one (RFC 7950 section 7.8.2).
+/// The least path of an entry of a configuration that lacks a key or has a bad one (RFC 7950 section 7.8.2).
 #[tactic(auto, using(crate::proofs::Rows::bad_keys))]
 pub fn least_bad_key<M: RowMap>(
     alloc: Global,
     schema: &Schema,
     config: &M,
+    grouped: &Grouped<'_>,
 ) -> Result<Option<Path>, NoMemory>
+    requires { IsGrouped schema.now (M.rows config.now) grouped.now }
     ensures { IfOk result (λ found. found ≡ least_at schema.now (M.rows config.now) rule.Key) }
 {
-    let all = config.listed(alloc)?;
-    first_bad_key(alloc, schema, &all)
+    first_bad_key(alloc, schema, &grouped.rows)
 }

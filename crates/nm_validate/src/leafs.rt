@@ -10,7 +10,7 @@ ghost use Rattle.nm_rules.specs.Violation.{least_at};
 ghost use Rattle.nm_validate.specs.Groups as group;
 ghost use Rattle.nm_validate.specs.Least.{least_with};
 
-use crate::areas::{by_node, places};
+use crate::areas::{Grouped, places};
 use crate::least::with_path;
 use nm_base::NoMemory;
 use nm_config::RowMap;
@@ -66,15 +66,16 @@ pub fn least_missing_leaf<M: RowMap>(
     alloc: Global,
     schema: &Schema,
     config: &M,
+    grouped: &Grouped<'_>,
 ) -> Result<Option<Path>, NoMemory>
-    requires { IsSound schema.now.nodes }
+    requires sound { IsSound schema.now.nodes }
+    requires grouped { group.IsGrouped schema.now (M.rows config.now) grouped.now }
     ensures { IfOk result (λ found. found ≡ least_at schema.now (M.rows config.now) rule.Mandatory) }
 {
-    let all = config.listed(alloc)?;
-    let groups = by_node(alloc, schema, &all)?;
+    let groups = grouped.groups.as_slice();
     let mut least = None;
     for at in 0..schema.len() {
-        least = least_at_node(alloc, schema, config, &groups, at, least)?;
+        least = least_at_node(alloc, schema, config, groups, at, least)?;
     }
     Ok(least)
 }

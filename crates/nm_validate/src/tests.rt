@@ -2,6 +2,7 @@ ghost use Rattle.std.specs.Prelude.{IfOk, IfSome};
 ghost use Rattle.nm_path.specs.Sound.{IsSound};
 
 use super::*;
+use crate::areas::group_rows;
 use nm_base::{Label, NoMemory};
 use nm_config::Config;
 use nm_json::read_config;
@@ -53,7 +54,8 @@ fn missing_in(alloc: Global, schema: &Schema, text: &str) -> Result<Label, NoMem
     match read_config(alloc, schema, text.as_bytes()) {
         Err(_) => Label::new(alloc, "not read"),
         Ok(config) => {
-            let found = least_missing_leaf(alloc, schema, &config)?;
+            let grouped = group_rows(alloc, schema, &config)?;
+            let found = least_missing_leaf(alloc, schema, &config, &grouped)?;
             path_text(alloc, schema, &found)
         }
     }
@@ -94,7 +96,8 @@ fn bad_in(alloc: Global, schema: &Schema, text: &str, number: i128) -> Result<La
     };
     let mut config = Config::new(alloc);
     config.put(path, Value::Int(number))?;
-    let found = least_bad_value(alloc, schema, &config)?;
+    let grouped = group_rows(alloc, schema, &config)?;
+    let found = least_bad_value(alloc, schema, &config, &grouped)?;
     path_text(alloc, schema, &found)
 }
 
@@ -140,7 +143,8 @@ fn is_bad_entry(alloc: Global, schema: &Schema, numbers: &[i128]) -> Result<bool
     }
     let mut config = Config::new(alloc);
     config.put(path, Value::Present)?;
-    Ok(least_bad_key(alloc, schema, &config)?.is_some())
+    let grouped = group_rows(alloc, schema, &config)?;
+    Ok(least_bad_key(alloc, schema, &config, &grouped)?.is_some())
 }
 
 // An entry has one key of each leaf that the key statement names, of its type (RFC 7950 section 7.8.2).
@@ -168,7 +172,8 @@ fn few_in(alloc: Global, schema: &Schema, text: &str) -> Result<Label, NoMemory>
     match read_config(alloc, schema, text.as_bytes()) {
         Err(_) => Label::new(alloc, "not read"),
         Ok(config) => {
-            let found = least_too_few(alloc, schema, &config)?;
+            let grouped = group_rows(alloc, schema, &config)?;
+            let found = least_too_few(alloc, schema, &config, &grouped)?;
             path_text(alloc, schema, &found)
         }
     }
@@ -205,7 +210,8 @@ fn many_in(alloc: Global, schema: &Schema, text: &str) -> Result<Label, NoMemory
     match read_config(alloc, schema, text.as_bytes()) {
         Err(_) => Label::new(alloc, "not read"),
         Ok(config) => {
-            let found = least_too_many(alloc, schema, &config)?;
+            let grouped = group_rows(alloc, schema, &config)?;
+            let found = least_too_many(alloc, schema, &config, &grouped)?;
             path_text(alloc, schema, &found)
         }
     }
@@ -267,7 +273,8 @@ fn choice_in(alloc: Global, parent: &str, text: &str) -> Result<Label, NoMemory>
     match read_config(alloc, &schema, text.as_bytes()) {
         Err(_) => Label::new(alloc, "not read"),
         Ok(config) => {
-            let found = least_missing_choice(alloc, &schema, &config)?;
+            let grouped = group_rows(alloc, &schema, &config)?;
+            let found = least_missing_choice(alloc, &schema, &config, &grouped)?;
             path_text(alloc, &schema, &found)
         }
     }
@@ -312,7 +319,8 @@ fn repeated_in(alloc: Global, schema: &Schema, text: &str) -> Result<Label, NoMe
     match read_config(alloc, schema, text.as_bytes()) {
         Err(_) => Label::new(alloc, "not read"),
         Ok(config) => {
-            let found = least_repeated_entry(alloc, schema, &config)?;
+            let grouped = group_rows(alloc, schema, &config)?;
+            let found = least_repeated_entry(alloc, schema, &config, &grouped)?;
             path_text(alloc, schema, &found)
         }
     }

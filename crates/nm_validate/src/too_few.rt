@@ -12,7 +12,7 @@ ghost use Rattle.nm_validate.specs.Groups as group;
 ghost use Rattle.nm_validate.specs.Least.{least_with};
 ghost use Rattle.nm_validate.specs.Wanted.{has_at_least, is_short};
 
-use crate::areas::{by_node, places};
+use crate::areas::{Grouped, places};
 use crate::cases::{is_allowed, others_of};
 use crate::counts::has_more;
 use crate::least::with_path;
@@ -110,15 +110,16 @@ pub fn least_too_few<M: RowMap>(
     alloc: Global,
     schema: &Schema,
     config: &M,
+    grouped: &Grouped<'_>,
 ) -> Result<Option<Path>, NoMemory>
-    requires { IsSound schema.now.nodes }
+    requires sound { IsSound schema.now.nodes }
+    requires grouped { group.IsGrouped schema.now (M.rows config.now) grouped.now }
     ensures { IfOk result (λ found. found ≡ least_at schema.now (M.rows config.now) rule.MinElements) }
 {
-    let all = config.listed(alloc)?;
-    let groups = by_node(alloc, schema, &all)?;
+    let groups = grouped.groups.as_slice();
     let mut least = None;
     for at in 0..schema.len() {
-        least = least_at_node(alloc, schema, config, &groups, at, least)?;
+        least = least_at_node(alloc, schema, config, groups, at, least)?;
     }
     Ok(least)
 }

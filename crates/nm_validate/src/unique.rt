@@ -1,37 +1,45 @@
 //! The rule of unique statements: no two entries of a list have the same values in the leafs that one names.
 
-ghost use Rattle.std.specs.Prelude.{◌≡◌, IfOk, MatchOption, None, Some, map as each, slice_get};
+ghost use Rattle.std.specs.Prelude.{◌≡◌, ◌++◌, [], true, IfOk, OnOk, MatchOption, None, Some, map as each, slice_get};
 ghost use Rattle.std.specs.List.{flat_map};
 ghost use Rattle.std.specs.FinMap.{empty, keys};
 ghost use Rattle.nm_rules.specs.declared.rule.Rule.TheVariants as rule;
 ghost use Rattle.nm_rules.specs.Values as value_spec;
 ghost use Rattle.nm_rules.specs.Violation.{least_at};
 ghost use Rattle.nm_validate.specs.Groups as group;
+ghost use Rattle.nm_config.specs.Rows.{Rows};
+ghost use Rattle.nm_validate.specs.Listed.{AreRows};
 ghost use Rattle.nm_validate.specs.Least.{least_with};
 ghost use Rattle.nm_validate.specs.Repeated as spec;
 
-use crate::areas::by_node;
+use crate::areas::{Grouped, NodeRow};
 use crate::least::with_path;
 use crate::too_few::front;
-use crate::values::{leaf_value, path_in};
+use crate::values::{key_in_entry, path_in, row_or_default};
 use nm_base::{Label, NoMemory, Numbers};
 use nm_config::{Config, RowMap};
 use nm_tree::Schema;
 use nm_types::{Chosen, Path, Step, Value};
 use std::alloc::Global;
 
-// The value of a leaf in an entry.
+// The value of a leaf in an entry, whose row may be one of the first of these.
 fn value_in<M: RowMap>(
     alloc: Global,
     schema: &Schema,
     config: &M,
+    near: &[NodeRow<'_>],
     entry: &Path,
     at: usize,
 ) -> Result<Option<Value>, NoMemory>
+    requires { AreRows (M.rows config.now) near.now }
     ensures { IfOk result (λ value. value ≡ spec.value_in schema.now (M.rows config.now) entry.now at) }
 {
     let path = path_in(alloc, schema, entry, at)?;
-    leaf_value(alloc, schema, config, &path, at)
+    if !schema.is_key(at) {
+        return row_or_default(alloc, schema, config, near, &path, at);
+    }
+    let list = front(alloc, &path)?;
+    key_in_entry(schema, at, &list)
 }
 
 // The values of some leafs in an entry, where all have one.
@@ -39,14 +47,16 @@ fn unique_values<M: RowMap>(
     alloc: Global,
     schema: &Schema,
     config: &M,
+    near: &[NodeRow<'_>],
     entry: &Path,
     leafs: &[usize],
 ) -> Result<Option<Vec<Value>>, NoMemory>
+    requires { AreRows (M.rows config.now) near.now }
     ensures { IfOk result (λ found. spec.items_in found ≡ value_spec.unique_values schema.now (M.rows config.now) entry.now leafs.now) }
 {
     let mut values = Vec::new(alloc);
     for at in leafs {
-        let Some(value) = value_in(alloc, schema, config, entry, *at)? else {
+        let Some(value) = value_in(alloc, schema, config, near, entry, *at)? else {
             return Ok(None);
         };
         values.push(value)?;
@@ -54,10 +64,22 @@ fn unique_values<M: RowMap>(
     Ok(Some(values))
 }
 
-// A path for these values in the list of an entry: entries of one list have the same path exactly where they have the same values.
-fn unique_path(alloc: Global, entry: &Path, values: Vec<Value>) -> Result<Path, NoMemory>
-    ensures { IfOk result (λ path. path ≡ spec.unique_path entry.now values.items) }
+// A path for the values of some leafs in an entry, where all have one: entries of one list have the same path exactly where
+// they have the same values.
+fn key_of<M: RowMap>(
+    alloc: Global,
+    schema: &Schema,
+    config: &M,
+    near: &[NodeRow<'_>],
+    leafs: &[usize],
+    entry: &Path,
+) -> Result<Option<Path>, NoMemory>
+    requires { AreRows (M.rows config.now) near.now }
+    ensures { IfOk result (λ key. key ≡ spec.key_of schema.now (M.rows config.now) leafs.now entry.now) }
 {
+    let Some(values) = unique_values(alloc, schema, config, near, entry, leafs)? else {
+        return Ok(None);
+    };
     let mut path = front(alloc, entry)?;
     let step = Step {
         module: Label::new(alloc, "")?,
@@ -65,7 +87,7 @@ fn unique_path(alloc: Global, entry: &Path, values: Vec<Value>) -> Result<Path, 
         chosen: Chosen::Keys(values),
     };
     path.steps.insert(0, step)?;
-    Ok(path)
+    Ok(Some(path))
 }
 
 // Whether an entry that was seen has the values that this one has, which is seen from now on.
@@ -73,17 +95,18 @@ fn see<M: RowMap>(
     alloc: Global,
     schema: &Schema,
     config: &M,
+    near: &[NodeRow<'_>],
     leafs: &[usize],
     entry: &Path,
     seen: &mut Config,
 ) -> Result<bool, NoMemory>
+    requires { AreRows (M.rows config.now) near.now }
     ensures told { IfOk result (λ is. is ≡ spec.is_seen seen.old (spec.key_of schema.now (M.rows config.now) leafs.now entry.now)) }
     ensures seen { IfOk result (λ _. seen.new ≡ spec.with_seen seen.old (spec.key_of schema.now (M.rows config.now) leafs.now entry.now)) }
 {
-    let Some(values) = unique_values(alloc, schema, config, entry, leafs)? else {
+    let Some(path) = key_of(alloc, schema, config, near, leafs, entry)? else {
         return Ok(false);
     };
-    let path = unique_path(alloc, entry, values)?;
     let before = seen.put(path, Value::Present)?;
     Ok(before.is_some())
 }
@@ -103,21 +126,105 @@ fn with_entry(
     Ok(with_path(found, entry.copy(alloc)?))
 }
 
+// The rows behind the first of these that is of a node.
+fn behind_first<'s, 'r>(rows: &'s [NodeRow<'r>], node: usize) -> &'s [NodeRow<'r>]
+    ensures { (m : Rows) → AreRows m rows.now → AreRows m result.now }
+{
+    let mut rest = rows;
+    'rows: while let [row, more @ ..] = rest {
+        rest = more;
+        if row.node == Some(node) {
+            return rest;
+        }
+    }
+    rest
+}
+
+// Puts the path for the values of some leafs in an entry behind others, where all have one.
+fn put_key<M: RowMap>(
+    alloc: Global,
+    schema: &Schema,
+    config: &M,
+    near: &[NodeRow<'_>],
+    leafs: &[usize],
+    entry: &Path,
+    keys: &mut Vec<(Path, Value)>,
+) -> Result<(), NoMemory>
+    requires { AreRows (M.rows config.now) near.now }
+    ensures { OnOk result (keys.new.items ≡ keys.old.items ++ spec.row_by (spec.key_of schema.now (M.rows config.now) leafs.now entry.now)) }
+{
+    let Some(path) = key_of(alloc, schema, config, near, leafs, entry)? else {
+        return Ok(());
+    };
+    keys.push((path, Value::Present))?;
+    Ok(())
+}
+
+// The paths for the values of some leafs in the entries of a list.
+fn keys_of<M: RowMap>(
+    alloc: Global,
+    schema: &Schema,
+    config: &M,
+    rows: &[NodeRow<'_>],
+    list: usize,
+    leafs: &[usize],
+    entries: &[&Path],
+) -> Result<Vec<(Path, Value)>, NoMemory>
+    requires { AreRows (M.rows config.now) rows.now }
+    ensures { IfOk result (λ keys. keys.items ≡ spec.keys_in schema.now (M.rows config.now) leafs.now (each (λ entry. entry.now) entries.now)) }
+{
+    let mut keys = Vec::new(alloc);
+    let mut rest = rows;
+    for entry in entries {
+        rest = behind_first(rest, list);
+        put_key(alloc, schema, config, rest, leafs, entry, &mut keys)?;
+    }
+    Ok(keys)
+}
+
+// Whether no two entries of a list have the same values in some leafs: as many paths are kept for them as there are.
+fn are_apart<M: RowMap>(
+    alloc: Global,
+    schema: &Schema,
+    config: &M,
+    rows: &[NodeRow<'_>],
+    list: usize,
+    leafs: &[usize],
+    entries: &[&Path],
+) -> Result<bool, NoMemory>
+    requires { AreRows (M.rows config.now) rows.now }
+    ensures { IfOk result (λ apart. apart ≡ true → spec.repeated schema.now (M.rows config.now) leafs.now empty (each (λ entry. entry.now) entries.now) ≡ []) }
+{
+    let keys = keys_of(alloc, schema, config, rows, list, leafs, entries)?;
+    let count = keys.len();
+    let kept = Config::of_rows(alloc, keys)?;
+    Ok(kept.len() == count)
+}
+
 // The least of what was found so far and of the entries of a list that have the same values in some leafs as one before.
 fn least_repeated<M: RowMap>(
     alloc: Global,
     schema: &Schema,
     config: &M,
+    rows: &[NodeRow<'_>],
+    list: usize,
     leafs: &[usize],
     entries: &[&Path],
     found: Option<Path>,
 ) -> Result<Option<Path>, NoMemory>
+    requires { AreRows (M.rows config.now) rows.now }
     ensures { IfOk result (λ least. least ≡ least_with found (spec.repeated schema.now (M.rows config.now) leafs.now empty (each (λ entry. entry.now) entries.now))) }
 {
+    let apart = are_apart(alloc, schema, config, rows, list, leafs, entries)?;
+    if apart {
+        return Ok(found);
+    }
     let mut seen = Config::new(alloc);
     let mut least = found;
+    let mut rest = rows;
     for entry in entries {
-        let repeats = see(alloc, schema, config, leafs, entry, &mut seen)?;
+        rest = behind_first(rest, list);
+        let repeats = see(alloc, schema, config, rest, leafs, entry, &mut seen)?;
         least = with_entry(alloc, least, entry, repeats)?;
     }
     Ok(least)
@@ -135,15 +242,19 @@ fn least_in_all<M: RowMap>(
     alloc: Global,
     schema: &Schema,
     config: &M,
+    rows: &[NodeRow<'_>],
+    list: usize,
     uniques: &[Numbers],
     entries: &[&Path],
     found: Option<Path>,
 ) -> Result<Option<Path>, NoMemory>
+    requires { AreRows (M.rows config.now) rows.now }
     ensures { IfOk result (λ least. least ≡ least_with found (flat_map (λ leafs. spec.repeated schema.now (M.rows config.now) leafs empty (each (λ entry. entry.now) entries.now)) uniques.now)) }
 {
     let mut least = found;
     for leafs in uniques {
-        least = least_repeated(alloc, schema, config, leafs.as_slice(), entries, least)?;
+        let leafs = leafs.as_slice();
+        least = least_repeated(alloc, schema, config, rows, list, leafs, entries, least)?;
     }
     Ok(least)
 }
@@ -153,16 +264,19 @@ fn least_at_node<M: RowMap>(
     alloc: Global,
     schema: &Schema,
     config: &M,
+    rows: &[NodeRow<'_>],
     groups: &[Vec<&Path>],
     at: usize,
     found: Option<Path>,
 ) -> Result<Option<Path>, NoMemory>
+    requires { AreRows (M.rows config.now) rows.now }
     ensures { IfOk result (λ least. least ≡ least_with found (spec.repeated_at schema.now (M.rows config.now) (group.in_group groups.now at) at)) }
 {
     let Some(entries) = entries_of(groups, at) else {
         return Ok(found);
     };
-    let least = least_in_all(alloc, schema, config, schema.uniques(at), entries, found)?;
+    let uniques = schema.uniques(at);
+    let least = least_in_all(alloc, schema, config, rows, at, uniques, entries, found)?;
     Ok(least)
 }
 
@@ -171,14 +285,16 @@ pub fn least_repeated_entry<M: RowMap>(
     alloc: Global,
     schema: &Schema,
     config: &M,
+    grouped: &Grouped<'_>,
 ) -> Result<Option<Path>, NoMemory>
+    requires { group.IsGrouped schema.now (M.rows config.now) grouped.now }
     ensures { IfOk result (λ found. found ≡ least_at schema.now (M.rows config.now) rule.Unique) }
 {
-    let all = config.listed(alloc)?;
-    let groups = by_node(alloc, schema, &all)?;
+    let rows = grouped.rows.as_slice();
+    let groups = grouped.groups.as_slice();
     let mut least = None;
     for at in 0..schema.len() {
-        least = least_at_node(alloc, schema, config, &groups, at, least)?;
+        least = least_at_node(alloc, schema, config, rows, groups, at, least)?;
     }
     Ok(least)
 }

@@ -1,20 +1,18 @@
 //! The rule of types: each row has a value of its type.
 
-ghost use Rattle.std.specs.Prelude.{◌≡◌, IfOk, None, Some, map, slice_get};
-ghost use Rattle.std.specs.Map.Iter.{deref_pair};
-ghost use Rattle.nm_types.specs.declared.value.Value.TheVariants.{Present};
-ghost use Rattle.nm_types.specs.Value.{is_same_value};
+ghost use Rattle.std.specs.Prelude.{◌≡◌, IfOk, slice_get};
 ghost use Rattle.nm_types.specs.Chosen.{choice_of};
 ghost use Rattle.nm_tree.specs.Nodes.{type_at};
 ghost use Rattle.nm_rules.specs.declared.rule.Rule.TheVariants as rule;
 ghost use Rattle.nm_rules.specs.Violated as spec;
 ghost use Rattle.nm_rules.specs.Violation.{least_at};
-ghost use Rattle.nm_validate.specs.Listed.{first_bad_value};
+ghost use Rattle.nm_validate.specs.Groups.{IsGrouped};
+ghost use Rattle.nm_validate.specs.Listed as row_spec;
 
+use crate::areas::{Grouped, NodeRow};
 use crate::fits::fits_at;
 use nm_base::NoMemory;
 use nm_config::RowMap;
-use nm_path::node_of;
 use nm_tree::{NodeKind, Schema};
 use nm_types::{Chosen, Path, Value};
 use std::alloc::Global;
@@ -40,13 +38,6 @@ fn is_own_entry(path: &Path, value: &Value) -> bool
     }
 }
 
-// Whether a value is that of rows which have none.
-fn is_present(value: &Value) -> bool
-    ensures { result ≡ is_same_value Present value.now }
-{
-    Value::Present == *value
-}
-
 // Whether the row of a node has a value that rows of it have.
 fn fits_node(
     alloc: Global,
@@ -61,8 +52,8 @@ fn fits_node(
         return Ok(false);
     };
     match &node.kind {
-        NodeKind::Container { .. } => Ok(is_present(value)),
-        NodeKind::List { .. } => Ok(is_present(value)),
+        NodeKind::Container { .. } => Ok(Value::Present == *value),
+        NodeKind::List { .. } => Ok(Value::Present == *value),
         NodeKind::Leaf { .. } => fits_at(alloc, schema, at, value),
         NodeKind::LeafList { .. } => {
             if !is_own_entry(path, value) {
@@ -74,12 +65,12 @@ fn fits_node(
 }
 
 // Whether a row has a value of its type.
-fn fits_row(alloc: Global, schema: &Schema, path: &Path, value: &Value) -> Result<bool, NoMemory>
-    ensures { IfOk result (λ fits. fits ≡ spec.fits_row schema.now path.now (Some value.now)) }
+fn fits_row(alloc: Global, schema: &Schema, row: &NodeRow<'_>) -> Result<bool, NoMemory>
+    ensures { IfOk result (λ fits. fits ≡ row_spec.has_its_type schema.now.nodes row.now) }
 {
-    match node_of(schema, path) {
+    match row.node {
         None => Ok(false),
-        Some(at) => fits_node(alloc, schema, at, path, value),
+        Some(at) => fits_node(alloc, schema, at, row.path, row.value),
     }
 }
 
@@ -87,27 +78,28 @@ fn fits_row(alloc: Global, schema: &Schema, path: &Path, value: &Value) -> Resul
 fn first_bad_value(
     alloc: Global,
     schema: &Schema,
-    all: &[(&Path, &Value)],
+    rows: &[NodeRow<'_>],
 ) -> Result<Option<Path>, NoMemory>
-    ensures { IfOk result (λ found. found ≡ first_bad_value schema.now (map deref_pair all.now)) }
+    ensures { IfOk result (λ found. found ≡ row_spec.first_bad_value schema.now.nodes rows.now) }
 {
-    for (path, value) in all {
-        if !fits_row(alloc, schema, path, value)? {
-            return Ok(Some(path.copy(alloc)?));
+    for row in rows {
+        if !fits_row(alloc, schema, row)? {
+            return Ok(Some(row.path.copy(alloc)?));
         }
     }
     Ok(None)
 }
 
-/// The least path of a row whose value isn't of its type (RFC 7950 sections 9.1, 7.6.3 and 7.7.3).
+/// The least path of a row of a configuration whose value isn't of its type (RFC 7950 sections 9.1, 7.6.3 and 7.7.3).
 #[tactic(auto, using(crate::proofs::Rows::bad_values))]
 pub fn least_bad_value<M: RowMap>(
     alloc: Global,
     schema: &Schema,
     config: &M,
+    grouped: &Grouped<'_>,
 ) -> Result<Option<Path>, NoMemory>
+    requires { IsGrouped schema.now (M.rows config.now) grouped.now }
     ensures { IfOk result (λ found. found ≡ least_at schema.now (M.rows config.now) rule.ValueType) }
 {
-    let all = config.listed(alloc)?;
-    first_bad_value(alloc, schema, &all)
+    first_bad_value(alloc, schema, &grouped.rows)
 }

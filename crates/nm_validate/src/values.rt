@@ -1,9 +1,8 @@
 //! The values of leafs: those of rows, those of keys, and defaults in use.
 
-ghost use Rattle.std.specs.Prelude.{◌≡◌, ◌++◌, IfOk, drop, length, map as each, option_copied};
+ghost use Rattle.std.specs.Prelude.{◌≡◌, ◌++◌, IfOk, Some, drop, length, map as each, option_copied};
 ghost use Rattle.nm_types.specs.Chosen.{choice_of};
-ghost use Rattle.nm_tree.specs.Nodes.{keys_at, parent_of};
-ghost use Rattle.std.specs.FinMap.{contains_key};
+ghost use Rattle.std.specs.FinMap.{contains_key, get};
 ghost use Rattle.nm_path.specs.Spelling as path_spec;
 ghost use Rattle.nm_config.specs.Under as under_spec;
 ghost use Rattle.nm_rules.specs.Cases as case_spec;
@@ -12,8 +11,10 @@ ghost use Rattle.nm_rules.specs.Guards as guard;
 ghost use Rattle.nm_rules.specs.Places as place_spec;
 ghost use Rattle.nm_rules.specs.Values as spec;
 ghost use Rattle.nm_rules.specs.Violated.{last_chosen};
+ghost use Rattle.nm_validate.specs.Listed.{AreRows};
 ghost use Rattle.nm_validate.specs.Repeated.{is_open, row_or_default};
 
+use crate::areas::NodeRow;
 use crate::cases::{bare, is_allowed, members_of};
 use crate::keys::values_in;
 use crate::too_few::front;
@@ -45,21 +46,14 @@ fn key_value<'v>(keys: &[usize], at: usize, values: &'v [Value]) -> Option<&'v V
     None
 }
 
-// The keys of the list that a node stands in.
-fn keys_around(schema: &Schema, at: usize) -> &[usize]
-    ensures { result.now ≡ keys_at schema.now.nodes (parent_of schema.now.nodes at) }
-{
-    match schema.parent(at) {
-        None => &[],
-        Some(list) => schema.keys(list),
-    }
-}
-
 /// The value of a key leaf in an entry, which its path has.
 pub fn key_in_entry(schema: &Schema, at: usize, entry: &Path) -> Result<Option<Value>, NoMemory>
     ensures { IfOk result (λ value. value ≡ spec.key_in_entry schema.now at entry.now) }
 {
-    match key_value(keys_around(schema, at), at, values_in(entry)) {
+    let Some(list) = schema.parent(at) else {
+        return Ok(None);
+    };
+    match key_value(schema.keys(list), at, values_in(entry)) {
         None => Ok(None),
         Some(value) => Ok(Some(value.copy()?)),
     }
@@ -224,37 +218,55 @@ pub fn default_in_use<M: RowMap>(
     Ok(Some(value.copy()?))
 }
 
-// The value of a leaf that is no key.
-fn row_or_default<M: RowMap>(
+// How many rows are looked at before one is looked up by its path.
+const NEAR: usize = 64;
+
+// The value of the row at a path to a node. The first few of these rows are looked at before it is looked up: those of one
+// entry stand together.
+fn value_near<'v, M: RowMap>(
+    config: &'v M,
+    near: &[NodeRow<'v>],
+    path: &Path,
+    at: usize,
+) -> Option<&'v Value>
+    requires { AreRows (M.rows config.now) near.now }
+    ensures { option_copied result ≡ get (M.rows config.now) path.now }
+{
+    let mut rest = near;
+    let mut left = NEAR;
+    'rows: while left > 0 {
+        let [row, more @ ..] = rest else {
+            return config.value(path);
+        };
+        if row.node == Some(at) {
+            let own = row.path;
+            if *own == *path {
+                return Some(row.value);
+            }
+            return config.value(path);
+        }
+        rest = more;
+        left -= 1;
+    }
+    config.value(path)
+}
+
+/// The value of a leaf that is no key at a path: that of its row, which may be one of the first of these, or its default in use.
+pub fn row_or_default<M: RowMap>(
     alloc: Global,
     schema: &Schema,
     config: &M,
+    near: &[NodeRow<'_>],
     path: &Path,
     at: usize,
 ) -> Result<Option<Value>, NoMemory>
+    requires { AreRows (M.rows config.now) near.now }
     ensures { IfOk result (λ value. value ≡ row_or_default schema.now (M.rows config.now) path.now at) }
 {
-    match config.value(path) {
+    match value_near(config, near, path, at) {
         Some(value) => Ok(Some(value.copy()?)),
         None => default_in_use(alloc, schema, config, path, at),
     }
-}
-
-/// The value of a leaf at a path: that of its key, of its row, or its default in use.
-pub fn leaf_value<M: RowMap>(
-    alloc: Global,
-    schema: &Schema,
-    config: &M,
-    path: &Path,
-    at: usize,
-) -> Result<Option<Value>, NoMemory>
-    ensures { IfOk result (λ value. value ≡ spec.leaf_value schema.now (M.rows config.now) path.now at) }
-{
-    if !schema.is_key(at) {
-        return row_or_default(alloc, schema, config, path, at);
-    }
-    let entry = front(alloc, path)?;
-    key_in_entry(schema, at, &entry)
 }
 
 // ---- the way down to a leaf
@@ -286,12 +298,11 @@ fn behind(numbers: &[usize], count: usize) -> &[usize]
 fn with_bare(alloc: Global, schema: &Schema, path: Path, nodes: &[usize]) -> Result<Path, NoMemory>
     ensures { IfOk result (λ longer. longer ≡ path ++ each (case_spec.bare schema.now.nodes) nodes.now) }
 {
-    let mut longer = path;
+    let mut steps = path.steps;
     for at in nodes {
-        let step = bare(alloc, schema, *at)?;
-        longer = longer.with_step(alloc, step)?;
+        steps.push(bare(alloc, schema, *at)?)?;
     }
-    Ok(longer)
+    Ok(Path { steps })
 }
 
 /// The path of a leaf in an entry above it.

@@ -31,5 +31,5 @@ returns g c =
     let test_is = c.loop-choice-test.false in
     let end_is = c.choice_count-choice-end.ensures in
     let done : length t.choices - c.loop-choice.choice ≡ 0 = omega (arith, test_is, end_is) in
-    let are = listed_places rows c.in_ok-all.all.items c.deref.result.now places c.deref.ensures.value c.in_ok-all.ensures c.in_ok-places.ensures in
+    let are = listed_places t rows c.args.grouped.now c.deref.result.now places c.deref.ensures.value c.requires c.in_ok-places.ensures in
     all_choices t rows c.laws.ensures places are c.loop-choice.choice c.loop-choice.least done c.loop-choice.invariant

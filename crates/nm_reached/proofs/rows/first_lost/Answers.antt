@@ -4,7 +4,7 @@ use Rattle.nm_reached.specs.Known.{Knows}
 use Rattle.nm_reached.proofs.Knowing.{knows_nothing}
 use Rattle.nm_reached.proofs.rows.first_lost.Goals as goal
 
-pub loop-path-init : goal.loop-path-init
-loop-path-init g c =
+pub loop-row-init : goal.loop-row-init
+loop-row-init g c =
     let rows = g.M.RowMap.rows c.args.config.now in
     (subst (λ (m : Rows). Knows c.args.schema.now rows m) (sym c.new-kept.ensures) (knows_nothing c.args.schema.now rows), refl)

@@ -1,14 +1,13 @@
 use Rattle.std.proofs.Common.{◌≡◌, ◌<◌, ◌-◌, length, ◌∙◌, arith}
 use Rattle.nm_validate.specs.Choosing.{missing_places}
 use Rattle.nm_validate.proofs.Leasts.{turn_all}
-use Rattle.nm_validate.proofs.Loops.{listed_groups}
+use Rattle.nm_validate.proofs.Loops.{lent_groups}
 use Rattle.nm_validate.proofs.Choosing.{all_choices}
 use Rattle.nm_validate.proofs.choices.least_missing_choice.Goals as goal
 
 pub least_at_choice-requires-clause-groups : goal.least_at_choice-requires-clause-groups
 least_at_choice-requires-clause-groups g c =
-    listed_groups c.args.schema.now (g.M.RowMap.rows c.args.config.now) c.in_ok-all.all.items c.deref.result.now c.in_ok-groups.groups.items c.deref-in-loop-at.result.now
-    c.deref.ensures.value c.in_ok-all.ensures c.in_ok-groups.ensures c.deref-in-loop-at.ensures.value
+    lent_groups c.args.schema.now (g.M.RowMap.rows c.args.config.now) c.args.grouped.now c.as_slice-groups.result.now c.requires.grouped c.as_slice-groups.ensures.value
 
 pub loop-at-preserved : goal.loop-at-preserved
 loop-at-preserved g c =
@@ -23,4 +22,4 @@ returns g c =
     let test_is = c.loop-at-test.false in
     let end_is = c.choice_count-at-end.ensures in
     let done : length c.args.schema.now.choices - c.loop-at.at ≡ 0 = omega (arith, test_is, end_is) in
-    all_choices c.args.schema.now (g.M.RowMap.rows c.args.config.now) c.requires.tree c.loop-at.at c.loop-at.least done c.loop-at.invariant
+    all_choices c.args.schema.now (g.M.RowMap.rows c.args.config.now) c.requires.sound.tree c.loop-at.at c.loop-at.least done c.loop-at.invariant

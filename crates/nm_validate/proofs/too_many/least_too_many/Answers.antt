@@ -3,13 +3,12 @@ use Rattle.nm_rules.specs.declared.rule.Rule.TheVariants.{MaxElements}
 use Rattle.nm_rules.specs.Places.{places}
 use Rattle.nm_rules.specs.Violated.{violated}
 use Rattle.nm_validate.proofs.Leasts.{turn}
-use Rattle.nm_validate.proofs.Loops.{listed_groups, all_looked}
+use Rattle.nm_validate.proofs.Loops.{lent_groups, all_looked}
 use Rattle.nm_validate.proofs.too_many.least_too_many.Goals as goal
 
 pub least_at_node-requires-clause-groups : goal.least_at_node-requires-clause-groups
 least_at_node-requires-clause-groups g c =
-    listed_groups c.args.schema.now (g.M.RowMap.rows c.args.config.now) c.in_ok-all.all.items c.deref.result.now c.in_ok-groups.groups.items c.deref-in-loop-at.result.now
-    c.deref.ensures.value c.in_ok-all.ensures c.in_ok-groups.ensures c.deref-in-loop-at.ensures.value
+    lent_groups c.args.schema.now (g.M.RowMap.rows c.args.config.now) c.args.grouped.now c.as_slice-groups.result.now c.requires.grouped c.as_slice-groups.ensures.value
 
 pub loop-at-preserved : goal.loop-at-preserved
 loop-at-preserved g c =

@@ -1,7 +1,6 @@
 use Rattle.std.proofs.Common.{map, ap, sym, ◌∙◌}
 use Rattle.std.specs.List.{flat_map}
 use Rattle.std.specs.FinMap.{empty}
-use Rattle.nm_tree.specs.Nodes.{uniques_at}
 use Rattle.nm_validate.specs.Least.{least_with}
 use Rattle.nm_validate.specs.Repeated.{repeated}
 use Rattle.nm_validate.proofs.Repeated.{none_repeated, group_repeated}
@@ -16,6 +15,6 @@ returns g c =
     let t = c.args.schema.now in
     let rows = g.M.RowMap.rows c.args.config.now in
     c.in_ok-least.ensures
-    ∙ ap (λ l. least_with c.args.found (flat_map (λ leafs. repeated t rows leafs empty (map (λ entry. entry.now) l)) c.uniques.result.now)) c.deref.ensures.value
-    ∙ ap (λ l. least_with c.args.found (flat_map (λ leafs. repeated t rows leafs empty (map (λ entry. entry.now) c.in-Some.entries.now.items)) l)) c.uniques.ensures
+    ∙ ap (λ l. least_with c.args.found (flat_map (λ leafs. repeated t rows leafs empty (map (λ entry. entry.now) l)) c.uniques-uniques.result.now)) c.deref.ensures.value
+    ∙ ap (λ l. least_with c.args.found (flat_map (λ leafs. repeated t rows leafs empty (map (λ entry. entry.now) c.in-Some.entries.now.items)) l)) c.uniques-uniques.ensures
     ∙ ap (least_with c.args.found) (group_repeated t rows c.args.groups.now c.args.at c.in-Some.entries.now c.in-Some.ensures)
