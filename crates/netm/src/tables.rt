@@ -4,12 +4,14 @@ mod changes;
 mod data;
 mod devices;
 mod events;
+mod faults;
 mod limits;
 mod members;
 mod modules;
 mod operators;
 mod pending;
 mod pointers;
+mod refusals;
 mod replay;
 mod requests;
 mod whole;
@@ -36,21 +38,42 @@ struct Frame {
 
 // The status for an input, and what is written.
 fn written(alloc: Global, command: &str, bytes: &[u8]) -> Result<(u8, String), Fail> {
-    let mut words = Vec::new(alloc);
-    words.push(String::from_str(alloc, command)?)?;
+    let mut journal = MemoryDisk::with_limit(alloc, 256, 256)?;
+    written_over(alloc, &[command], bytes, &mut journal)
+}
+
+// The same of a program whose journal is kept on a disk.
+fn written_over(
+    alloc: Global,
+    words: &[&str],
+    bytes: &[u8],
+    journal: &mut MemoryDisk,
+) -> Result<(u8, String), Fail> {
+    let mut list = Vec::new(alloc);
+    for word in words {
+        list.push(String::from_str(alloc, word)?)?;
+    }
     let bytes = Vec::from_slice(alloc, bytes)?;
     let mut input = MemorySource::new(bytes, Vec::new(alloc));
     let mut output = MemorySink::new(alloc, 8192, Vec::new(alloc))?;
-    let mut journal = MemoryDisk::with_limit(alloc, 64, 32)?;
-    let status = console(
-        alloc,
-        words.as_slice(),
-        &mut input,
-        &mut output,
-        &mut journal,
-    );
+    let status = console(alloc, list.as_slice(), &mut input, &mut output, journal);
     let text = str::from_utf8(output.taken())?;
     Ok((status.code(), String::from_str(alloc, text)?))
+}
+
+// Fails where the replay of a scenario ends with another status or text.
+fn replays_so(
+    alloc: Global,
+    name: &str,
+    scenario: &str,
+    status: u8,
+    want: &str,
+) -> Result<(), Fail> {
+    let (code, found) = written(alloc, "replay", scenario.as_bytes())?;
+    if code == status && found.as_str() == want {
+        return Ok(());
+    }
+    Err(Fail::new(format_args!("{name}: {code} {found}")))
 }
 
 // Fails where something else is written for a row. A fault has status 3.

@@ -17,11 +17,11 @@ beyond : (counted at_ : ℕ) → counted < at_ → at_ ≢ counted + 1 → count
 beyond counted at_ over other = omega (arith, over, other)
 
 -- a fault that comes at another request
-passed : (entry : PlanEntry) (later : List PlanEntry) (request : ℕ) → entry.at ≢ request → fault_at (entry ∷ later) request ≡ fault_at later request
+pub passed : (entry : PlanEntry) (later : List PlanEntry) (request : ℕ) → entry.at ≢ request → fault_at (entry ∷ later) request ≡ fault_at later request
 passed entry later request other = ap (λ b. if b then Some entry.fault else fault_at later request) (apart entry.at request other)
 
 -- none comes where all come later
-none_before : (above request : ℕ) (plan : List PlanEntry) → Ascend above plan → request ≤ above → fault_at plan request ≡ None
+pub none_before : (above request : ℕ) (plan : List PlanEntry) → Ascend above plan → request ≤ above → fault_at plan request ≡ None
 none_before above request [] ascends le = refl
 none_before above request (entry ∷ later) ascends le =
     let over = ascends.0 in

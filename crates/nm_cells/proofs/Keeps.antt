@@ -1,5 +1,5 @@
 -- What happens at a device keeps what is true of it.
-use Rattle.std.proofs.Common.{Option, Some, None, ◌≡◌, ℕ, ◌+◌, ◌-◌, ◌*◌, ◌^◌, ◌<◌, ◌≤◌, ◌==◌, Bool, true, false, not, ◌&&◌, ◌||◌, is_some, if◌then◌else◌, List, [], ◌∷◌, ◌++◌, length, slice_get, refl, sym, ap, ◌∙◌, subst, arith}
+use Rattle.std.proofs.Common.{Some, ◌≡◌, ℕ, ◌+◌, ◌-◌, ◌*◌, ◌^◌, ◌<◌, ◌≤◌, ◌==◌, Bool, true, false, not, ◌&&◌, ◌||◌, is_some, if◌then◌else◌, List, [], ◌∷◌, ◌++◌, length, slice_get, refl, sym, ap, ◌∙◌, subst, arith}
 use Rattle.std.specs.List.{list_any}
 use Rattle.std.specs.Str.{bytes_eq}
 use Rattle.nm_base.specs.Words.{manager}
@@ -16,9 +16,9 @@ use Rattle.nm_sessions.specs.Sessions.{SessionsState, is_open}
 use Rattle.nm_device.specs.Device.{DeviceState, IsSound, IsInTime, fresh_device}
 use Rattle.nm_device.specs.Table.{device_step, is_opening}
 use Rattle.nm_history.specs.declared.event.DeviceEvent.{DeviceEvent}
-use Rattle.nm_history.specs.declared.event.DeviceEvent.TheVariants.{Entered, Asked, Lost, Advanced, Restarted}
+use Rattle.nm_history.specs.declared.event.DeviceEvent.TheVariants.{Entered, Asked, Lost}
 use Rattle.nm_history.specs.declared.event.Noted.{Noted}
-use Rattle.nm_history.specs.History.{RecordedState, Happened, noted, entering, answered, losing, recorded, recorded_with, recorded_if, recorded_after, happened_if, device_event}
+use Rattle.nm_history.specs.History.{RecordedState, Happened, entering, answered, losing, recorded_with, recorded_if, happened_if, device_event}
 use Rattle.nm_history.specs.Leads.{Leads}
 use Rattle.nm_history.proofs.Histories.{leads_push, leads_none}
 use Rattle.nm_plan.specs.Run.{Run}

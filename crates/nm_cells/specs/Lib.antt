@@ -5,3 +5,6 @@ pub mod Ended
 pub mod Serve
 pub mod Asking
 pub mod End
+pub mod Grows
+pub mod State
+pub mod Follows

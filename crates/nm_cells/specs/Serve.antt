@@ -1,18 +1,17 @@
 -- A request at a device of a run, under the faults that are planned for it (this project's own, over RFC 6241 sections 7, 8 and
 -- 8.4.1): what is told of it, what happens at the device, and what the caller's pass gets. A fault comes at just the request
 -- of the manager that it names.
-use Rattle.std.specs.Prelude.{◌≡◌, ℕ, ◌+◌, Bool, true, false, not, ◌&&◌, List, [], ◌∷◌, ◌++◌, length, Option, Some, None, is_some, ◌⊎◌, MatchBool}
+use Rattle.std.specs.Prelude.{◌≡◌, ℕ, ◌+◌, Bool, true, false, not, ◌&&◌, List, [], ◌∷◌, ◌++◌, length, Option, Some, None, ◌⊎◌, MatchBool}
 use Rattle.std.specs.Str.{bytes_eq}
 use Rattle.nm_base.specs.Words.{manager}
 use Rattle.nm_proto.specs.declared.message.Request.{Request}
 use Rattle.nm_proto.specs.declared.message.Reply.{Reply}
-use Rattle.nm_proto.specs.declared.message.Reply.TheVariants.{Done, Opened, LockId, Mark, Rows, Error}
+use Rattle.nm_proto.specs.declared.message.Reply.TheVariants.{Opened}
 use Rattle.nm_proto.specs.Content.{Meaning, TablesState}
 use Rattle.nm_sessions.specs.Sessions.{is_open}
-use Rattle.nm_device.specs.Table.{device_step, opening_user, is_opening}
+use Rattle.nm_device.specs.Table.{device_step, opening_user}
 use Rattle.nm_history.specs.declared.event.DeviceEvent.{DeviceEvent}
 use Rattle.nm_history.specs.declared.event.DeviceEvent.TheVariants.{Entered, Asked, Lost, Advanced, Restarted}
-use Rattle.nm_history.specs.declared.event.Noted.{Noted}
 use Rattle.nm_history.specs.History.{Happened, noted, entering, answered, losing, advancing, restarting, recorded_with}
 use Rattle.nm_plan.specs.declared.fault.PlanFault.{PlanFault}
 use Rattle.nm_plan.specs.declared.fault.PlanFault.TheVariants.{Drop, Cut, Restart, Advance}
@@ -20,7 +19,7 @@ use Rattle.nm_cells.specs.declared.asked.Asked.{Asked as Told}
 use Rattle.nm_cells.specs.declared.asked.Asked.TheVariants.{Answered, Broken}
 use Rattle.nm_cells.specs.declared.pass.PassOwner.{PassOwner}
 use Rattle.nm_cells.specs.declared.pass.PassEntry.{PassEntry}
-use Rattle.nm_cells.specs.Pass.{PassState, is_operator}
+use Rattle.nm_cells.specs.Pass.{is_operator}
 use Rattle.nm_cells.specs.Faults.{due, come}
 use Rattle.nm_cells.specs.Kept.{KeptState, kept_with, kept_after, with_room, with_faults, is_managers}
 use Rattle.nm_cells.specs.declared.ended.Found.{Found}

@@ -9,6 +9,7 @@ ghost use Rattle.nm_device.specs.Device.{IsInTime, IsSound};
 ghost use Rattle.nm_device.specs.Table.{asks_for_end, device_step, is_opening};
 ghost use Rattle.nm_history.specs.History.{losing, advancing, restarting, entering, answered, served_as, Serves, Changes};
 ghost use Rattle.nm_cells.specs.Kept.{beside};
+ghost use Rattle.nm_cells.specs.Asking.{has_plain_tag};
 
 use nm_base::{Label, NoMemory, SessionId};
 use nm_device::Device;
@@ -28,6 +29,7 @@ pub(crate) fn enter<C: Content>(
     ensures capacity { vec_capacity history.new ≡ vec_capacity history.old }
     ensures clock { device.new.clock ≡ device.old.clock }
     ensures only_sessions { device.new ≡ record device.old { sessions = device.new.sessions } }
+    ensures plain { IfOk result (λ told. has_plain_tag told.reply ≡ true) }
 {
     let reply = device.open_session(user.copy()?)?;
     let Copies { kept, told } = copies_of(reply, false)?;
@@ -60,6 +62,7 @@ pub(crate) fn ask<C: Content>(
     ensures capacity { vec_capacity history.new ≡ vec_capacity history.old }
     ensures clock { device.new.clock ≡ device.old.clock }
     ensures sound { IsSound (C.meaning content.now) device.new }
+    ensures plain { IfOk result (λ told. has_plain_tag told.reply ≡ true) }
 {
     let asked = request.copy()?;
     let was_pending = device.is_pending();

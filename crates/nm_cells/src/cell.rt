@@ -4,13 +4,16 @@ ghost use Rattle.std.specs.Prelude.{◌≡◌, true, Some, IfOk, OnErr};
 ghost use Rattle.std.specs.List.{All};
 ghost use Rattle.nm_history.specs.History.{event_of};
 ghost use Rattle.nm_cells.specs.Kept.{IsKept};
-ghost use Rattle.nm_cells.specs.Asking.{FindsBy};
+ghost use Rattle.nm_cells.specs.Asking.{FindsBy, is_plain};
+ghost use Rattle.nm_cells.specs.Follows.{FollowsPlans};
 ghost use Rattle.nm_cells.specs.Pass.{is_operator};
+ghost use Rattle.nm_cells.specs.State.{acknowledged, slot_after};
 
 use crate::asked::Asked;
-use crate::kept::KeptDevice;
 use crate::pass::Pass;
+use crate::state::CellState;
 use nm_base::{DeviceNo, NoMemory, SessionId};
+use nm_chronicle::{Chronicle, SlotShares};
 use nm_plan::RunName;
 use nm_proto::{Content, Request, Tables};
 use std::sync::{Mutex, Wait};
@@ -18,7 +21,7 @@ use std::sync::{Mutex, Wait};
 /// A device of a run behind its lock. What its type keeps is so whenever the lock is free.
 pub struct DeviceCell<C: Content, N: RunName<C, C::Config, C::Edit>> {
     device: DeviceNo,
-    state: Mutex<KeptDevice<C, N>>,
+    state: Mutex<CellState<C, N>>,
 }
 
 impl<C: Content, N: RunName<C, C::Config, C::Edit>> Drop for DeviceCell<C, N> {
@@ -32,7 +35,7 @@ impl<C: Content, N: RunName<C, C::Config, C::Edit>> DeviceCell<C, N> {
     ghost use Rattle.nm_cells.specs.End.{FoundHungUp};
 
     /// Puts a device behind a lock, under the number by which passes tell it.
-    pub fn new(device: DeviceNo, state: KeptDevice<C, N>) -> DeviceCell<C, N>
+    pub fn new(device: DeviceNo, state: CellState<C, N>) -> DeviceCell<C, N>
         ensures { result.device ≡ device }
     {
         DeviceCell {
@@ -41,7 +44,7 @@ impl<C: Content, N: RunName<C, C::Config, C::Edit>> DeviceCell<C, N> {
         }
     }
 
-    /// A request of a caller, once the lock is free, as `KeptDevice::serve` answers it. What the caller finds of it stands in the
+    /// A request of a caller, once the lock is free, as `CellState::serve` answers it. What the caller finds of it stands in the
     /// pass, at the place that is told.
     #[tactic(auto, using(crate::proofs::Finds::finds))]
     pub fn ask<R: Wait>(
@@ -49,6 +52,7 @@ impl<C: Content, N: RunName<C, C::Config, C::Edit>> DeviceCell<C, N> {
         rt: &R,
         content: &C,
         tables: &Tables<C>,
+        chronicle: &Mutex<Chronicle<N>>,
         pass: &mut Pass,
         session: Option<SessionId>,
         request: &Request,
@@ -59,10 +63,54 @@ impl<C: Content, N: RunName<C, C::Config, C::Edit>> DeviceCell<C, N> {
         ensures found { IfOk result (λ asked. FindsBy (event_of session request.now) asked pass.old.entries pass.new.entries self.now.device) }
         ensures owner { pass.new.owner ≡ pass.old.owner }
         ensures unchanged { OnErr result (pass.new ≡ pass.old) }
+        ensures plain { IfOk result (λ asked. is_plain asked ≡ true) }
     {
-        self.state
-            .lock(rt)
-            .serve(content, tables, self.device, pass, session, request)
+        self.state.lock(rt).serve(
+            rt,
+            self.device,
+            content,
+            tables,
+            chronicle,
+            pass,
+            session,
+            request,
+        )
+    }
+
+    /// A request of the coordinator of a change set, whose slot is lent, as `CellState::serve_change` answers it.
+    #[tactic(auto, using(crate::proofs::Finds::finds))]
+    pub fn ask_change<R: Wait>(
+        &self,
+        rt: &R,
+        content: &C,
+        tables: &Tables<C>,
+        chronicle: &Mutex<Chronicle<N>>,
+        slot: &mut SlotShares<N>,
+        pass: &mut Pass,
+        session: Option<SessionId>,
+        request: &Request,
+    ) -> Result<Asked, NoMemory>
+        requires content { N.run.content ≡ Some content.now }
+        requires tables { N.run.tables ≡ tables.now }
+        requires edits_belong { All (C.meaning content.now).edit_belongs tables.now.edits }
+        ensures found { IfOk result (λ asked. FindsBy (event_of session request.now) asked pass.old.entries pass.new.entries self.now.device) }
+        ensures slot { IfOk result (λ asked. slot.new ≡ slot_after slot.old (acknowledged pass.old.owner request.now asked)) }
+        ensures owner { pass.new.owner ≡ pass.old.owner }
+        ensures unchanged { OnErr result (pass.new ≡ pass.old) }
+        ensures slot_stays { OnErr result (slot.new ≡ slot.old) }
+        ensures plain { IfOk result (λ asked. is_plain asked ≡ true) }
+    {
+        self.state.lock(rt).serve_change(
+            rt,
+            self.device,
+            content,
+            tables,
+            chronicle,
+            slot,
+            pass,
+            session,
+            request,
+        )
     }
 
     /// An operator hangs up a session, once the lock is free. Answers the place of the loss in the device's history, and
@@ -71,6 +119,7 @@ impl<C: Content, N: RunName<C, C::Config, C::Edit>> DeviceCell<C, N> {
         &self,
         rt: &R,
         content: &C,
+        chronicle: &Mutex<Chronicle<N>>,
         pass: &mut Pass,
         session: SessionId,
     ) -> Result<Option<u32>, NoMemory>
@@ -79,16 +128,19 @@ impl<C: Content, N: RunName<C, C::Config, C::Edit>> DeviceCell<C, N> {
         ensures pass { IfOk result (λ position. FoundHungUp position pass.old pass.new self.now.device session) }
         ensures unchanged { OnErr result (pass.new ≡ pass.old) }
     {
-        self.state.lock(rt).end(content, self.device, pass, session)
+        self.state
+            .lock(rt)
+            .end(rt, self.device, content, chronicle, pass, session)
     }
 
     /// The device, taken out of its lock.
-    pub fn into_state(self) -> KeptDevice<C, N>
-        ensures { IsKept C.meaning N.run result }
+    pub fn into_state(self) -> CellState<C, N>
+        ensures kept { IsKept C.meaning N.run result.kept }
+        ensures follows { FollowsPlans result.kept.faults.plan result.kept.recorded.history }
     {
         let DeviceCell { device: _, state } = self;
         let state = state.into_inner();
-        let _ = state.number();
+        let _ = state.device();
         state
     }
 }

@@ -2,6 +2,7 @@
 
 ghost use Rattle.std.specs.Prelude.{◌≡◌, ◌<◌, ◌+◌, ◌^◌, true, Some, IfOk, OnErr};
 ghost use Rattle.nm_cells.specs.End.{Ends};
+ghost use Rattle.nm_cells.specs.Grows.{GrowsBy};
 ghost use Rattle.nm_cells.specs.Pass.{is_operator};
 
 use crate::kept::KeptDevice;
@@ -17,6 +18,7 @@ impl<C: Content, N: RunName<C, C::Config, C::Edit>> KeptDevice<C, N> {
     ///
     /// Answers None exactly where the session isn't open, and then changes nothing. One of the manager counts as one that
     /// isn't open.
+    #[tactic(auto, using(crate::proofs::Grows::grows_ending))]
     pub fn end(
         &mut self,
         content: &C,
@@ -29,6 +31,7 @@ impl<C: Content, N: RunName<C, C::Config, C::Edit>> KeptDevice<C, N> {
         ensures ended { IfOk result (λ position. Ends (C.meaning content.now) position self.old self.new pass.old pass.new device session) }
         ensures unchanged { OnErr result (self.new ≡ self.old) }
         ensures pass { OnErr result (pass.new ≡ pass.old) }
+        ensures grows { IfOk result (λ position. GrowsBy 3 self.old.recorded.history self.new.recorded.history) }
     {
         if !self.device.has_session(session) {
             return Ok(None);

@@ -1,12 +1,14 @@
 //! A device of a run with its history and the faults that are planned for it.
 
-ghost use Rattle.std.specs.Prelude.{◌≡◌, ◌==◌, ◌≤◌, ◌<◌, ◌+◌, ◌-◌, true, false, Some, IfOk, OnOk, OnErr, slice_get, length, vec_capacity};
+ghost use Rattle.std.specs.Prelude.{◌≡◌, ℕ, ◌==◌, ◌≤◌, ◌<◌, ◌+◌, ◌-◌, true, false, [], None, Some, IfOk, OnOk, OnErr, slice_get, length, vec_capacity};
 ghost use Rattle.std.specs.List.{All, list_any};
 ghost use Rattle.std.specs.Str.{bytes_eq};
 ghost use Rattle.nm_base.specs.Words.{manager};
 ghost use Rattle.nm_plan.specs.Fault.{IsPlan};
 ghost use Rattle.nm_cells.specs.Kept.{with_opened};
 ghost use Rattle.nm_cells.specs.Serve.{advance_of};
+ghost use Rattle.nm_cells.specs.Asking.{has_plain_tag};
+ghost use Rattle.nm_cells.specs.Follows.{clock_if, plans_breaks};
 
 use crate::acts;
 use crate::faults::Faults;
@@ -56,12 +58,13 @@ impl<C: Content, N: RunName<C, C::Config, C::Edit>> Drop for KeptDevice<C, N> {
 impl<C: Content, N: RunName<C, C::Config, C::Edit>> Model for KeptDevice<C, N> {
     ghost use Rattle.std.specs.Prelude.{◌≤◌, ◌+◌, ◌-◌, ◌^◌, length, vec_capacity};
     ghost use Rattle.nm_cells.specs.Kept.{KeptState, IsKept, AreManagers, beside};
+    ghost use Rattle.nm_cells.specs.Follows.{Follows};
 
     ghost Value = { KeptState C.Config C.Node };
 
     ghost view = { λ k. record { number = k.number; recorded = beside k.device k.history.items; spare = k.spare; faults = k.faults } };
 
-    ghost invariant = { λ k. IsKept C.meaning N.run (record { number = k.number; recorded = beside k.device k.history.items; spare = k.spare; faults = k.faults }) × (k.spare + length k.history.items ≤ vec_capacity k.history) × (k.spare + length k.history.items ≤ 2 ^ 32 - 1) × (k.faults.counted ≤ length k.history.items) × AreManagers k.managers.items k.history.items };
+    ghost invariant = { λ k. IsKept C.meaning N.run (record { number = k.number; recorded = beside k.device k.history.items; spare = k.spare; faults = k.faults }) × (k.spare + length k.history.items ≤ vec_capacity k.history) × (k.spare + length k.history.items ≤ 2 ^ 32 - 1) × (k.faults.counted ≤ length k.history.items) × AreManagers k.managers.items k.history.items × Follows k.faults k.history.items };
 }
 
 impl<C: Content, N: RunName<C, C::Config, C::Edit>> KeptDevice<C, N> {
@@ -69,6 +72,7 @@ impl<C: Content, N: RunName<C, C::Config, C::Edit>> KeptDevice<C, N> {
     ghost use Rattle.nm_device.specs.Device.{fresh_device, IsSound};
     ghost use Rattle.nm_cells.specs.Faults.{planned};
     ghost use Rattle.nm_cells.specs.Kept.{fresh_kept, with_room, IsKept};
+    ghost use Rattle.nm_cells.specs.Follows.{FollowsPlans};
 
     /// A device of a run, at which nothing has happened yet, with the faults that are planned for it. It takes no memory.
     pub fn new(
@@ -106,6 +110,7 @@ impl<C: Content, N: RunName<C, C::Config, C::Edit>> KeptDevice<C, N> {
     pub fn device(&self) -> &Device<C>
         ensures device { result.now ≡ self.now.recorded.device }
         ensures kept { IsKept C.meaning N.run self.now }
+        ensures follows { FollowsPlans self.now.faults.plan self.now.recorded.history }
     {
         &self.device
     }
@@ -179,12 +184,15 @@ impl<C: Content, N: RunName<C, C::Config, C::Edit>> KeptDevice<C, N> {
     }
 
     // The clock rises as it is planned for the next request of the manager, where it hasn't already.
+    #[tactic(auto, using(crate::proofs::Follows::come_settles, crate::proofs::Follows::managers_stay))]
     pub(crate) fn prepare(&mut self, content: &C)
         requires room { 1 ≤ self.old.spare }
         requires content { N.run.content ≡ Some content.now }
         ensures prepared { self.new ≡ prepared (C.meaning content.now) self.old }
         ensures sessions { self.new.recorded.device.sessions ≡ self.old.recorded.device.sessions }
         ensures room { self.old.spare ≤ self.new.spare + 1 }
+        ensures settled { advance_of (due self.new.faults) ≡ None }
+        ensures managers { (session : ℕ) → is_managers session self.new.recorded.history ≡ is_managers session self.old.recorded.history }
     {
         if let Some(seconds) = advance_of(&self.due()) {
             self.advance(content, seconds);
@@ -199,13 +207,16 @@ impl<C: Content, N: RunName<C, C::Config, C::Edit>> KeptDevice<C, N> {
     ghost use Rattle.nm_history.specs.History.{entering, answered, losing, advancing, restarting, recorded_with, Happened};
     ghost use Rattle.nm_plan.specs.declared.fault.PlanFault.{PlanFault};
     ghost use Rattle.nm_cells.specs.Faults.{due, come};
-    ghost use Rattle.nm_cells.specs.Kept.{kept_with, with_faults, Tells, Marks};
+    ghost use Rattle.nm_cells.specs.Kept.{kept_with, with_faults, is_managers, Tells, Marks};
 
     // A user asks for a session (RFC 6241 section 8.1).
     pub(crate) fn enter(&mut self, user: Label, counts: bool) -> Result<Told, NoMemory>
         requires room { 1 ≤ self.old.spare }
+        requires counts { counts ≡ bytes_eq user manager }
+        requires clock { clock_if counts (due self.old.faults) ≡ [] }
         ensures entered { IfOk result (λ told. Tells counts told self.old self.new (DeviceEvent.Entered user) (entering self.old.recorded.device user)) }
         ensures unchanged { OnErr result (self.new ≡ self.old) }
+        ensures plain { IfOk result (λ told. has_plain_tag told.reply ≡ true) }
     {
         self.managers.reserve(1)?;
         let is_manager = is_manager(&user);
@@ -231,8 +242,11 @@ impl<C: Content, N: RunName<C, C::Config, C::Edit>> KeptDevice<C, N> {
         requires edits_belong { All (C.meaning content.now).edit_belongs tables.now.edits }
         requires open { is_open self.old.recorded.device.sessions session ≡ true }
         requires asks { is_opening request.now ≡ false }
+        requires counts { counts ≡ is_managers session self.old.recorded.history }
+        requires clock { clock_if counts (due self.old.faults) ≡ [] }
         ensures asked { IfOk result (λ told. Tells counts told self.old self.new (DeviceEvent.Asked session request.now) (answered self.old.recorded.device request.now (device_step (C.meaning content.now) tables.now self.old.recorded.device session request.now))) }
         ensures unchanged { OnErr result (self.new ≡ self.old) }
+        ensures plain { IfOk result (λ told. has_plain_tag told.reply ≡ true) }
     {
         let told = acts::ask(
             &mut self.device,
@@ -252,6 +266,8 @@ impl<C: Content, N: RunName<C, C::Config, C::Edit>> KeptDevice<C, N> {
         requires room { 1 ≤ self.old.spare }
         requires content { N.run.content ≡ Some content.now }
         requires open { is_open self.old.recorded.device.sessions session ≡ true }
+        requires clock { clock_if counts (due self.old.faults) ≡ [] }
+        requires breaks { is_managers session self.old.recorded.history ≡ true → plans_breaks self.old.faults.plan ≡ true }
         ensures { Marks counts result self.old self.new (DeviceEvent.Lost session) (losing (C.meaning content.now) self.old.recorded.device session) }
     {
         self.spare -= 1;
@@ -277,6 +293,7 @@ impl<C: Content, N: RunName<C, C::Config, C::Edit>> KeptDevice<C, N> {
     pub(crate) fn restart(&mut self, content: &C) -> bool
         requires room { 1 ≤ self.old.spare }
         requires content { N.run.content ≡ Some content.now }
+        requires due { due self.old.faults ≡ Some PlanFault.Restart }
         ensures { Marks true result self.old self.new DeviceEvent.Restarted (restarting (C.meaning content.now) self.old.recorded.device) }
     {
         self.spare -= 1;

@@ -14,6 +14,7 @@ pub mod faults;
 pub mod kept;
 pub mod pass;
 pub mod serve;
+pub mod state;
 #[cfg(test)]
 mod tests;
 
@@ -22,3 +23,4 @@ pub use cell::DeviceCell;
 pub use faults::Faults;
 pub use kept::{HISTORY_LIMIT, KeptDevice};
 pub use pass::{Pass, PassEntry, PassOwner};
+pub use state::CellState;

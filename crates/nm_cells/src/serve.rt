@@ -1,12 +1,17 @@
 //! A request at a device, under the faults that are planned for it.
 
-ghost use Rattle.std.specs.Prelude.{◌≡◌, ◌≤◌, ◌<◌, ◌+◌, true, false, Some, IfOk, OnErr, option_copied, length, vec_capacity};
+ghost use Rattle.std.specs.Prelude.{◌≡◌, ◌≤◌, ◌<◌, ◌+◌, true, false, [], None, Some, IfOk, OnErr, option_copied, length, vec_capacity};
 ghost use Rattle.std.specs.List.{All};
 ghost use Rattle.nm_device.specs.Table.{opening_user, is_opening};
-ghost use Rattle.nm_cells.specs.Kept.{with_room};
-ghost use Rattle.nm_cells.specs.Serve.{opened_session, Does, Answers, Breaks, Cuts, ServesManager, ServesSession, OpensManager, ServesOpening, Serves, StaysOrAdvances, Finds, may_ask, asking};
+ghost use Rattle.std.specs.Str.{bytes_eq};
+ghost use Rattle.nm_base.specs.Words.{manager};
+ghost use Rattle.nm_cells.specs.Kept.{with_room, is_managers};
+ghost use Rattle.nm_cells.specs.Grows.{GrowsBy};
+ghost use Rattle.nm_cells.specs.Serve.{advance_of, opened_session, Does, Answers, Breaks, Cuts, ServesManager, ServesSession, OpensManager, ServesOpening, Serves, StaysOrAdvances, Finds, may_ask, asking};
 ghost use Rattle.nm_cells.specs.Ended.{found};
 ghost use Rattle.nm_cells.specs.Pass.{is_operator};
+ghost use Rattle.nm_cells.specs.Asking.{has_plain_tag, is_plain};
+ghost use Rattle.nm_cells.specs.Follows.{clock_if, clock_of_due, plans_breaks};
 
 use crate::asked::Asked;
 use crate::end::place_after;
@@ -48,6 +53,8 @@ impl<C: Content, N: RunName<C, C::Config, C::Edit>> KeptDevice<C, N> {
         ensures owner { pass.new.owner ≡ pass.old.owner }
         ensures no_memory { OnErr result (StaysOrAdvances (C.meaning content.now) self.old self.new) }
         ensures pass { OnErr result (pass.new ≡ pass.old) }
+        ensures grows { GrowsBy 3 self.old.recorded.history self.new.recorded.history }
+        ensures plain { IfOk result (λ asked. is_plain asked ≡ true) }
     {
         let Pass { owner, entries } = pass;
         entries.reserve(2)?;
@@ -81,6 +88,7 @@ impl<C: Content, N: RunName<C, C::Config, C::Edit>> KeptDevice<C, N> {
         ensures served { IfOk result (λ asked. ServesSession (C.meaning content.now) tables.now device owner.now asked self.old self.new entries.old.items entries.new.items session request.now) }
         ensures no_memory { OnErr result (StaysOrAdvances (C.meaning content.now) self.old self.new) }
         ensures pass { OnErr result (entries.new.items ≡ entries.old.items) }
+        ensures plain { IfOk result (λ asked. is_plain asked ≡ true) }
     {
         if !self.may_ask(owner, session) {
             return self.tell_end(device, owner, entries, session);
@@ -112,6 +120,7 @@ impl<C: Content, N: RunName<C, C::Config, C::Edit>> KeptDevice<C, N> {
         ensures found { IfOk result (λ asked. Finds device asked self.old self.new entries.old.items entries.new.items (found owner.now device session entries.old.items self.old.recorded.history)) }
         ensures unchanged { self.new ≡ self.old }
         ensures pass { OnErr result (entries.new.items ≡ entries.old.items) }
+        ensures plain { IfOk result (λ asked. is_plain asked ≡ true) }
     {
         let managers = self.is_managers(session);
         let it = ended::found_at(
@@ -132,9 +141,11 @@ impl<C: Content, N: RunName<C, C::Config, C::Edit>> KeptDevice<C, N> {
 impl<C: Content, N: RunName<C, C::Config, C::Edit>> KeptDevice<C, N> {
     ghost use Rattle.nm_sessions.specs.Sessions.{is_open};
     ghost use Rattle.nm_history.specs.History.{losing};
+    ghost use Rattle.nm_plan.specs.declared.fault.PlanFault.{PlanFault};
     ghost use Rattle.nm_cells.specs.Faults.{due};
 
     // A request of the manager, by the fault that comes with it.
+    #[tactic(auto, using(crate::proofs::Follows::due_breaks))]
     fn serve_manager(
         &mut self,
         content: &C,
@@ -151,9 +162,12 @@ impl<C: Content, N: RunName<C, C::Config, C::Edit>> KeptDevice<C, N> {
         requires edits_belong { All (C.meaning content.now).edit_belongs tables.now.edits }
         requires open { is_open self.old.recorded.device.sessions session ≡ true }
         requires asks { is_opening request.now ≡ false }
+        requires manager { is_managers session self.old.recorded.history ≡ true }
+        requires settled { advance_of (due self.old.faults) ≡ None }
         ensures served { IfOk result (λ asked. ServesManager (C.meaning content.now) tables.now device (due self.old.faults) asked self.old self.new entries.old.items entries.new.items session request.now) }
         ensures unchanged { OnErr result (self.new ≡ self.old) }
         ensures pass { OnErr result (entries.new.items ≡ entries.old.items) }
+        ensures plain { IfOk result (λ asked. is_plain asked ≡ true) }
     {
         match &self.due() {
             None => self.answer(content, tables, device, entries, session, request, true),
@@ -186,9 +200,12 @@ impl<C: Content, N: RunName<C, C::Config, C::Edit>> KeptDevice<C, N> {
         requires edits_belong { All (C.meaning content.now).edit_belongs tables.now.edits }
         requires open { is_open self.old.recorded.device.sessions session ≡ true }
         requires asks { is_opening request.now ≡ false }
+        requires counts { counts ≡ is_managers session self.old.recorded.history }
+        requires clock { clock_if counts (due self.old.faults) ≡ [] }
         ensures answered { IfOk result (λ asked. Answers counts device asked self.old self.new entries.old.items entries.new.items (DeviceEvent.Asked session request.now) (asking (C.meaning content.now) tables.now device self.old session request.now)) }
         ensures unchanged { OnErr result (self.new ≡ self.old) }
         ensures pass { OnErr result (entries.new.items ≡ entries.old.items) }
+        ensures plain { IfOk result (λ asked. is_plain asked ≡ true) }
     {
         let Reached { position, reply } = self.reach(
             content, tables, device, entries, session, request, counts,
@@ -213,9 +230,13 @@ impl<C: Content, N: RunName<C, C::Config, C::Edit>> KeptDevice<C, N> {
         requires edits_belong { All (C.meaning content.now).edit_belongs tables.now.edits }
         requires open { is_open self.old.recorded.device.sessions session ≡ true }
         requires asks { is_opening request.now ≡ false }
+        requires manager { is_managers session self.old.recorded.history ≡ true }
+        requires clock { clock_of_due (due self.old.faults) ≡ [] }
+        requires breaks { plans_breaks self.old.faults.plan ≡ true }
         ensures cut { IfOk result (λ asked. Cuts (C.meaning content.now) device asked self.old self.new entries.old.items entries.new.items (DeviceEvent.Asked session request.now) (asking (C.meaning content.now) tables.now device self.old session request.now) (Some session)) }
         ensures unchanged { OnErr result (self.new ≡ self.old) }
         ensures pass { OnErr result (entries.new.items ≡ entries.old.items) }
+        ensures plain { IfOk result (λ asked. is_plain asked ≡ true) }
     {
         let Reached { position, reply } = self.reach(
             content, tables, device, entries, session, request, true,
@@ -244,10 +265,13 @@ impl<C: Content, N: RunName<C, C::Config, C::Edit>> KeptDevice<C, N> {
         requires edits_belong { All (C.meaning content.now).edit_belongs tables.now.edits }
         requires open { is_open self.old.recorded.device.sessions session ≡ true }
         requires asks { is_opening request.now ≡ false }
+        requires counts { counts ≡ is_managers session self.old.recorded.history }
+        requires clock { clock_if counts (due self.old.faults) ≡ [] }
         ensures done { IfOk result (λ done. Does counts device done.position done.reply self.old self.new entries.old.items entries.new.items (DeviceEvent.Asked session request.now) (asking (C.meaning content.now) tables.now device self.old session request.now)) }
         ensures unchanged { OnErr result (self.new ≡ self.old) }
         ensures pass { OnErr result (entries.new.items ≡ entries.old.items) }
         ensures capacity { vec_capacity entries.new ≡ vec_capacity entries.old }
+        ensures plain { IfOk result (λ done. has_plain_tag done.reply ≡ true) }
     {
         let asked = request.copy()?;
         let position = place_after(self.history.len());
@@ -284,7 +308,10 @@ impl<C: Content, N: RunName<C, C::Config, C::Edit>> KeptDevice<C, N> {
         requires room { length entries.old.items < vec_capacity entries.old }
         requires content { N.run.content ≡ Some content.now }
         requires open { is_open self.old.recorded.device.sessions session ≡ true }
-        ensures { Breaks counts device result self.old self.new entries.old.items entries.new.items (DeviceEvent.Lost session) (losing (C.meaning content.now) self.old.recorded.device session) }
+        requires clock { clock_if counts (due self.old.faults) ≡ [] }
+        requires breaks { is_managers session self.old.recorded.history ≡ true → plans_breaks self.old.faults.plan ≡ true }
+        ensures broken { Breaks counts device result self.old self.new entries.old.items entries.new.items (DeviceEvent.Lost session) (losing (C.meaning content.now) self.old.recorded.device session) }
+        ensures plain { is_plain result ≡ true }
     {
         let position = place_after(self.history.len());
         let undone = self.lose(content, session, counts);
@@ -304,6 +331,7 @@ impl<C: Content, N: RunName<C, C::Config, C::Edit>> KeptDevice<C, N> {
 // Openings of sessions, and restarts.
 impl<C: Content, N: RunName<C, C::Config, C::Edit>> KeptDevice<C, N> {
     ghost use Rattle.nm_history.specs.History.{entering, restarting};
+    ghost use Rattle.nm_plan.specs.declared.fault.PlanFault.{PlanFault};
     ghost use Rattle.nm_cells.specs.Faults.{due};
 
     // Somebody asks for a session.
@@ -319,6 +347,7 @@ impl<C: Content, N: RunName<C, C::Config, C::Edit>> KeptDevice<C, N> {
         ensures served { IfOk result (λ asked. ServesOpening (C.meaning content.now) device asked (with_room self.old) self.new entries.old.items entries.new.items user.now) }
         ensures no_memory { OnErr result (StaysOrAdvances (C.meaning content.now) self.old self.new) }
         ensures pass { OnErr result (entries.new.items ≡ entries.old.items) }
+        ensures plain { IfOk result (λ asked. is_plain asked ≡ true) }
     {
         self.room()?;
         if user.as_str() != MANAGER {
@@ -329,6 +358,7 @@ impl<C: Content, N: RunName<C, C::Config, C::Edit>> KeptDevice<C, N> {
     }
 
     // The manager asks for one, by the fault that comes with that.
+    #[tactic(auto, using(crate::proofs::Follows::due_breaks))]
     fn open_manager(
         &mut self,
         content: &C,
@@ -339,9 +369,12 @@ impl<C: Content, N: RunName<C, C::Config, C::Edit>> KeptDevice<C, N> {
         requires spare { 2 ≤ self.old.spare }
         requires room { length entries.old.items + 2 ≤ vec_capacity entries.old }
         requires content { N.run.content ≡ Some content.now }
+        requires manager { bytes_eq user.now manager ≡ true }
+        requires settled { advance_of (due self.old.faults) ≡ None }
         ensures served { IfOk result (λ asked. OpensManager (C.meaning content.now) device (due self.old.faults) asked self.old self.new entries.old.items entries.new.items user.now) }
         ensures unchanged { OnErr result (self.new ≡ self.old) }
         ensures pass { OnErr result (entries.new.items ≡ entries.old.items) }
+        ensures plain { IfOk result (λ asked. is_plain asked ≡ true) }
     {
         match &self.due() {
             None => self.let_in(device, entries, user, true),
@@ -362,9 +395,12 @@ impl<C: Content, N: RunName<C, C::Config, C::Edit>> KeptDevice<C, N> {
     ) -> Result<Asked, NoMemory>
         requires spare { 1 ≤ self.old.spare }
         requires room { length entries.old.items < vec_capacity entries.old }
+        requires counts { counts ≡ bytes_eq user.now manager }
+        requires clock { clock_if counts (due self.old.faults) ≡ [] }
         ensures answered { IfOk result (λ asked. Answers counts device asked self.old self.new entries.old.items entries.new.items (DeviceEvent.Entered user.now) (entering self.old.recorded.device user.now)) }
         ensures unchanged { OnErr result (self.new ≡ self.old) }
         ensures pass { OnErr result (entries.new.items ≡ entries.old.items) }
+        ensures plain { IfOk result (λ asked. is_plain asked ≡ true) }
     {
         let Reached { position, reply } = self.reach_in(device, entries, user, counts)?;
         Ok(Asked::Answered { position, reply })
@@ -381,9 +417,13 @@ impl<C: Content, N: RunName<C, C::Config, C::Edit>> KeptDevice<C, N> {
         requires spare { 2 ≤ self.old.spare }
         requires room { length entries.old.items + 2 ≤ vec_capacity entries.old }
         requires content { N.run.content ≡ Some content.now }
+        requires manager { bytes_eq user.now manager ≡ true }
+        requires clock { clock_of_due (due self.old.faults) ≡ [] }
+        requires breaks { plans_breaks self.old.faults.plan ≡ true }
         ensures cut { IfOk result (λ asked. Cuts (C.meaning content.now) device asked self.old self.new entries.old.items entries.new.items (DeviceEvent.Entered user.now) (entering self.old.recorded.device user.now) (opened_session (entering self.old.recorded.device user.now).reply)) }
         ensures unchanged { OnErr result (self.new ≡ self.old) }
         ensures pass { OnErr result (entries.new.items ≡ entries.old.items) }
+        ensures plain { IfOk result (λ asked. is_plain asked ≡ true) }
     {
         let Reached { position, reply } = self.reach_in(device, entries, user, true)?;
         let Some(session) = opened_session(&reply) else {
@@ -405,10 +445,13 @@ impl<C: Content, N: RunName<C, C::Config, C::Edit>> KeptDevice<C, N> {
     ) -> Result<Reached, NoMemory>
         requires spare { 1 ≤ self.old.spare }
         requires room { length entries.old.items < vec_capacity entries.old }
+        requires counts { counts ≡ bytes_eq user.now manager }
+        requires clock { clock_if counts (due self.old.faults) ≡ [] }
         ensures done { IfOk result (λ done. Does counts device done.position done.reply self.old self.new entries.old.items entries.new.items (DeviceEvent.Entered user.now) (entering self.old.recorded.device user.now)) }
         ensures unchanged { OnErr result (self.new ≡ self.old) }
         ensures pass { OnErr result (entries.new.items ≡ entries.old.items) }
         ensures capacity { vec_capacity entries.new ≡ vec_capacity entries.old }
+        ensures plain { IfOk result (λ done. has_plain_tag done.reply ≡ true) }
     {
         let entered = user.copy()?;
         let position = place_after(self.history.len());
@@ -439,7 +482,9 @@ impl<C: Content, N: RunName<C, C::Config, C::Edit>> KeptDevice<C, N> {
         requires spare { 1 ≤ self.old.spare }
         requires room { length entries.old.items < vec_capacity entries.old }
         requires content { N.run.content ≡ Some content.now }
-        ensures { Breaks true device result self.old self.new entries.old.items entries.new.items DeviceEvent.Restarted (restarting (C.meaning content.now) self.old.recorded.device) }
+        requires due { due self.old.faults ≡ Some PlanFault.Restart }
+        ensures broken { Breaks true device result self.old self.new entries.old.items entries.new.items DeviceEvent.Restarted (restarting (C.meaning content.now) self.old.recorded.device) }
+        ensures plain { is_plain result ≡ true }
     {
         let position = place_after(self.history.len());
         let undone = self.restart(content);

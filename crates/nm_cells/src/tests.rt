@@ -1,20 +1,22 @@
-ghost use Rattle.std.specs.Prelude.{◌≡◌, ◌≤◌, Some, IfOk, ◌∷◌, []};
+ghost use Rattle.std.specs.Prelude.{◌≡◌, ◌≤◌, ◌+◌, Some, IfOk, ◌∷◌, [], length};
 ghost use Rattle.std.specs.List.{All};
 ghost use Rattle.nm_plan.specs.Fault.{IsPlan};
 ghost use Rattle.nm_proto.specs.FlatContent.{flat_meaning};
 
 use super::*;
-use nm_base::{ChangeMask, ChangeNo, DeviceNo, EditNo, Label, SessionId};
+use nm_base::{ChangeNo, DeviceNo, EditNo, Label, SessionId};
+use nm_chronicle::{Chronicle, Shares, SlotShares};
 use nm_device::Device;
 use nm_history::{DeviceEvent, Noted};
-use nm_plan::{PlanEntry, PlanFault, RunName};
+use nm_plan::{PlanEntry, PlanFault, RunName, RunPlans};
 use nm_proto::{
-    Content, DefaultOperation, FlatConfig, FlatContent, FlatEdit, Listed, Marks, NumberMap, Reply,
-    Request, Store, Tables,
+    ChangePlan, Content, DefaultOperation, FlatConfig, FlatContent, FlatEdit, Listed, NumberMap,
+    PlannedEdit, Reply, Request, Store, Tables,
 };
 use std::alloc::Global;
 use std::marker::Brand;
-use std::sync::Wait;
+use std::sync::ledger::Blank;
+use std::sync::{Mutex, Wait};
 use std::test::Fail;
 use std::thread;
 use std::thread::Threads;
@@ -64,16 +66,49 @@ fn open(alloc: Global, user: &str) -> Result<Request, Fail> {
     })
 }
 
-// A device of a run that runs `{"7":1}`.
-fn device_of<N: RunName<FlatContent, FlatConfig, FlatEdit>>(
+// Change set 1, with one edit for device 1.
+fn change_plan(alloc: Global) -> Result<ChangePlan, Fail> {
+    let mut edits = Listed::new(alloc);
+    edits.push(PlannedEdit {
+        device: DeviceNo::new(1).ok_or("a device")?,
+        edit: EditNo(0),
+        default_operation: DefaultOperation::Merge,
+    })?;
+    Ok(ChangePlan {
+        timeout: 600,
+        edits,
+    })
+}
+
+// The configuration `{"7":1}`.
+fn seven(alloc: Global) -> Result<FlatConfig, Fail> {
+    let mut cells = NumberMap::new(alloc);
+    cells.insert(7, 1)?;
+    Ok(FlatConfig::new(alloc, cells))
+}
+
+// The beginning of a run over one device and one change set.
+#[derive(Drop)]
+struct Begun<N: RunName<FlatContent, FlatConfig, FlatEdit>> {
+    cell: CellState<FlatContent, N>,
+    chronicle: Mutex<Chronicle<N>>,
+    slot: SlotShares<N>,
+}
+
+fn begin<N: RunName<FlatContent, FlatConfig, FlatEdit>>(
     alloc: Global,
+    blank: Blank,
+    changes: &[ChangePlan],
     content: &FlatContent,
-    number: DeviceNo,
     running: FlatConfig,
     plan: Vec<PlanEntry>,
-) -> Result<KeptDevice<FlatContent, N>, Fail>
+) -> Result<Begun<N>, Fail>
+    requires name { blank.name ≡ N.name }
+    requires parts { blank.parts ≡ N.parts }
+    requires one_each { blank.parts ≡ length changes.now + 1 + 1 }
+    requires changes { changes.now ≡ N.changes }
+    requires devices { 1 ≡ N.devices }
     requires content { N.run.content ≡ Some content.now }
-    requires number { number ≡ 1 }
     requires starts { N.run.starts ≡ running ∷ [] }
     requires faults { N.run.faults ≡ plan.items ∷ [] }
     requires plan { IsPlan plan.items }
@@ -81,8 +116,40 @@ fn device_of<N: RunName<FlatContent, FlatConfig, FlatEdit>>(
     if content.check(&running).is_err() {
         return Err("not valid")?;
     }
+    let number = DeviceNo::new(1).ok_or("1")?;
+    let (chronicle, shares) = Chronicle::<N>::reserve(alloc, blank, changes, 1)?;
+    let Shares {
+        mut slots,
+        mut cells,
+        book,
+    } = shares;
+    drop(book);
+    let slot = slots.pop().ok_or("no slot")?;
+    let share = cells.pop().ok_or("no share")?;
     let device = Device::new(alloc, running);
-    Ok(KeptDevice::new(alloc, number, device, plan))
+    Ok(Begun {
+        cell: CellState::new(alloc, number, device, plan, share)?,
+        chronicle: Mutex::new(chronicle),
+        slot,
+    })
+}
+
+// What the board says of change set 1 at device 1: its phase there, and how many calls were strays.
+#[derive(Clone, Copy, Debug, PartialEq, Eq)]
+struct Told {
+    phase: u8,
+    strays: usize,
+}
+
+fn read_board<N: RunPlans, R: Wait>(rt: &R, chronicle: &Mutex<Chronicle<N>>) -> Result<Told, Fail> {
+    let change = ChangeNo::new(1).ok_or("1")?;
+    let number = DeviceNo::new(1).ok_or("1")?;
+    let chronicle = chronicle.lock(rt);
+    let line = chronicle.board().line(change).ok_or("no line")?;
+    Ok(Told {
+        phase: line.phase(number),
+        strays: chronicle.strays().len(),
+    })
 }
 
 // Whether a call was answered so, at this place.
@@ -136,13 +203,21 @@ struct Seen {
 }
 
 // Alice opens a session, locks running and hangs up, twice.
-fn story<N: RunName<FlatContent, FlatConfig, FlatEdit>>(
+fn story<N: RunName<FlatContent, FlatConfig, FlatEdit>, R: Wait>(
+    rt: &R,
     alloc: Global,
+    blank: Blank,
+    changes: &[ChangePlan],
     content: &FlatContent,
     tables: &Tables<FlatContent>,
     running: FlatConfig,
     plan: Vec<PlanEntry>,
 ) -> Result<Seen, Fail>
+    requires name { blank.name ≡ N.name }
+    requires parts { blank.parts ≡ N.parts }
+    requires one_each { blank.parts ≡ length changes.now + 1 + 1 }
+    requires changes { changes.now ≡ N.changes }
+    requires devices { 1 ≡ N.devices }
     requires content { N.run.content ≡ Some content.now }
     requires tables { N.run.tables ≡ tables.now }
     requires edits_belong { All flat_meaning.edit_belongs tables.now.edits }
@@ -152,40 +227,57 @@ fn story<N: RunName<FlatContent, FlatConfig, FlatEdit>>(
 {
     let number = DeviceNo::new(1).ok_or("1")?;
     let alice = SessionId::new(1).ok_or("1")?;
-    let mut kept: KeptDevice<FlatContent, N> = device_of(alloc, content, number, running, plan)?;
+    let Begun {
+        mut cell,
+        chronicle,
+        slot,
+    } = begin::<N>(alloc, blank, changes, content, running, plan)?;
+    drop(slot);
     let mut pass = Pass::new(alloc, PassOwner::Operator { operator: 1 });
     let ask = open(alloc, "alice")?;
-    let opened = kept.serve(content, tables, number, &mut pass, None, &ask)?;
+    let opened = cell.serve(
+        rt, number, content, tables, &chronicle, &mut pass, None, &ask,
+    )?;
     let ask = lock_running();
-    let locked = kept.serve(content, tables, number, &mut pass, Some(alice), &ask)?;
-    let first = kept.end(content, number, &mut pass, alice)?;
+    let alices = Some(alice);
+    let locked = cell.serve(
+        rt, number, content, tables, &chronicle, &mut pass, alices, &ask,
+    )?;
+    let first = cell.end(rt, number, content, &chronicle, &mut pass, alice)?;
     let mut other = Pass::new(alloc, PassOwner::Operator { operator: 1 });
-    let again = kept.end(content, number, &mut other, alice)?;
+    let again = cell.end(rt, number, content, &chronicle, &mut other, alice)?;
     Ok(Seen {
         opened,
         locked,
         first,
         again,
-        entries: kept.history().len(),
-        agree: holds_all(&pass, kept.history()),
+        entries: cell.history().len(),
+        agree: holds_all(&pass, cell.history()),
     })
 }
 
 // The same at a device that runs `{"7":1}`, without planned faults.
-fn run_story(alloc: Global) -> Result<Seen, Fail> {
+fn run_story<R: Wait>(rt: &R, alloc: Global) -> Result<Seen, Fail> {
     let content = FlatContent::new(alloc);
     let tables = Tables::new(Listed::new(alloc), Listed::new(alloc));
-    let mut cells = NumberMap::new(alloc);
-    cells.insert(7, 1)?;
-    let running = FlatConfig::new(alloc, cells);
-    story::<Brand>(alloc, &content, &tables, running, Vec::new(alloc))
+    let changes = [change_plan(alloc)?];
+    story::<Brand, R>(
+        rt,
+        alloc,
+        Blank::new(3),
+        &changes,
+        &content,
+        &tables,
+        seven(alloc)?,
+        Vec::new(alloc),
+    )
 }
 
 // The pass of an operator holds what happened, at the places of the history.
 #[test]
 fn histories_and_passes_agree(rt: HostRuntime) -> Result<(), Fail> {
     let session = SessionId::new(1).ok_or("1")?;
-    let seen = run_story(rt.alloc())?;
+    let seen = run_story(&rt, rt.alloc())?;
     assert!(rt; is_answered(&seen.opened, 1, &Reply::Opened(session)));
     assert!(rt; is_answered(&seen.locked, 2, &Reply::Done));
     assert_eq!(rt; seen.first, Some(3));
@@ -208,13 +300,21 @@ struct Dropped {
 }
 
 // A coordinator opens a session and locks running, where the session is dropped; then it asks on it again.
-fn drop_story<N: RunName<FlatContent, FlatConfig, FlatEdit>>(
+fn drop_story<N: RunName<FlatContent, FlatConfig, FlatEdit>, R: Wait>(
+    rt: &R,
     alloc: Global,
+    blank: Blank,
+    changes: &[ChangePlan],
     content: &FlatContent,
     tables: &Tables<FlatContent>,
     running: FlatConfig,
     plan: Vec<PlanEntry>,
 ) -> Result<Dropped, Fail>
+    requires name { blank.name ≡ N.name }
+    requires parts { blank.parts ≡ N.parts }
+    requires one_each { blank.parts ≡ length changes.now + 1 + 1 }
+    requires changes { changes.now ≡ N.changes }
+    requires devices { 1 ≡ N.devices }
     requires content { N.run.content ≡ Some content.now }
     requires tables { N.run.tables ≡ tables.now }
     requires edits_belong { All flat_meaning.edit_belongs tables.now.edits }
@@ -225,15 +325,27 @@ fn drop_story<N: RunName<FlatContent, FlatConfig, FlatEdit>>(
     let number = DeviceNo::new(1).ok_or("1")?;
     let change = ChangeNo::new(1).ok_or("1")?;
     let session = SessionId::new(1).ok_or("1")?;
-    let mut kept: KeptDevice<FlatContent, N> = device_of(alloc, content, number, running, plan)?;
+    let Begun {
+        mut cell,
+        chronicle,
+        slot,
+    } = begin::<N>(alloc, blank, changes, content, running, plan)?;
+    drop(slot);
     let mut pass = Pass::new(alloc, PassOwner::Coordinator { change });
     let ask = open(alloc, "netm")?;
-    let opened = kept.serve(content, tables, number, &mut pass, None, &ask)?;
+    let opened = cell.serve(
+        rt, number, content, tables, &chronicle, &mut pass, None, &ask,
+    )?;
     let ask = lock_running();
-    let locked = kept.serve(content, tables, number, &mut pass, Some(session), &ask)?;
+    let ours = Some(session);
+    let locked = cell.serve(
+        rt, number, content, tables, &chronicle, &mut pass, ours, &ask,
+    )?;
     let ask = Request::Discard;
-    let discarded = kept.serve(content, tables, number, &mut pass, Some(session), &ask)?;
-    let lost = match kept.history().last() {
+    let discarded = cell.serve(
+        rt, number, content, tables, &chronicle, &mut pass, ours, &ask,
+    )?;
+    let lost = match cell.history().last() {
         Some(entry) => entry.event.same(&DeviceEvent::Lost { session }),
         None => false,
     };
@@ -241,27 +353,34 @@ fn drop_story<N: RunName<FlatContent, FlatConfig, FlatEdit>>(
         opened,
         locked,
         discarded,
-        entries: kept.history().len(),
-        agree: holds_all(&pass, kept.history()),
+        entries: cell.history().len(),
+        agree: holds_all(&pass, cell.history()),
         lost,
     })
 }
 
 // The same at a device that runs `{"7":1}`, with a drop at the manager's second request.
-fn run_drop(alloc: Global) -> Result<Dropped, Fail> {
+fn run_drop<R: Wait>(rt: &R, alloc: Global) -> Result<Dropped, Fail> {
     let content = FlatContent::new(alloc);
     let tables = Tables::new(Listed::new(alloc), Listed::new(alloc));
-    let mut cells = NumberMap::new(alloc);
-    cells.insert(7, 1)?;
-    let running = FlatConfig::new(alloc, cells);
-    drop_story::<Brand>(alloc, &content, &tables, running, plan_of(alloc)?)
+    let changes = [change_plan(alloc)?];
+    drop_story::<Brand, R>(
+        rt,
+        alloc,
+        Blank::new(3),
+        &changes,
+        &content,
+        &tables,
+        seven(alloc)?,
+        plan_of(alloc)?,
+    )
 }
 
 // A call that a drop broke is told the place of the loss, and so is a call after it, which changes nothing.
 #[test]
 fn a_drop_breaks_its_call(rt: HostRuntime) -> Result<(), Fail> {
     let session = SessionId::new(1).ok_or("1")?;
-    let seen = run_drop(rt.alloc())?;
+    let seen = run_drop(&rt, rt.alloc())?;
     assert!(rt; is_answered(&seen.opened, 1, &Reply::Opened(session)));
     assert!(rt; is_broken(&seen.locked, 2));
     assert!(rt; is_broken(&seen.discarded, 2));
@@ -296,23 +415,51 @@ fn request_at(alloc: Global, place: u32) -> Result<Request, Fail> {
 }
 
 // What came of a first pass: the place of the request that was broken, 0 where none was, how many entries the history and the
-// pass have, and the clock.
+// pass have, the clock, the phase of the change set at the device and on the board, and how often it was acknowledged.
 #[derive(Clone, Copy, Debug, PartialEq, Eq)]
 struct Course {
     broken: u32,
     history: usize,
     pass: usize,
     clock: u64,
+    phase: u8,
+    told: Told,
+    acked: u32,
+}
+
+// The board is told that the device is asked for the confirmed commit.
+fn ask_commit<N: RunPlans, R: Wait>(
+    rt: &R,
+    chronicle: &Mutex<Chronicle<N>>,
+    slot: &mut SlotShares<N>,
+    change: ChangeNo,
+    number: DeviceNo,
+) -> Result<(), Fail> {
+    if slot.asked() > 9 {
+        return Err("asked too often")?;
+    }
+    let mut board = chronicle.lock(rt);
+    board.room()?;
+    board.asked(change, number, slot);
+    Ok(())
 }
 
 // A coordinator goes through its first pass until a call is broken.
-fn first_pass<N: RunName<FlatContent, FlatConfig, FlatEdit>>(
+fn first_pass<N: RunName<FlatContent, FlatConfig, FlatEdit>, R: Wait>(
+    rt: &R,
     alloc: Global,
+    blank: Blank,
+    changes: &[ChangePlan],
     content: &FlatContent,
     tables: &Tables<FlatContent>,
     running: FlatConfig,
     plan: Vec<PlanEntry>,
 ) -> Result<Course, Fail>
+    requires name { blank.name ≡ N.name }
+    requires parts { blank.parts ≡ N.parts }
+    requires one_each { blank.parts ≡ length changes.now + 1 + 1 }
+    requires changes { changes.now ≡ N.changes }
+    requires devices { 1 ≡ N.devices }
     requires content { N.run.content ≡ Some content.now }
     requires tables { N.run.tables ≡ tables.now }
     requires edits_belong { All flat_meaning.edit_belongs tables.now.edits }
@@ -322,14 +469,21 @@ fn first_pass<N: RunName<FlatContent, FlatConfig, FlatEdit>>(
 {
     let number = DeviceNo::new(1).ok_or("1")?;
     let change = ChangeNo::new(1).ok_or("1")?;
-    let mut kept: KeptDevice<FlatContent, N> = device_of(alloc, content, number, running, plan)?;
+    let Begun {
+        mut cell,
+        chronicle,
+        mut slot,
+    } = begin::<N>(alloc, blank, changes, content, running, plan)?;
     let mut pass = Pass::new(alloc, PassOwner::Coordinator { change });
     let mut broken = 0;
     for place in 1..7u32 {
         let ask = request_at(alloc, place)?;
         let session = if place == 1 { None } else { SessionId::new(1) };
-        if let Asked::Broken { .. } = kept.serve(
-            content, tables, number, &mut pass, session, &ask,
+        if place == 6 {
+            ask_commit(rt, &chronicle, &mut slot, change, number)?;
+        }
+        if let Asked::Broken { .. } = cell.serve_change(
+            rt, number, content, tables, &chronicle, &mut slot, &mut pass, session, &ask,
         )? {
             broken = place;
             break;
@@ -337,9 +491,12 @@ fn first_pass<N: RunName<FlatContent, FlatConfig, FlatEdit>>(
     }
     Ok(Course {
         broken,
-        history: kept.history().len(),
+        history: cell.history().len(),
         pass: pass.entries().len(),
-        clock: kept.device().clock(),
+        clock: cell.device().clock(),
+        phase: cell.phase(change),
+        told: read_board(rt, &chronicle)?,
+        acked: slot.acked(),
     })
 }
 
@@ -354,44 +511,50 @@ fn plan_at(alloc: Global, at: u32, fault: PlanFault) -> Result<Vec<PlanEntry>, F
 }
 
 // The same at a device that runs `{"7":1}`, where one fault is planned.
-fn run_pass(alloc: Global, at: u32, fault: PlanFault) -> Result<Course, Fail>
+fn run_pass<R: Wait>(rt: &R, alloc: Global, at: u32, fault: PlanFault) -> Result<Course, Fail>
     requires { 1 ≤ at }
 {
     let content = FlatContent::new(alloc);
     let tables = Tables::new(Listed::new(alloc), Listed::new(alloc));
-    let mut cells = NumberMap::new(alloc);
-    cells.insert(7, 1)?;
-    let running = FlatConfig::new(alloc, cells);
-    first_pass::<Brand>(
+    let changes = [change_plan(alloc)?];
+    first_pass::<Brand, R>(
+        rt,
         alloc,
+        Blank::new(3),
+        &changes,
         &content,
         &tables,
-        running,
+        seven(alloc)?,
         plan_at(alloc, at, fault)?,
     )
 }
 
 // At each place a drop loses the session in place of the request, but at the opening, which is done first; a cut does the
 // request and then loses the session; a restart comes in place of the request; and an advance comes before it and breaks nothing.
+// The change set has begun where its commit was done, which the board knows, and is acknowledged where the reply came.
 #[test]
 fn each_fault_breaks_its_call(rt: HostRuntime) -> Result<(), Fail> {
     for at in 1..7u32 {
         let before = at as usize - 1;
         let dropped = if at == 1 { 2 } else { before + 1 };
+        let begun = if at == 6 { 1 } else { 0 };
         let cases = [
-            (PlanFault::Drop, at, dropped, dropped, 0),
-            (PlanFault::Cut, at, before + 2, before + 2, 0),
-            (PlanFault::Restart, at, before + 1, before + 1, 0),
-            (PlanFault::Advance { seconds: 5 }, 0, 7, 6, 5),
+            (PlanFault::Drop, at, dropped, dropped, 0, 0, 0),
+            (PlanFault::Cut, at, before + 2, before + 2, 0, begun, 0),
+            (PlanFault::Restart, at, before + 1, before + 1, 0, 0, 0),
+            (PlanFault::Advance { seconds: 5 }, 0, 7, 6, 5, 1, 1),
         ];
-        for (fault, broken, history, pass, clock) in cases {
+        for (fault, broken, history, pass, clock, phase, acked) in cases {
             let want = Course {
                 broken,
                 history,
                 pass,
                 clock,
+                phase,
+                told: Told { phase, strays: 0 },
+                acked,
             };
-            assert_eq!(rt; run_pass(rt.alloc(), at, fault)?, want);
+            assert_eq!(rt; run_pass(&rt, rt.alloc(), at, fault)?, want);
         }
     }
     Ok(())
@@ -405,6 +568,7 @@ fn come_and_go<N: RunName<FlatContent, FlatConfig, FlatEdit>, R: Wait>(
     alloc: Global,
     content: &FlatContent,
     tables: &Tables<FlatContent>,
+    chronicle: &Mutex<Chronicle<N>>,
     cell: &DeviceCell<FlatContent, N>,
     operator: u32,
 ) -> Option<Pass>
@@ -415,9 +579,12 @@ fn come_and_go<N: RunName<FlatContent, FlatConfig, FlatEdit>, R: Wait>(
     let mut pass = Pass::new(alloc, PassOwner::Operator { operator });
     let user = Label::new(alloc, "alice").ok()?;
     let ask = Request::OpenSession { user };
-    let asked = cell.ask(rt, content, tables, &mut pass, None, &ask).ok()?;
+    let asked = cell
+        .ask(rt, content, tables, chronicle, &mut pass, None, &ask)
+        .ok()?;
     let session = opened_by(&asked)?;
-    cell.hang_up(rt, content, &mut pass, session).ok()?;
+    cell.hang_up(rt, content, chronicle, &mut pass, session)
+        .ok()?;
     Some(pass)
 }
 
@@ -436,11 +603,18 @@ fn opened_by(asked: &Asked) -> Option<SessionId> {
 fn together<N: RunName<FlatContent, FlatConfig, FlatEdit> + Send + Sync, R: Threads + Wait + Sync>(
     rt: &R,
     alloc: Global,
+    blank: Blank,
+    changes: &[ChangePlan],
     content: &FlatContent,
     tables: &Tables<FlatContent>,
     running: FlatConfig,
     plan: Vec<PlanEntry>,
 ) -> Result<bool, Fail>
+    requires name { blank.name ≡ N.name }
+    requires parts { blank.parts ≡ N.parts }
+    requires one_each { blank.parts ≡ length changes.now + 1 + 1 }
+    requires changes { changes.now ≡ N.changes }
+    requires devices { 1 ≡ N.devices }
     requires content { N.run.content ≡ Some content.now }
     requires tables { N.run.tables ≡ tables.now }
     requires edits_belong { All flat_meaning.edit_belongs tables.now.edits }
@@ -449,25 +623,31 @@ fn together<N: RunName<FlatContent, FlatConfig, FlatEdit> + Send + Sync, R: Thre
     requires plan { IsPlan plan.items }
 {
     let number = DeviceNo::new(1).ok_or("1")?;
-    let kept: KeptDevice<FlatContent, N> = device_of(alloc, content, number, running, plan)?;
-    let cell = DeviceCell::new(number, kept);
+    let Begun {
+        cell,
+        chronicle,
+        slot,
+    } = begin::<N>(alloc, blank, changes, content, running, plan)?;
+    drop(slot);
+    let cell = DeviceCell::new(number, cell);
     let shared = &cell;
+    let board = &chronicle;
     let (one, two) = thread::join(
         rt,
         || -> Option<Pass>
             requires { (N.run.content ≡ Some content.now) × (N.run.tables ≡ tables.now) × All flat_meaning.edit_belongs tables.now.edits }
-        { come_and_go(rt, alloc, content, tables, shared, 1) },
+        { come_and_go(rt, alloc, content, tables, board, shared, 1) },
         || -> Option<Pass>
             requires { (N.run.content ≡ Some content.now) × (N.run.tables ≡ tables.now) × All flat_meaning.edit_belongs tables.now.edits }
-        { come_and_go(rt, alloc, content, tables, shared, 2) },
+        { come_and_go(rt, alloc, content, tables, board, shared, 2) },
     );
     let one = one.ok_or("no pass")?;
     let two = two.ok_or("no pass")?;
-    let kept = cell.into_state();
+    let cell = cell.into_state();
     Ok(
-        is_found(&one, kept.history())
-            && is_found(&two, kept.history())
-            && kept.history().len() == 4,
+        is_found(&one, cell.history())
+            && is_found(&two, cell.history())
+            && cell.history().len() == 4,
     )
 }
 
@@ -475,10 +655,17 @@ fn together<N: RunName<FlatContent, FlatConfig, FlatEdit> + Send + Sync, R: Thre
 fn run_together<R: Threads + Wait + Sync>(rt: &R, alloc: Global) -> Result<bool, Fail> {
     let content = FlatContent::new(alloc);
     let tables = Tables::new(Listed::new(alloc), Listed::new(alloc));
-    let mut cells = NumberMap::new(alloc);
-    cells.insert(7, 1)?;
-    let running = FlatConfig::new(alloc, cells);
-    together::<Brand, R>(rt, alloc, &content, &tables, running, Vec::new(alloc))
+    let changes = [change_plan(alloc)?];
+    together::<Brand, R>(
+        rt,
+        alloc,
+        Blank::new(3),
+        &changes,
+        &content,
+        &tables,
+        seven(alloc)?,
+        Vec::new(alloc),
+    )
 }
 
 // Both threads find all that they asked in the one history.

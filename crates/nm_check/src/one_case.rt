@@ -1,11 +1,13 @@
 //! The rule of choices: no two cases of one have nodes.
 
-ghost use Rattle.std.specs.Prelude.{◌≡◌, IfOk, length};
+ghost use Rattle.std.specs.Prelude.{◌≡◌, IfOk, filter, length};
 ghost use Rattle.std.specs.List.{flat_map};
 ghost use Rattle.nm_tree.specs.Nodes.{same_parent};
 ghost use Rattle.nm_rules.specs.declared.rule.Rule.TheVariants as rule;
+ghost use Rattle.nm_rules.specs.Cases.{numbers};
 ghost use Rattle.nm_rules.specs.Guards as guard;
 ghost use Rattle.nm_rules.specs.Values.{is_same_path};
+ghost use Rattle.nm_rules.specs.Violated.{is_of_choice};
 ghost use Rattle.nm_rules.specs.Violation.{least_at};
 ghost use Rattle.nm_validate.specs.Groups.{IsGrouped};
 ghost use Rattle.nm_validate.specs.Least.{least_with};
@@ -19,7 +21,8 @@ use nm_path::node_of;
 use nm_tree::Schema;
 use nm_types::Path;
 use nm_validate::areas::Grouped;
-use nm_validate::{front, nodes_of, with_path};
+use nm_validate::tables::{by_choice, nodes_in};
+use nm_validate::{front, with_path};
 use std::alloc::Global;
 
 // Whether two nodes stand in one node, or both at the top, by what they stand in.
@@ -112,19 +115,20 @@ fn least_among<M: RowMap>(
     Ok(least)
 }
 
-// The least of what was found so far and of such children of a choice, at these places.
+// The least of what was found so far and of such children of a choice whose nodes these are, at these places.
 fn least_of_choice<M: RowMap>(
     alloc: Global,
     schema: &Schema,
     config: &M,
     choice: usize,
+    nodes: &[usize],
     places: &[Path],
     found: Option<Path>,
 ) -> Result<Option<Path>, NoMemory>
+    requires { nodes.now ≡ filter (is_of_choice schema.now choice) (numbers schema.now.nodes) }
     ensures { IfOk result (λ least. least ≡ least_with found (spec.others_of schema.now (M.rows config.now) choice places.now)) }
 {
-    let nodes = nodes_of(alloc, schema, choice)?;
-    let least = least_among(alloc, schema, config, choice, &nodes, places, found)?;
+    let least = least_among(alloc, schema, config, choice, nodes, places, found)?;
     Ok(least)
 }
 
@@ -150,9 +154,12 @@ pub fn least_other_case<M: RowMap>(
     }
     schema.laws();
     let places = places_of(alloc, &grouped.rows)?;
+    let table = by_choice(alloc, schema)?;
+    let choices = table.as_slice();
     let mut least = None;
     for choice in 0..choice_count(schema) {
-        least = least_of_choice(alloc, schema, config, choice, &places, least)?;
+        let nodes = nodes_in(choices, choice);
+        least = least_of_choice(alloc, schema, config, choice, nodes, &places, least)?;
     }
     Ok(least)
 }

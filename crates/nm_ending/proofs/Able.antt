@@ -307,7 +307,7 @@ module _ (change members : ℕ) (entries : List Entry) (slot : SlotState) (a : I
     ready = λ j. to_some (λ side. is_some side.wire.current ≡ true → is_ready_in (entries ++ entry ∷ []) change ≡ true) (slice_get slot.sides j) (λ side there is. ready_more entry other (side_ready j side there is));
   }
 
-  long : length slot.course.seats ≡ seat_count
+  pub long : length slot.course.seats ≡ seat_count
   long = same_length slot.course.seats slot.sides (λ j. both_there members (j + 1) v (slice_get slot.course.seats j) (slice_get slot.sides j) (in_step.pairs j)) ∙ in_step.sides
 
   pub acts : ActsRightly slot.course

@@ -77,7 +77,7 @@ pairs_bound f h low zero = omega arith
 pairs_bound f h low (suc count) = let one = pairs_bound f h (low + 1) count in let two = h low in omega (arith, one, two)
 
 module _ {Config Node : Type 0} (devices : List (RecordedState Config Node)) (few : length devices ≤ 32) where
-  sums_within : (slot : SlotState) → sum_from (rank_at devices slot) 1 (length devices) ≤ 4320
+  pub sums_within : (slot : SlotState) → sum_from (rank_at devices slot) 1 (length devices) ≤ 4320
   sums_within slot =
       let one = pairs_bound (rank_at devices slot) (λ k. pair_within slot.course.verdict (slice_get slot.course.seats (k - 1)) (slice_get slot.sides (k - 1)) (slice_get devices (k - 1))) 1 (length devices) in
       omega (arith, one, few)

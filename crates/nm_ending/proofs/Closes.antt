@@ -318,7 +318,7 @@ module _ {Config TheEdit Node : Type 0} (m : Meaning Config TheEdit Node) (setti
       let is = leave_less_by m setting w number two.number (operator_at w.operators number) (slice_get w.devices (two.number - 1)) refl refl x two.found in
       subst (λ y. IsQuieter w (Next w y)) is.0 (leave_quiet m setting w number two.number)
 
-  leave_found : (w : WorldState Config Node) (x : Event) → leaves w.devices w.operators ≡ Some x → suc (left_to_close setting (Next w x)) ≤ left_to_close setting w
+  pub leave_found : (w : WorldState Config Node) (x : Event) → leaves w.devices w.operators ≡ Some x → suc (left_to_close setting (Next w x)) ≤ left_to_close setting w
   leave_found w x e =
       let one = found_in (leave_of w.devices w.operators) 1 (length w.operators) x e in
       left_by_leave m setting w x (leave_quieter w x one.number one.found) e
@@ -346,7 +346,7 @@ module _ {Config TheEdit Node : Type 0} (m : Meaning Config TheEdit Node) (setti
     unfolding at_devices at_pair
     lost_quieter changes e = lose_quieter _ _ (λ change. refl) (λ change device r here. rw here refl) (λ change device here. rw here refl) changes e
 
-    lose_found : loses_links w.devices (manager_in (scene_of w)) (length setting.plans) ≡ Some x → suc (left_to_close setting (Next w x)) ≤ left_to_close setting w
+    pub lose_found : loses_links w.devices (manager_in (scene_of w)) (length setting.plans) ≡ Some x → suc (left_to_close setting (Next w x)) ≤ left_to_close setting w
     lose_found e = left_by_lose m setting w x (lost_quieter (length setting.plans) e) e
 
   -- ---- all of them

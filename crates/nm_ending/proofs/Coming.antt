@@ -34,7 +34,7 @@ few_of (x ∷ xs) base n b h =
     omega (arith, later)
 
 module _ {Config TheEdit Node : Type 0} (m : Meaning Config TheEdit Node) (setting : Setting TheEdit) where
-  drained_more : (a b n : ℕ) (w : WorldState Config Node) → n ≡ a + b → drained m setting n w ≡ drained m setting b (drained m setting a w)
+  pub drained_more : (a b n : ℕ) (w : WorldState Config Node) → n ≡ a + b → drained m setting n w ≡ drained m setting b (drained m setting a w)
   drained_more zero b n w e = let same : n ≡ b = omega (arith, e) in ap (λ k. drained m setting k w) same
   drained_more (suc a) b zero w e = absurd (omega (arith, e))
   drained_more (suc a) b (suc n) w e = drained_more a b n (drain_step m setting w) (omega (arith, e))

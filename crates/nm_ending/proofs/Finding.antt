@@ -136,7 +136,7 @@ module _ {Config TheEdit Node : Type 0} (m : Meaning Config TheEdit Node) (setti
     true_now : IsTrue a.link
     true_now = some_is a.link IsTrue (slice_get a.side.wire.links (a.number - 1)) link_there (a.steady.each (a.number - 1))
 
-    side_open : is_side_open r links a.number ≡ (a.link.is_open && is_session_open r (session_of a.link))
+    pub side_open : is_side_open r links a.number ≡ (a.link.is_open && is_session_open r (session_of a.link))
     side_open = ap (λ o. is_open_link o && is_session_open r (option_and_then session_of o)) at_link
 
     not_awaited : (way : Way) → nat_lt (length a.link.past) (length a.link.past + told_count way) ≡ false → will_end way ≡ false
@@ -147,7 +147,7 @@ module _ {Config TheEdit Node : Type 0} (m : Meaning Config TheEdit Node) (setti
         less : (x : ℕ) → nat_lt x (x + 1) ≡ false → ⊥
         less x e = grind (arith, nat_tests)
 
-    awaited_is : is_awaited links a.number ≡ nat_lt (length a.link.past) (length a.link.past + told_count a.link.way)
+    pub awaited_is : is_awaited links a.number ≡ nat_lt (length a.link.past) (length a.link.past + told_count a.link.way)
     awaited_is = ap (λ o. nat_lt (counts_of o).1 (counts_of o).0) at_link
 
     not_true : (b : Bool) → not b ≡ true → b ≡ false

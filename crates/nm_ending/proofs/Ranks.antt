@@ -163,7 +163,7 @@ live_plain (Some (verdict.Abort why)) done what m = grind (arith, nat_tests)
 plain_left : (i c : Bool) (v : Option Verdict) (now : ResyncState) (stage : Stage) (what : Ask) (told : Reply) → is_resync (Some what) ≡ false → told_left i c v now stage what told ≡ 2 * left i c v now (learnt v stage what told)
 plain_left i c v now stage what told e = ap (λ b. 2 * left i c v (resync_then b now told) (stage_then b v now stage what told)) e
 
-left_some : (h b : Bool) (v : Option Verdict) (now : ResyncState) → fits_stage v Resync now ≡ true → is_some v ≡ true → 1 ≤ resync_left h b now.commit now.stage
+pub left_some : (h b : Bool) (v : Option Verdict) (now : ResyncState) → fits_stage v Resync now ≡ true → is_some v ≡ true → 1 ≤ resync_left h b now.commit now.stage
 left_some h b None now f e = absurd (let g : false ≡ true = e in cc)
 left_some h b (Some verdict.Commit) now f e = grind (arith, nat_tests)
 left_some h b (Some (verdict.Abort why)) now f e = grind (arith, nat_tests)

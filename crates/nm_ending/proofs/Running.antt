@@ -1,19 +1,16 @@
 -- What every run keeps, from its beginning.
-use Rattle.std.proofs.Common.{◌≡◌, ℕ, zero, suc, ◌+◌, ◌≤◌, true, false, List, [], ◌∷◌, length, map, replicate, Option, Some, None, IfSome, is_some, slice_get, refl, subst, arith}
+use Rattle.std.proofs.Common.{◌≡◌, ℕ, zero, suc, ◌+◌, ◌≤◌, true, false, List, [], ◌∷◌, length, map, replicate, Option, None, IfSome, is_some, slice_get, refl, subst, arith}
 use Rattle.nm_proto.specs.declared.plan.ChangePlan.{ChangePlan}
 use Rattle.nm_proto.specs.declared.plan.Event.{Event}
-use Rattle.nm_proto.specs.declared.plan.Event.TheVariants.{Turn, Deliver, Answer, Round}
 use Rattle.nm_proto.specs.Content.{Meaning, Laws}
 use Rattle.nm_proto.specs.Plan.{devices_in}
 use Rattle.nm_history.specs.History.{recorded}
 use Rattle.nm_decider.specs.declared.stage.Stage.TheVariants.{Live}
 use Rattle.nm_decider.specs.Course.{seat_count}
 use Rattle.nm_manager.specs.Slot.{fresh_slot, fresh_side}
-use Rattle.nm_manager.specs.Manager.{slots_from, wire_in, request_next}
-use Rattle.nm_network.specs.declared.happened.Sending.{Sending}
-use Rattle.nm_network.specs.World.{Setting, WorldState, start, elementary, world_step, scene_of, manager_in, sending_of, replies_on, followed, round, rounds, event_step, run}
-use Rattle.nm_safety.specs.Safe.{IsGiven, AreGiven, IsProper}
-use Rattle.nm_safety.proofs.Sendings.{turn_goes}
+use Rattle.nm_manager.specs.Manager.{slots_from}
+use Rattle.nm_network.specs.World.{Setting, WorldState, start, world_step, scene_of, run}
+use Rattle.nm_safety.specs.Safe.{IsGiven, IsProper}
 use Rattle.nm_safety.proofs.Start.{begin_supported}
 use Rattle.nm_safety.proofs.Sound.{first_at}
 use Rattle.nm_ending.specs.Steady.{IsAble, IsSteady, IsRightSeat, IsOrderly}
@@ -21,6 +18,7 @@ use Rattle.nm_ending.proofs.Able.{seats_each}
 use Rattle.nm_ending.proofs.Calm.{alone}
 use Rattle.nm_ending.proofs.Holding.{AllHeld}
 use Rattle.nm_ending.proofs.Lasting.{Lasts, one_lasts, no_steady, IsWide}
+use Rattle.nm_ending.proofs.Runs.{run_keeps}
 
 all_equal : {A : Type 0} (P : A → Type 0) (n : ℕ) (x : A) → P x → (j : ℕ) → IfSome (slice_get (replicate n x) j) P
 all_equal P zero x p j = tt
@@ -54,7 +52,7 @@ module _ {Config TheEdit Node : Type 0} (m : Meaning Config TheEdit Node) (laws 
   abbrev few : length setting.plans ≤ 64
   few = proper.few
 
-  start_lasts : Lasts m laws setting proper.edits few proper.strangers (start setting running)
+  pub start_lasts : Lasts m laws setting proper.edits few proper.strangers (start setting running)
   start_lasts = record {
     supported = begin_supported m setting running proper.first;
     going = record { slots = λ j. let same : 1 + j ≡ suc j = omega arith in subst (λ c. IfSome (slice_get (slots_from 1 setting.plans) j) (IsAble c [])) same (slots_able setting.plans 1 j); tickets = λ i. tt };
@@ -69,29 +67,8 @@ module _ {Config TheEdit Node : Type 0} (m : Meaning Config TheEdit Node) (laws 
   one : (w : WorldState Config Node) (event : Event) → IsGiven setting event → LastsIn w → LastsIn (world_step m setting w event)
   one w event given k = one_lasts m laws setting proper.edits few proper.strangers w event given k
 
-  followed_lasts : (w : WorldState Config Node) (change : ℕ) → 1 ≤ change → (sending : Option Sending) → IfSome sending (λ (one : Sending). 1 ≤ one.device) → LastsIn w → LastsIn (followed m setting w change sending)
-  followed_lasts w change numbered None sent k = k
-  followed_lasts w change numbered (Some sending) sent k =
-      let v = world_step m setting w (Deliver change sending.device sending.link) in
-      one v (Answer change sending.device sending.link (replies_on (wire_in (manager_in (scene_of v)) change sending.device) sending.link)) (numbered, sent) (one w (Deliver change sending.device sending.link) numbered k)
-
-  rounds_last : (n : ℕ) (w : WorldState Config Node) (change : ℕ) → 1 ≤ change → LastsIn w → LastsIn (rounds m setting n w change)
-  rounds_last zero w change numbered k = k
-  rounds_last (suc n) w change numbered k =
-      rounds_last n (round m setting w change) change numbered
-      (followed_lasts (world_step m setting w (Turn change)) change numbered (sending_of (elementary m setting (scene_of w) (Turn change)).happened)
-      (turn_goes setting.plans (manager_in (scene_of w)) change (request_next setting.plans (manager_in (scene_of w)) change)) (one w (Turn change) numbered k))
-
-  step_lasts : (w : WorldState Config Node) (event : Event) → IsGiven setting event → LastsIn w → LastsIn (event_step m setting w event)
-  step_lasts w (Round change turns) given k = rounds_last turns w change given k
-  step_lasts w event given k = one w event given k
-
-  run_from : (w : WorldState Config Node) (later : List Event) → AreGiven setting later → LastsIn w → LastsIn (run m setting w later)
-  run_from w [] given k = k
-  run_from w (event ∷ later) given k = run_from (event_step m setting w event) later given.1 (step_lasts w event given.0 k)
-
   pub run_lasts : LastsIn (run m setting (start setting running) events)
-  run_lasts = run_from (start setting running) events proper.given start_lasts
+  run_lasts = run_keeps m setting LastsIn one (start setting running) events proper.given start_lasts
 
   pub run_orderly : IsOrderly (run m setting (start setting running) events)
   run_orderly =

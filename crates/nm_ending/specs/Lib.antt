@@ -1,3 +1,4 @@
 pub mod Closing
 pub mod Steady
 pub mod Turns
+pub mod Rest

@@ -1,12 +1,14 @@
 //! What brings a world to rest comes to its end.
 
-ghost use Rattle.std.specs.Prelude.{ℕ, List};
+ghost use Rattle.std.specs.Prelude.{ℕ, ◌≤◌, List, length};
 ghost use Rattle.nm_proto.specs.declared.plan.Event.{Event as AnEvent};
 ghost use Rattle.nm_network.specs.World.{Setting, WorldState, run, start};
+ghost use Rattle.nm_network.specs.Drain.{drain_limit};
 ghost use Rattle.nm_safety.specs.Safe.{IsProper};
 ghost use Rattle.nm_ending.specs.Steady.{IsOrderly};
 ghost use Rattle.nm_ending.specs.Closing.{ClosesWithin, left_to_close};
 ghost use Rattle.nm_ending.specs.Turns.{ComesToTurn};
+ghost use Rattle.nm_ending.specs.Rest.{HasDevices, ComesToRest, EndsBefore, events_count};
 
 use nm_proto::Content;
 
@@ -32,4 +34,21 @@ pub fn every_run_is_orderly<C: Content>(content: &C)
 pub fn every_drain_turns<C: Content>(content: &C)
     ensures { (setting : Setting C.Edit) (running : List C.Config) (events : List AnEvent) → IsProper {Node = C.Node} (C.meaning content.now) setting running events
         → ComesToTurn {Node = C.Node} (C.meaning content.now) setting (run (C.meaning content.now) setting (start setting running) events) }
+{}
+
+/// After any events that a scenario may have, in any order, with any number of change sets and operators, a drain comes to rest: in as many
+/// steps at most as there is left to close, and 9321 for each change set; and no step of it is idle. This is of change sets whose devices
+/// are there, and of worlds in which the devices' session numbers last so long.
+pub fn every_drain_ends<C: Content>(content: &C)
+    ensures { (setting : Setting C.Edit) (running : List C.Config) (events : List AnEvent) → IsProper {Node = C.Node} (C.meaning content.now) setting running events
+        → HasDevices setting (length running)
+        → ComesToRest {Node = C.Node} (C.meaning content.now) setting (run (C.meaning content.now) setting (start setting running) events) }
+{}
+
+/// Where these events are 100,000 elementary ones at most, as those of a scenario are, a drain is at rest before it has taken 1,000,000 steps,
+/// after as many of which the program would leave it: so that limit is never met, and a drained world is at rest.
+pub fn no_drain_meets_the_limit<C: Content>(content: &C)
+    ensures { (setting : Setting C.Edit) (running : List C.Config) (events : List AnEvent) → IsProper {Node = C.Node} (C.meaning content.now) setting running events
+        → HasDevices setting (length running) → events_count events ≤ 100000
+        → EndsBefore {Node = C.Node} (C.meaning content.now) setting (run (C.meaning content.now) setting (start setting running) events) drain_limit }
 {}

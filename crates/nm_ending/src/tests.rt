@@ -8,4 +8,6 @@ fn laws_do_nothing(rt: HostRuntime) {
     laws::every_drain_closes(&content);
     laws::every_run_is_orderly(&content);
     laws::every_drain_turns(&content);
+    laws::every_drain_ends(&content);
+    laws::no_drain_meets_the_limit(&content);
 }

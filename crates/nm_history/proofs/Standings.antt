@@ -1,11 +1,11 @@
 -- The reading of a history, where an entry has no effect.
-use Rattle.std.proofs.Common.{◌≡◌, ℕ, ◌+◌, ◌<◌, List, ◌∷◌, length, drop, get_or, Bool, true, false, refl, sym, ap, ◌∙◌}
+use Rattle.std.proofs.Common.{◌≡◌, ℕ, ◌+◌, ◌<◌, List, [], ◌∷◌, length, drop, get_or, Bool, true, false, refl, sym, ap, ◌∙◌}
 use Rattle.std.proofs.lemmas.List.{drop_more}
 use Rattle.nm_history.specs.declared.event.Noted.{Noted}
 use Rattle.nm_history.specs.Effect.{noted_effect}
 use Rattle.nm_history.specs.declared.outcome.Outcome.{Outcome}
 use Rattle.nm_history.specs.declared.outcome.Outcome.TheVariants.{Never, Pending, Confirmed, Undone}
-use Rattle.nm_history.specs.Outcome.{Standing, standing_after, standing_from}
+use Rattle.nm_history.specs.Outcome.{Standing, standing_after, standing_from, is_final}
 use Rattle.nm_history.specs.Effect.Effect.{Neither}
 
 pub standing_after-neither : (token : List ℕ) (outcome : Outcome) (other : Bool) → standing_after token outcome other Neither ≡ record { outcome = outcome; other = other }
@@ -28,3 +28,11 @@ read_on token before after history i entry all within is outcome other so_far =
   where
     both : (one two : Standing) → one.outcome ≡ two.outcome → one.other ≡ two.other → one ≡ two
     both one two h k = ap (λ (o : Outcome). record { outcome = o; other = one.other }) h ∙ ap (λ (b : Bool). record { outcome = two.outcome; other = b }) k
+
+-- what is final stays
+pub final_stays : (token : List ℕ) (outcome : Outcome) (other : Bool) (history : List Noted) → is_final outcome ≡ true → (standing_from token (record { outcome = outcome; other = other }) history).outcome ≡ outcome
+final_stays token outcome other [] h = refl
+final_stays token Never other (entry ∷ history) h = cc
+final_stays token Pending other (entry ∷ history) h = cc
+final_stays token Confirmed other (entry ∷ history) h = final_stays token Confirmed other history refl
+final_stays token (Undone by) other (entry ∷ history) h = final_stays token (Undone by) other history refl

@@ -51,3 +51,10 @@ is_undone Never = false
 is_undone Pending = false
 is_undone Confirmed = false
 is_undone (Undone by) = true
+
+-- nothing that comes later changes the outcome
+abbrev pub is_final : Outcome → Bool
+is_final Never = false
+is_final Pending = false
+is_final Confirmed = true
+is_final (Undone by) = true

@@ -1,7 +1,7 @@
 ghost use Rattle.std.specs.Prelude.{◌≡◌, List, ℕ};
 ghost use Rattle.nm_history.specs.Effect.{noted_effect, effect_of, effect_if, effect_of_commit, is_done_reply};
 ghost use Rattle.nm_history.specs.Effect.Effect.{Begins, Ends, Undoes};
-ghost use Rattle.nm_history.specs.Outcome.{outcome_of, standing_after, is_token, is_pending, is_undone};
+ghost use Rattle.nm_history.specs.Outcome.{outcome_of, standing_after, is_token, is_final, is_pending, is_undone};
 
 use crate::event::{DeviceEvent, Noted};
 use nm_base::Label;
@@ -39,6 +39,16 @@ impl Outcome {
         ensures { result ≡ is_pending self }
     {
         matches!(self, Outcome::Pending)
+    }
+
+    // Whether nothing that comes later changes it.
+    fn is_final(self) -> bool
+        ensures { result ≡ is_final self }
+    {
+        match self {
+            Outcome::Never | Outcome::Pending => false,
+            Outcome::Confirmed | Outcome::Undone { .. } => true,
+        }
     }
 
     /// Whether the commit was undone.
@@ -187,7 +197,8 @@ fn is_token(token: &Label, persist: &Option<Label>) -> bool
     }
 }
 
-/// The outcome of the change set with this token at the device with this history.
+/// The outcome of the change set with this token at the device with this history. It reads no further than to what ends the
+/// change set there.
 pub fn outcome_of(token: &Label, history: &[Noted]) -> Outcome
     ensures { result ≡ outcome_of token.now history.now }
 {
@@ -197,6 +208,9 @@ pub fn outcome_of(token: &Label, history: &[Noted]) -> Outcome
     };
     for entry in history {
         standing = standing.after(token, entry);
+        if standing.outcome.is_final() {
+            return standing.outcome;
+        }
     }
     standing.outcome
 }

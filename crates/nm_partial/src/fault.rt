@@ -28,6 +28,11 @@ impl<T: Drop> From<AllocFailed<T>> for GrantFault {
 }
 
 impl fmt::Display for GrantFault {
+    ghost use Rattle.std.specs.Prelude.{Some};
+    ghost use Rattle.nm_partial.specs.Fault.{fault_text};
+
+    ghost output = { λ fault. Some (fault_text fault) };
+
     fn fmt<W: fmt::Write>(&self, f: &mut fmt::Formatter<W>) -> fmt::Result {
         match self {
             GrantFault::Overlap { owner } => write!(f, "locked by session {}", owner.get()),

@@ -1,7 +1,7 @@
 //! What is known of the targets of leafrefs: their values are kept once for each number of steps that leads to them.
 
 ghost use Rattle.std.specs.Prelude.{◌≡◌, OnOk, IfOk, MatchOption, None, Some, map, slice_get};
-ghost use Rattle.std.specs.FinMap.{get, keys, contains_key};
+ghost use Rattle.std.specs.FinMap.{get, contains_key};
 ghost use Rattle.nm_rules.specs.Values as value_spec;
 ghost use Rattle.nm_validate.specs.Groups as group;
 ghost use Rattle.nm_reached.specs.Kept.{with_values};
@@ -12,15 +12,15 @@ use nm_base::NoMemory;
 use nm_config::{Config, RowMap};
 use nm_tree::Schema;
 use nm_types::{Path, Value};
-use nm_validate::areas::places;
+use nm_validate::areas::{Grouped, places};
 use nm_validate::values::{default_in_use, key_in_entry};
 use std::alloc::Global;
 
 // The paths of the rows of a node, and None where there is no such node.
-fn group_of<'g, 'r>(groups: &'g [Vec<&'r Path>], at: usize) -> Option<&'g Vec<&'r Path>>
-    ensures { MatchOption result (slice_get groups.now at ≡ None) (λ paths. slice_get groups.now at ≡ Some paths.now) }
+fn group_of<'g, 'r>(grouped: &'g Grouped<'r>, at: usize) -> Option<&'g Vec<&'r Path>>
+    ensures { MatchOption result (slice_get grouped.now.groups.items at ≡ None) (λ paths. slice_get grouped.now.groups.items at ≡ Some paths.now) }
 {
-    groups.get(at)
+    grouped.groups.as_slice().get(at)
 }
 
 // Keeps the values of the rows at some paths.
@@ -45,15 +45,15 @@ fn keep_rows<M: RowMap>(
     alloc: Global,
     schema: &Schema,
     config: &M,
-    groups: &[Vec<&Path>],
+    grouped: &Grouped<'_>,
     at: usize,
     depth: usize,
     kept: &mut Config,
 ) -> Result<(), NoMemory>
-    requires { group.AreOf schema.now (keys (M.rows config.now)) groups.now }
+    requires { group.IsGrouped schema.now (M.rows config.now) grouped.now }
     ensures { OnOk result (kept.new ≡ spec.with_rows schema.now (M.rows config.now) at depth kept.old) }
 {
-    let Some(paths) = group_of(groups, at) else {
+    let Some(paths) = group_of(grouped, at) else {
         return Ok(());
     };
     keep_all_rows(alloc, config, paths, at, depth, kept)?;
@@ -83,12 +83,12 @@ fn keep_keys<M: RowMap>(
     alloc: Global,
     schema: &Schema,
     config: &M,
-    groups: &[Vec<&Path>],
+    grouped: &Grouped<'_>,
     at: usize,
     depth: usize,
     kept: &mut Config,
 ) -> Result<(), NoMemory>
-    requires { group.AreOf schema.now (keys (M.rows config.now)) groups.now }
+    requires { group.IsGrouped schema.now (M.rows config.now) grouped.now }
     ensures { OnOk result (kept.new ≡ spec.with_keys schema.now (M.rows config.now) at depth kept.old) }
 {
     if !schema.is_key(at) {
@@ -97,7 +97,7 @@ fn keep_keys<M: RowMap>(
     let Some(list) = schema.parent(at) else {
         return Ok(());
     };
-    let Some(entries) = group_of(groups, list) else {
+    let Some(entries) = group_of(grouped, list) else {
         return Ok(());
     };
     keep_all_keys(alloc, schema, entries, at, depth, kept)?;
@@ -109,15 +109,17 @@ fn keep_all_defaults<M: RowMap>(
     alloc: Global,
     schema: &Schema,
     config: &M,
+    grouped: &Grouped<'_>,
     places: &[Path],
     at: usize,
     depth: usize,
     kept: &mut Config,
 ) -> Result<(), NoMemory>
+    requires { group.IsGrouped schema.now (M.rows config.now) grouped.now }
     ensures { OnOk result (kept.new ≡ with_values at depth (λ path. value_spec.default_in_use schema.now (M.rows config.now) path at) kept.old places.now) }
 {
     for path in places {
-        let value = default_in_use(alloc, schema, config, path, at)?;
+        let value = default_in_use(alloc, schema, config, grouped, path, at)?;
         keep_value(alloc, kept, path, at, depth, value.as_ref())?;
     }
     Ok(())
@@ -128,19 +130,19 @@ fn keep_defaults<M: RowMap>(
     alloc: Global,
     schema: &Schema,
     config: &M,
-    groups: &[Vec<&Path>],
+    grouped: &Grouped<'_>,
     at: usize,
     depth: usize,
     kept: &mut Config,
 ) -> Result<(), NoMemory>
-    requires { group.AreOf schema.now (keys (M.rows config.now)) groups.now }
+    requires { group.IsGrouped schema.now (M.rows config.now) grouped.now }
     ensures { OnOk result (kept.new ≡ spec.with_defaults schema.now (M.rows config.now) at depth kept.old) }
 {
     let Some(_default) = schema.default(at) else {
         return Ok(());
     };
-    let paths = places(alloc, schema, config, groups, at)?;
-    keep_all_defaults(alloc, schema, config, &paths, at, depth, kept)?;
+    let paths = places(alloc, schema, config, grouped, at)?;
+    keep_all_defaults(alloc, schema, config, grouped, &paths, at, depth, kept)?;
     Ok(())
 }
 
@@ -149,12 +151,12 @@ fn know<M: RowMap>(
     alloc: Global,
     schema: &Schema,
     config: &M,
-    groups: &[Vec<&Path>],
+    grouped: &Grouped<'_>,
     at: usize,
     depth: usize,
     kept: &mut Config,
 ) -> Result<(), NoMemory>
-    requires { group.AreOf schema.now (keys (M.rows config.now)) groups.now }
+    requires { group.IsGrouped schema.now (M.rows config.now) grouped.now }
     ensures { OnOk result (kept.new ≡ spec.with_known schema.now (M.rows config.now) at depth kept.old) }
 {
     let mark = mark_of(alloc, at, depth)?;
@@ -162,9 +164,9 @@ fn know<M: RowMap>(
     if before.is_some() {
         return Ok(());
     }
-    keep_rows(alloc, schema, config, groups, at, depth, kept)?;
-    keep_keys(alloc, schema, config, groups, at, depth, kept)?;
-    keep_defaults(alloc, schema, config, groups, at, depth, kept)?;
+    keep_rows(alloc, schema, config, grouped, at, depth, kept)?;
+    keep_keys(alloc, schema, config, grouped, at, depth, kept)?;
+    keep_defaults(alloc, schema, config, grouped, at, depth, kept)?;
     Ok(())
 }
 
@@ -181,13 +183,13 @@ pub fn is_reached<M: RowMap>(
     alloc: Global,
     schema: &Schema,
     config: &M,
-    groups: &[Vec<&Path>],
+    grouped: &Grouped<'_>,
     target: usize,
     context: &Path,
     value: &Value,
     kept: &mut Config,
 ) -> Result<bool, NoMemory>
-    requires groups { group.AreOf schema.now (keys (M.rows config.now)) groups.now }
+    requires grouped { group.IsGrouped schema.now (M.rows config.now) grouped.now }
     requires knows { spec.Knows schema.now (M.rows config.now) kept.old }
     ensures told { IfOk result (λ is. is ≡ value_spec.is_reached schema.now (M.rows config.now) (spec.claim_to target context.now value.now)) }
     ensures knows { IfOk result (λ _. spec.Knows schema.now (M.rows config.now) kept.new) }
@@ -200,7 +202,7 @@ pub fn is_reached<M: RowMap>(
         alloc,
         schema,
         config,
-        groups,
+        grouped,
         target,
         context.steps.len(),
         kept,

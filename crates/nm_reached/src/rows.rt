@@ -1,7 +1,6 @@
 //! The rule of leafrefs: what each refers to is there (RFC 7950 section 9.9).
 
 ghost use Rattle.std.specs.Prelude.{◌≡◌, IfOk};
-ghost use Rattle.std.specs.FinMap.{keys};
 ghost use Rattle.nm_tree.specs.Nodes.{reference_at};
 ghost use Rattle.nm_rules.specs.declared.rule.Rule.TheVariants as rule;
 ghost use Rattle.nm_rules.specs.Values.{claim_of, key_claims};
@@ -27,13 +26,13 @@ fn is_lost<M: RowMap>(
     alloc: Global,
     schema: &Schema,
     config: &M,
-    groups: &[Vec<&Path>],
+    grouped: &Grouped<'_>,
     path: &Path,
     value: &Value,
     reference: Option<Reference>,
     kept: &mut Config,
 ) -> Result<bool, NoMemory>
-    requires groups { group.AreOf schema.now (keys (M.rows config.now)) groups.now }
+    requires grouped { group.IsGrouped schema.now (M.rows config.now) grouped.now }
     requires knows { Knows schema.now (M.rows config.now) kept.old }
     ensures told { IfOk result (λ lost. lost ≡ spec.any_lost schema.now (M.rows config.now) (claim_of path.now value.now reference)) }
     ensures knows { IfOk result (λ _. Knows schema.now (M.rows config.now) kept.new) }
@@ -46,7 +45,7 @@ fn is_lost<M: RowMap>(
         alloc,
         schema,
         config,
-        groups,
+        grouped,
         reference.target,
         &context,
         value,
@@ -60,13 +59,13 @@ fn is_key_lost<M: RowMap>(
     alloc: Global,
     schema: &Schema,
     config: &M,
-    groups: &[Vec<&Path>],
+    grouped: &Grouped<'_>,
     entry: &Path,
     at: usize,
     value: &Value,
     kept: &mut Config,
 ) -> Result<bool, NoMemory>
-    requires groups { group.AreOf schema.now (keys (M.rows config.now)) groups.now }
+    requires grouped { group.IsGrouped schema.now (M.rows config.now) grouped.now }
     requires knows { Knows schema.now (M.rows config.now) kept.old }
     ensures told { IfOk result (λ lost. lost ≡ spec.any_lost schema.now (M.rows config.now) (spec.key_claim schema.now entry.now at value.now)) }
     ensures knows { IfOk result (λ _. Knows schema.now (M.rows config.now) kept.new) }
@@ -80,7 +79,7 @@ fn is_key_lost<M: RowMap>(
         alloc,
         schema,
         config,
-        groups,
+        grouped,
         &path,
         value,
         Some(reference),
@@ -94,13 +93,13 @@ fn is_any_key_lost<M: RowMap>(
     alloc: Global,
     schema: &Schema,
     config: &M,
-    groups: &[Vec<&Path>],
+    grouped: &Grouped<'_>,
     entry: &Path,
     leafs: &[usize],
     values: &[Value],
     kept: &mut Config,
 ) -> Result<bool, NoMemory>
-    requires groups { group.AreOf schema.now (keys (M.rows config.now)) groups.now }
+    requires grouped { group.IsGrouped schema.now (M.rows config.now) grouped.now }
     requires knows { Knows schema.now (M.rows config.now) kept.old }
     ensures told { IfOk result (λ lost. lost ≡ spec.any_lost schema.now (M.rows config.now) (key_claims schema.now entry.now leafs.now values.now)) }
     ensures knows { IfOk result (λ _. Knows schema.now (M.rows config.now) kept.new) }
@@ -111,7 +110,7 @@ fn is_any_key_lost<M: RowMap>(
         let [value, more_values @ ..] = values_left else {
             return Ok(false);
         };
-        if is_key_lost(alloc, schema, config, groups, entry, *leaf, value, kept)? {
+        if is_key_lost(alloc, schema, config, grouped, entry, *leaf, value, kept)? {
             return Ok(true);
         }
         leafs_left = more_leafs;
@@ -124,8 +123,8 @@ fn is_any_key_lost<M: RowMap>(
 const FEW: usize = 16;
 
 // Whether a node has few rows.
-fn has_few(groups: &[Vec<&Path>], at: usize) -> bool {
-    match groups.get(at) {
+fn has_few(grouped: &Grouped<'_>, at: usize) -> bool {
+    match grouped.groups.as_slice().get(at) {
         None => true,
         Some(paths) => paths.len() <= FEW,
     }
@@ -137,24 +136,24 @@ fn is_leaf_lost<M: RowMap>(
     alloc: Global,
     schema: &Schema,
     config: &M,
-    groups: &[Vec<&Path>],
+    grouped: &Grouped<'_>,
     path: &Path,
     value: &Value,
     at: usize,
     kept: &mut Config,
 ) -> Result<bool, NoMemory>
-    requires groups { group.AreOf schema.now (keys (M.rows config.now)) groups.now }
+    requires grouped { group.IsGrouped schema.now (M.rows config.now) grouped.now }
     requires knows { Knows schema.now (M.rows config.now) kept.old }
     ensures told { IfOk result (λ lost. lost ≡ spec.any_lost schema.now (M.rows config.now) (claim_of path.now value.now (reference_at schema.now.nodes at))) }
     ensures knows { IfOk result (λ _. Knows schema.now (M.rows config.now) kept.new) }
 {
     let reference = schema.reference(at);
-    if has_few(groups, at) {
+    if has_few(grouped, at) {
         if is_at_hand(alloc, schema, config, path, value, reference)? {
             return Ok(false);
         }
     }
-    is_lost(alloc, schema, config, groups, path, value, reference, kept)
+    is_lost(alloc, schema, config, grouped, path, value, reference, kept)
 }
 
 // Whether a row has a claim that isn't reached.
@@ -163,11 +162,11 @@ fn is_lost_row<M: RowMap>(
     alloc: Global,
     schema: &Schema,
     config: &M,
-    groups: &[Vec<&Path>],
+    grouped: &Grouped<'_>,
     row: &NodeRow<'_>,
     kept: &mut Config,
 ) -> Result<bool, NoMemory>
-    requires groups { group.AreOf schema.now (keys (M.rows config.now)) groups.now }
+    requires grouped { group.IsGrouped schema.now (M.rows config.now) grouped.now }
     requires knows { Knows schema.now (M.rows config.now) kept.old }
     ensures told { IfOk result (λ lost. lost ≡ spec.is_lost_at schema.now (M.rows config.now) row.now.node row.now.path.now row.now.value.now) }
     ensures knows { IfOk result (λ _. Knows schema.now (M.rows config.now) kept.new) }
@@ -175,14 +174,16 @@ fn is_lost_row<M: RowMap>(
     let Some(at) = row.node else {
         return Ok(false);
     };
-    if is_leaf_lost(alloc, schema, config, groups, row.path, row.value, at, kept)? {
+    if is_leaf_lost(
+        alloc, schema, config, grouped, row.path, row.value, at, kept,
+    )? {
         return Ok(true);
     }
     is_any_key_lost(
         alloc,
         schema,
         config,
-        groups,
+        grouped,
         row.path,
         schema.keys(at),
         values_in(row.path),
@@ -195,15 +196,15 @@ fn first_lost<M: RowMap>(
     alloc: Global,
     schema: &Schema,
     config: &M,
-    groups: &[Vec<&Path>],
+    grouped: &Grouped<'_>,
     rows: &[NodeRow<'_>],
 ) -> Result<Option<Path>, NoMemory>
-    requires { group.AreOf schema.now (keys (M.rows config.now)) groups.now }
+    requires { group.IsGrouped schema.now (M.rows config.now) grouped.now }
     ensures { IfOk result (λ found. found ≡ spec.first_lost schema.now (M.rows config.now) rows.now) }
 {
     let mut kept = Config::new(alloc);
     for row in rows {
-        if is_lost_row(alloc, schema, config, groups, row, &mut kept)? {
+        if is_lost_row(alloc, schema, config, grouped, row, &mut kept)? {
             return Ok(Some(row.path.copy(alloc)?));
         }
     }
@@ -211,7 +212,7 @@ fn first_lost<M: RowMap>(
 }
 
 /// The least path of a row with a leafref, its own or that of a key, that doesn't reach what it refers to (RFC 7950 section 9.9).
-#[tactic(auto, using(crate::proofs::Losing::lost_rows, nm_validate::proofs::Loops::lent_groups))]
+#[tactic(auto, using(crate::proofs::Losing::lost_rows))]
 pub fn least_unreached<M: RowMap>(
     alloc: Global,
     schema: &Schema,
@@ -221,5 +222,5 @@ pub fn least_unreached<M: RowMap>(
     requires { group.IsGrouped schema.now (M.rows config.now) grouped.now }
     ensures { IfOk result (λ found. found ≡ least_at schema.now (M.rows config.now) rule.Leafref) }
 {
-    first_lost(alloc, schema, config, &grouped.groups, &grouped.rows)
+    first_lost(alloc, schema, config, grouped, &grouped.rows)
 }

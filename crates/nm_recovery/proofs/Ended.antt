@@ -1,15 +1,10 @@
--- Sets of ended change sets, with one more.
-use Rattle.std.proofs.Common.{◌≡◌, ℕ, List, Bool, true, ◌||◌, ◌&&◌, nat_eq, inl, inr, sym, ap, ◌∙◌, arith}
-use Rattle.std.specs.List.{list_any}
-use Rattle.std.proofs.lemmas.Bool.{cases_eq}
-use Rattle.std.proofs.lemmas.Bool.Decides.{nat_tests}
-use Rattle.nm_proto.specs.declared.journal.Entry.{Entry}
-use Rattle.nm_recovery.specs.Recovery.{starts_on}
+-- Sets of change sets, with one more.
+use Rattle.std.proofs.Common.{◌≡◌, ℕ, Bool, true, false, ◌||◌, ◌&&◌, nat_eq, refl, sym, ap, ◌∙◌}
 
--- a change set of the device came
-pub came : (device change other : ℕ) (entries : List Entry) (old new : Bool) → list_any (starts_on device change) entries ≡ true
-    → new ≡ (old || nat_eq other change) → new ≡ (old || (nat_eq other change && list_any (starts_on device other) entries))
-came device change other entries old new there is = elim (cases_eq other change) [
-  | inl e ↦ let on = ap (λ c. list_any (starts_on device c) entries) e ∙ there in grind (arith, nat_tests)
-  | inr n ↦ grind (arith, nat_tests)
-]
+with_true : (b : Bool) → b ≡ (b && true)
+with_true true = refl
+with_true false = refl
+
+-- a change set came
+pub came : (old : Bool) (other one change : ℕ) (comes : Bool) → one ≡ change → comes ≡ true → (old || nat_eq other one) ≡ (old || (nat_eq other change && comes))
+came old other one change comes e is = ap (λ n. old || nat_eq other n) e ∙ ap (λ b. old || b) (with_true (nat_eq other change) ∙ ap (λ b. nat_eq other change && b) (sym is))

@@ -1,6 +1,6 @@
 -- What the entries of a journal say of each change set (this project's own). Reports, the manager and what is proved of it
 -- read a change set's standing from here alone.
-use Rattle.std.specs.Prelude.{ℕ, ◌-◌, ◌*◌, ◌%◌, ◌^◌, List, [], ◌∷◌, ◌++◌, Bool, ◌&&◌, false, find, fold, bit_or, Option, Some, None, option_and_then, nat_eq, if◌then◌else◌}
+use Rattle.std.specs.Prelude.{ℕ, ◌-◌, ◌*◌, ◌%◌, ◌^◌, List, [], ◌∷◌, Bool, ◌&&◌, false, find, fold, bit_or, Option, Some, None, option_and_then, nat_eq, if◌then◌else◌}
 use Rattle.std.specs.List.{list_any, flat_map}
 use Rattle.nm_base.specs.Mask.{mask_contains}
 use Rattle.nm_base.specs.declared.mask.DeviceMask.{DeviceMask}
@@ -62,19 +62,29 @@ is_ended_on device entries change = list_any (ends change) entries && list_any (
 unfoldable pub with_change : ℕ → ℕ → ℕ
 with_change mask change = bit_or mask (1 * 2 ^ (change - 1) % 2 ^ 64)
 
--- a set of change sets with another one, where that is one of a device
-abbrev pub with_if_on : ℕ → List Entry → ℕ → ℕ → ℕ
-with_if_on device entries mask change = if list_any (starts_on device change) entries then with_change mask change else mask
+-- a set of change sets with another one, where that is to come
+abbrev pub with_if : ℕ → Bool → ℕ → ℕ
+with_if mask comes change = if comes then with_change mask change else mask
 
--- a set of change sets with that of an entry which ends one of a device
-abbrev pub with_ended : ℕ → List Entry → ℕ → Entry → ℕ
-with_ended device entries mask (Started change devices timeout) = mask
-with_ended device entries mask (Decided change verdict) = mask
-with_ended device entries mask (Ended change kept) = with_if_on device entries mask change
+-- a set of change sets with that of an entry which starts one of a device
+abbrev pub with_started : ℕ → ℕ → Entry → ℕ
+with_started device mask (Started change devices timeout) = with_if mask (mask_contains devices.0 device) change
+with_started device mask (Decided change verdict) = mask
+with_started device mask (Ended change kept) = mask
+
+-- the change sets of a device, as a set
+abbrev pub started_on : ℕ → List Entry → ℕ
+started_on device entries = fold (with_started device) 0 entries
+
+-- a set of change sets with that of an entry which ends one of a set
+abbrev pub with_ended : ℕ → ℕ → Entry → ℕ
+with_ended on mask (Started change devices timeout) = mask
+with_ended on mask (Decided change verdict) = mask
+with_ended on mask (Ended change kept) = with_if mask (mask_contains on change) change
 
 -- the change sets of a device that are ended, as a set
 abbrev pub ended_on : ℕ → List Entry → ℕ
-ended_on device entries = fold (with_ended device entries) 0 entries
+ended_on device entries = fold (with_ended (started_on device entries)) 0 entries
 
 -- ---- what is recovered
 

@@ -4,7 +4,7 @@ ghost use Rattle.std.specs.Prelude.{◌≡◌, ◌<◌, ◌||◌, ◌&&◌, nat_
 ghost use Rattle.std.specs.List.{list_any};
 ghost use Rattle.nm_base.specs.Mask.{mask_contains};
 ghost use Rattle.nm_journal.specs.Entries.{starts, decides, ends};
-ghost use Rattle.nm_recovery.specs.Recovery.{devices_in, devices_of, ended_on, is_ended_in, is_ended_on, is_started, kept_in, kept_of, starts_on, verdict_in, verdict_of, with_change, with_ended, with_if_on};
+ghost use Rattle.nm_recovery.specs.Recovery.{devices_in, devices_of, ended_on, is_ended_in, is_ended_on, is_started, kept_in, kept_of, started_on, starts_on, verdict_in, verdict_of, with_ended, with_if, with_started};
 
 use nm_base::{ChangeMask, ChangeNo, DeviceMask, DeviceNo};
 use nm_journal::{decides, ends, starts};
@@ -54,60 +54,67 @@ pub fn kept_in(entries: &[Entry], change: ChangeNo) -> Option<DeviceMask>
     }
 }
 
-/// The change sets of the device that the manager is done with. It takes time as there are entries, times those that
-/// end a change set.
+/// The change sets of the device that the manager is done with. It goes through the entries twice.
 pub fn ended_on(entries: &[Entry], device: DeviceNo) -> ChangeMask
     ensures value { result.0 ≡ ended_on device entries.now }
     ensures contains { (change : ℕ) → 0 < change → mask_contains result.0 change ≡ is_ended_on device entries.now change }
 {
+    let on = started_on(entries, device);
     let mut ended = 0;
     for entry in entries {
-        ended = with_ended(entries, device, ended, entry);
+        ended = with_ended(on, ended, entry);
     }
     ChangeMask(ended)
 }
 
-// The set with the change set of an entry that ends one of the device.
-fn with_ended(entries: &[Entry], device: DeviceNo, ended: u64, entry: &Entry) -> u64
-    ensures value { result ≡ with_ended device entries.now ended entry.now }
-    ensures contains { (other : ℕ) → 0 < other → mask_contains result other ≡ (mask_contains ended other || (ends other entry.now && list_any (starts_on device other) entries.now)) }
+// The change sets of the device.
+fn started_on(entries: &[Entry], device: DeviceNo) -> ChangeMask
+    ensures value { result.0 ≡ started_on device entries.now }
+    ensures contains { (change : ℕ) → 0 < change → mask_contains result.0 change ≡ list_any (starts_on device change) entries.now }
+{
+    let mut on = 0;
+    for entry in entries {
+        on = with_started(device, on, entry);
+    }
+    ChangeMask(on)
+}
+
+// The set with the change set of an entry that starts one of the device.
+fn with_started(device: DeviceNo, on: u64, entry: &Entry) -> u64
+    ensures value { result ≡ with_started device on entry.now }
+    ensures contains { (other : ℕ) → 0 < other → mask_contains result other ≡ (mask_contains on other || starts_on device other entry.now) }
 {
     match entry {
-        Entry::Ended { change, .. } => with_if_on(entries, device, ended, *change),
+        Entry::Started {
+            change,
+            devices,
+            ..
+        } => with_if(on, devices.contains(device), *change),
+        Entry::Decided { .. } | Entry::Ended { .. } => on,
+    }
+}
+
+// The set with the change set of an entry that ends one of these.
+fn with_ended(on: ChangeMask, ended: u64, entry: &Entry) -> u64
+    ensures value { result ≡ with_ended on.0 ended entry.now }
+    ensures contains { (other : ℕ) → 0 < other → mask_contains result other ≡ (mask_contains ended other || (ends other entry.now && mask_contains on.0 other)) }
+{
+    match entry {
+        Entry::Ended { change, .. } => with_if(ended, on.contains(*change), *change),
         Entry::Started { .. } | Entry::Decided { .. } => ended,
     }
 }
 
-// The set with the change set, where it is one of the device.
+// The set with the change set, where it is to come.
 #[tactic(auto, unfolding(crate::specs::Recovery::with_change))]
-fn with_if_on(entries: &[Entry], device: DeviceNo, ended: u64, change: ChangeNo) -> u64
-    ensures value { result ≡ with_if_on device entries.now ended change }
-    ensures contains { (other : ℕ) → 0 < other → mask_contains result other ≡ (mask_contains ended other || (nat_eq other change && list_any (starts_on device other) entries.now)) }
+fn with_if(mask: u64, comes: bool, change: ChangeNo) -> u64
+    ensures value { result ≡ with_if mask comes change }
+    ensures contains { (other : ℕ) → 0 < other → mask_contains result other ≡ (mask_contains mask other || (nat_eq other change && comes)) }
 {
-    if is_on(entries, device, change) {
-        ended | (1u64 << (change.get() - 1))
+    if comes {
+        mask | (1u64 << (change.get() - 1))
     } else {
-        ended
-    }
-}
-
-// Whether the change set is one of the device.
-fn is_on(entries: &[Entry], device: DeviceNo, change: ChangeNo) -> bool
-    ensures { result ≡ list_any (starts_on device change) entries.now }
-{
-    entries.iter().any(|entry| starts_on(device, change, entry))
-}
-
-fn starts_on(device: DeviceNo, change: ChangeNo, entry: &Entry) -> bool
-    ensures { result ≡ starts_on device change entry.now }
-{
-    match entry {
-        Entry::Started {
-            change: other,
-            devices,
-            ..
-        } => change.get() == other.get() && devices.contains(device),
-        _ => false,
+        mask
     }
 }
 

@@ -47,15 +47,18 @@ said_by : (rows : List Row) (r : Row) (l : ℕ) (s : Said) (b : Bool) → cond b
 said_by rows r l s true e = said_one rows r l s (has_word word.List (slice_get rows l)) e
 said_by rows r l s false e = absurd (cc)
 
--- a `key` that stands in list l is that of list l
-said_list : (rows : List Row) (l i : ℕ) (s : Said) → first_below rows l word.Key ≡ Some i → said_at rows word.Key i ≡ Some s → s.list ≡ l
+-- a statement that stands in list l is that of list l
+pub said_in_list : (rows : List Row) (w : Word) (l i : ℕ) (s : Said) → Contains (children rows l) i → said_at rows w i ≡ Some s → s.list ≡ l
 unfolding said_at
-said_list rows l i s first e =
-    let one = one_of 0 (Some l) rows i (first_among rows word.Key (children rows l) i first) in
+said_in_list rows w l i s among e =
+    let one = one_of 0 (Some l) rows i among in
     let at : slice_get rows i ≡ Some one.row = ap (slice_get rows) (one.number ∙ omega arith) ∙ one.there in
-    let f : said_in rows word.Key (Some one.row) ≡ Some s = sym (ap (said_in rows word.Key) at) ∙ e in
-    let g : cond (same_word one.row.word word.Key) (said_within rows one.row (Some l)) None ≡ Some s = sym (ap (λ (p : Option ℕ). cond (same_word one.row.word word.Key) (said_within rows one.row p) None) (parent_is one.row.parent l one.stands)) ∙ f in
-    said_by rows one.row l s (same_word one.row.word word.Key) g
+    let f : said_in rows w (Some one.row) ≡ Some s = sym (ap (said_in rows w) at) ∙ e in
+    let g : cond (same_word one.row.word w) (said_within rows one.row (Some l)) None ≡ Some s = sym (ap (λ (p : Option ℕ). cond (same_word one.row.word w) (said_within rows one.row p) None) (parent_is one.row.parent l one.stands)) ∙ f in
+    said_by rows one.row l s (same_word one.row.word w) g
+
+said_list : (rows : List Row) (l i : ℕ) (s : Said) → first_below rows l word.Key ≡ Some i → said_at rows word.Key i ≡ Some s → s.list ≡ l
+said_list rows l i s first e = said_in_list rows word.Key l i s (first_among rows word.Key (children rows l) i first) e
 
 -- ---- the words
 

@@ -15,6 +15,11 @@ pub mod Shapes
 pub mod Keys
 pub mod Nodes
 pub mod Sound
+pub mod Leading
+pub mod Targets
+pub mod Defaults
+pub mod Uniques
+pub mod Wholes
 pub mod Marked
 pub mod Single
 pub mod Placing

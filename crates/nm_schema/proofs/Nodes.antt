@@ -37,7 +37,7 @@ use Rattle.nm_schema.proofs.Onces.{same_bytes}
 use Rattle.nm_schema.proofs.Faultless.{AreFaultless, within}
 use Rattle.nm_schema.proofs.Naming.{node_named}
 use Rattle.nm_schema.proofs.Claims.{AreOrderly}
-use Rattle.nm_schema.proofs.Siblings.{plain_stands, kept_stands, one_stands, kept_once}
+use Rattle.nm_schema.proofs.Siblings.{Stands, plain_stands, kept_stands, one_stands, kept_once}
 use Rattle.nm_schema.proofs.Types.{type_yang}
 use Rattle.nm_schema.proofs.Givens.{parent_is, module_is, one_module}
 use Rattle.nm_schema.proofs.Shapes.{IsShape, container, leaf, leaf_list, listed, shape}
@@ -121,9 +121,9 @@ some_of (Some x) e = (x, refl)
 
 data_word : {rows : List Row} {facts : Facts} {x : ℕ} {place : Instance} {w : Word} {k : NodeKind} → IsShape rows facts x place w k → is_data w ≡ true
 data_word (container p is k) = rw is refl
-data_word (leaf t d m r is k y) = rw is refl
-data_word (leaf_list t r e is k y) = rw is refl
-data_word (listed keys u e is k y) = rw is refl
+data_word (leaf t d m r is k y l f) = rw is refl
+data_word (leaf_list t r e is k y f) = rw is refl
+data_word (listed keys u e is k y z) = rw is refl
 
 -- ---- what holds no nodes
 
@@ -147,7 +147,7 @@ distinct f (x ∷ xs) once = (all_apart x xs (λ y c e. once.0 (subst (λ (w : L
 -- ---- the nodes
 
 module _ (rows : List Row) (facts : Facts) (all : AreFaultless rows facts) (order : AreOrderly rows (definitions rows)) (expansion : IsExpansion rows (definitions rows) facts.nodes) where
-  given_shape : (x : ℕ) (n : Node) (p : IsPlaced rows facts x n) → IsShape rows facts x p.place p.row.word n.kind
+  pub given_shape : (x : ℕ) (n : Node) (p : IsPlaced rows facts x n) → IsShape rows facts x p.place p.row.word n.kind
   given_shape x n p = shape rows facts x p.place n.kind p.row.word p.kind_is
 
   pub given_named : (x : ℕ) (n : Node) → node_of rows facts x ≡ Some n → (form.is_identifier n.name ≡ true) × (form.is_identifier n.«module» ≡ true)
@@ -188,11 +188,11 @@ module _ (rows : List Row) (facts : Facts) (all : AreFaultless rows facts) (orde
       only_one rows (row_of facts.nodes) (tops facts.nodes c.owner) (grown_members rows (definitions rows) c.owner) x y c.row d.row (expansion.outermost c.owner (expansion.owners x c is)) (grown_once c.owner)
       (row_at_place x c is) (row_at_place y d at) name (in_tops x c is top) (subst (λ (m : ℕ). Contains (tops facts.nodes m) y) (sym owner) (in_tops y d at other))
 
-  parent_before : (x p : ℕ) (c : Instance) → slice_get facts.nodes x ≡ Some c → c.parent ≡ Some p → (p < x) × (owner_of facts.nodes p ≡ Some c.owner)
+  pub parent_before : (x p : ℕ) (c : Instance) → slice_get facts.nodes x ≡ Some c → c.parent ≡ Some p → (p < x) × (owner_of facts.nodes p ≡ Some c.owner)
   parent_before x p c is e = subst (λ (o : Option ℕ). IfSome o (λ p. (p < x) × (owner_of facts.nodes p ≡ Some c.owner))) e (expansion.parents x c is)
 
   -- a node that a node stands in
-  parent_there : (x p : ℕ) (c : Instance) → slice_get facts.nodes x ≡ Some c → c.parent ≡ Some p → (a : Instance) × (slice_get facts.nodes p ≡ Some a)
+  pub parent_there : (x p : ℕ) (c : Instance) → slice_get facts.nodes x ≡ Some c → c.parent ≡ Some p → (a : Instance) × (slice_get facts.nodes p ≡ Some a)
   unfolding owner_of
   parent_there x p c is e = by (slice_get facts.nodes p) refl (parent_before x p c is e).1
     where
@@ -244,9 +244,9 @@ module _ (rows : List Row) (facts : Facts) (all : AreFaultless rows facts) (orde
 
   holder_by : (p : ℕ) (a : Instance) (r : Row) (k : NodeKind) (c : ℕ) → slice_get rows a.row ≡ Some r → Contains (kept_below rows (definitions rows) a.row) c → IsShape rows facts p a r.word k → is_holder k ≡ true
   holder_by p a r k c is in_it (container b w e) = rw e refl
-  holder_by p a r k c is in_it (listed keys u n w e y) = rw e refl
-  holder_by p a r k c is in_it (leaf t d m f w e y) = absurd (empty_row a r c is (rw w refl) (rw w refl) in_it)
-  holder_by p a r k c is in_it (leaf_list t f n w e y) = absurd (empty_row a r c is (rw w refl) (rw w refl) in_it)
+  holder_by p a r k c is in_it (listed keys u n w e y z) = rw e refl
+  holder_by p a r k c is in_it (leaf t d m f w e y l z) = absurd (empty_row a r c is (rw w refl) (rw w refl) in_it)
+  holder_by p a r k c is in_it (leaf_list t f n w e y z) = absurd (empty_row a r c is (rw w refl) (rw w refl) in_it)
 
   pub given_holder : (x p : ℕ) (n m : Node) → node_of rows facts x ≡ Some n → n.parent ≡ Some p → node_of rows facts p ≡ Some m → is_holder m.kind ≡ true
   given_holder x p n m e parent f =
@@ -258,34 +258,36 @@ module _ (rows : List Row) (facts : Facts) (all : AreFaultless rows facts) (orde
 
   yang_by : (x : ℕ) (place : Instance) (w : Word) (k : NodeKind) (t : TypeOfLeaf) → IsShape rows facts x place w k → type_of k ≡ Some t → HasLow t.kind × HasDistinctNames t.kind × HasHeldBounds t.kind
   yang_by x place w k t (container p is e) h = let no : None ≡ Some t = sym (ap type_of e) ∙ h in absurd (cc)
-  yang_by x place w k t (listed keys u n is e y) h = let no : None ≡ Some t = sym (ap type_of e) ∙ h in absurd (cc)
-  yang_by x place w k t (leaf s d m r is e y) h = let same : Some s ≡ Some t = sym (ap type_of e) ∙ h in type_yang (definitions rows) (tree rows facts) x t (y ∙ same)
-  yang_by x place w k t (leaf_list s r n is e y) h = let same : Some s ≡ Some t = sym (ap type_of e) ∙ h in type_yang (definitions rows) (tree rows facts) x t (y ∙ same)
+  yang_by x place w k t (listed keys u n is e y z) h = let no : None ≡ Some t = sym (ap type_of e) ∙ h in absurd (cc)
+  yang_by x place w k t (leaf s d m r is e y l f) h = let same : Some s ≡ Some t = sym (ap type_of e) ∙ h in type_yang (definitions rows) (tree rows facts) x t (y ∙ same)
+  yang_by x place w k t (leaf_list s r n is e y f) h = let same : Some s ≡ Some t = sym (ap type_of e) ∙ h in type_yang (definitions rows) (tree rows facts) x t (y ∙ same)
 
   pub given_type : (x : ℕ) (n : Node) (t : TypeOfLeaf) → node_of rows facts x ≡ Some n → type_of n.kind ≡ Some t → HasLow t.kind × HasDistinctNames t.kind × HasHeldBounds t.kind
   given_type x n t e h = let p = placed rows facts x n e in yang_by x p.place p.row.word n.kind t (given_shape x n p) h
 
   -- ---- keys
 
-  leaf_by : (y : ℕ) (c : Instance) (r : Row) (k : NodeKind) → has_word word.Leaf (Some r) ≡ true → IsShape rows facts y c r.word k → is_leaf k ≡ true
-  leaf_by y c r k has (leaf t d m f w e u) = rw e refl
+  pub leaf_by : (y : ℕ) (c : Instance) (r : Row) (k : NodeKind) → has_word word.Leaf (Some r) ≡ true → IsShape rows facts y c r.word k → is_leaf k ≡ true
+  leaf_by y c r k has (leaf t d m f w e u l z) = rw e refl
   leaf_by y c r k has (container p w e) = absurd (let no = rw w at has in cc)
-  leaf_by y c r k has (listed keys u n w e s) = absurd (let no = rw w at has in cc)
-  leaf_by y c r k has (leaf_list t f n w e u) = absurd (let no = rw w at has in cc)
+  leaf_by y c r k has (listed keys u n w e s z) = absurd (let no = rw w at has in cc)
+  leaf_by y c r k has (leaf_list t f n w e u z) = absurd (let no = rw w at has in cc)
 
   module _ (known : (x : ℕ) → x < length facts.nodes → is_some (node_of rows facts x) ≡ true) where
-    -- node y is the leaf of row k, directly in node x
-    pub record IsKeyNode (x k y : ℕ) : Type 0 where
+    -- node y is that of row k, directly in node x
+    pub record IsRowNode (x k y : ℕ) : Type 0 where
       pub node : Node
       pub there : node_of rows facts y ≡ Some node
-      pub leaf_is : is_leaf node.kind ≡ true
+      pub place : IsPlaced rows facts y node
+      pub row_is : place.place.row ≡ k
+      pub row_there : slice_get rows k ≡ Some place.row
       pub parent : node.parent ≡ Some x
       pub name : node.name ≡ argument_at rows k
 
-    key_node : (x : ℕ) (a : Instance) (k y : ℕ) (leafs : List ℕ) → slice_get facts.nodes x ≡ Some a → HasKeyRows rows (definitions rows) a.row leafs → Contains leafs k
-        → child_named rows facts.nodes x (argument_at rows k) ≡ Some y → IsKeyNode x k y
+    -- the node in node x that has the name of a row that stands in its row is the node of that row
+    pub row_node : (x : ℕ) (a : Instance) (k y : ℕ) → slice_get facts.nodes x ≡ Some a → Stands rows (definitions rows) a.row k → child_named rows facts.nodes x (argument_at rows k) ≡ Some y → IsRowNode x k y
     unfolding child_named is_below has_name
-    key_node x a k y leafs at keys among e =
+    row_node x a k y at stands e =
         let h = first_passes (is_child_named rows x (argument_at rows k)) facts.nodes y e in
         let both = and_parts (is_below x h.x) (has_name rows (argument_at rows k) h.x) h.passes in
         let parent : h.x.parent ≡ Some x = parent_is h.x.parent x both.0 in
@@ -294,27 +296,52 @@ module _ (rows : List Row) (facts : Facts) (all : AreFaultless rows facts) (orde
         let p = placed rows facts y n.0 n.1 in
         let same : p.place ≡ h.x = same_Some p.place h.x (sym p.there ∙ h.here) in
         let member = kept_stands rows (definitions rows) a.row h.x.row (kept_in_parent y x h.x a h.here parent at) in
-        let it = keys.each k among in
-        let row : h.x.row ≡ k = one_stands rows (definitions rows) order a.row h.x.row k member (plain_stands rows (definitions rows) a.row keys.nodes keys.known k it.among) named in
-        let at_row : slice_get rows k ≡ Some p.row = ap (slice_get rows) (sym row ∙ ap (λ (i : Instance). i.row) (sym same)) ∙ p.row_there in
-        let has : has_word word.Leaf (Some p.row) ≡ true = sym (ap (has_word word.Leaf) at_row) ∙ it.leaf in
+        let row : h.x.row ≡ k = one_stands rows (definitions rows) order a.row h.x.row k member stands named in
         record {
           node = n.0;
           there = n.1;
-          leaf_is = leaf_by y p.place p.row n.0.kind has (given_shape y n.0 p);
+          place = p;
+          row_is = ap (λ (i : Instance). i.row) same ∙ row;
+          row_there = ap (slice_get rows) (sym row ∙ ap (λ (i : Instance). i.row) (sym same)) ∙ p.row_there;
           parent = p.parent ∙ ap (λ (i : Instance). i.parent) same ∙ parent;
           name = p.name ∙ ap (λ (i : Instance). argument_at rows i.row) same ∙ named;
         }
 
+    -- node y is the leaf of row k, directly in node x
+    pub record IsKeyNode (x k y : ℕ) : Type 0 where
+      pub node : Node
+      pub there : node_of rows facts y ≡ Some node
+      pub place : IsPlaced rows facts y node
+      pub row_is : place.place.row ≡ k
+      pub leaf_is : is_leaf node.kind ≡ true
+      pub parent : node.parent ≡ Some x
+      pub name : node.name ≡ argument_at rows k
+
+    key_node : (x : ℕ) (a : Instance) (k y : ℕ) (leafs : List ℕ) → slice_get facts.nodes x ≡ Some a → HasKeyRows rows (definitions rows) a.row leafs → Contains leafs k
+        → child_named rows facts.nodes x (argument_at rows k) ≡ Some y → IsKeyNode x k y
+    key_node x a k y leafs at keys among e =
+        let it = keys.each k among in
+        let n = row_node x a k y at (plain_stands rows (definitions rows) a.row keys.nodes keys.known k it.among) e in
+        let has : has_word word.Leaf (Some n.place.row) ≡ true = sym (ap (has_word word.Leaf) n.row_there) ∙ it.leaf in
+        record {
+          node = n.node;
+          there = n.there;
+          place = n.place;
+          row_is = n.row_is;
+          leaf_is = leaf_by y n.place.place n.place.row n.node.kind has (given_shape y n.node n.place);
+          parent = n.parent;
+          name = n.name;
+        }
+
     -- each of these is the node of one of those
-    abbrev ArePaired : ℕ → List ℕ → List ℕ → Type 0
+    abbrev pub ArePaired : ℕ → List ℕ → List ℕ → Type 0
     ArePaired x [] [] = Unit {0}
     ArePaired x [] (y ∷ ys) = ⊥
     ArePaired x (k ∷ ks) [] = ⊥
     ArePaired x (k ∷ ks) (y ∷ ys) = IsKeyNode x k y × ArePaired x ks ys
 
     -- the nodes of key leafs
-    key_nodes : (x : ℕ) (a : Instance) (leafs : List ℕ) → slice_get facts.nodes x ≡ Some a → HasKeyRows rows (definitions rows) a.row leafs
+    pub key_nodes : (x : ℕ) (a : Instance) (leafs : List ℕ) → slice_get facts.nodes x ≡ Some a → HasKeyRows rows (definitions rows) a.row leafs
         → (ks ys : List ℕ) → ((k : ℕ) → Contains ks k → Contains leafs k) → all_there (map (named_as rows facts x) ks) ≡ Some ys → ArePaired x ks ys
     unfolding named_as
     key_nodes x a leafs at keys [] ys among e = let none : [] ≡ ys = cc in subst (λ (l : List ℕ). ArePaired x [] l) none tt
@@ -365,9 +392,9 @@ module _ (rows : List Row) (facts : Facts) (all : AreFaultless rows facts) (orde
       keys_by : (x : ℕ) (a : Instance) (w : Word) (k : NodeKind) → slice_get facts.nodes x ≡ Some a → IsShape rows facts x a w k → HasKeys nodes x k × IsOnce (map (λ k. name_at nodes k) (keys_of_node k))
       unfolding keys_in
       keys_by x a w k is (container p i e) = rw e (tt, tt)
-      keys_by x a w k is (leaf t d m r i e y) = rw e (tt, tt)
-      keys_by x a w k is (leaf_list t r n i e y) = rw e (tt, tt)
-      keys_by x a w k is (listed keys u n i e s) = rw e (key_list x a keys (keys_of rows (definitions rows) (standing facts) a.row) is refl s)
+      keys_by x a w k is (leaf t d m r i e y l f) = rw e (tt, tt)
+      keys_by x a w k is (leaf_list t r n i e y f) = rw e (tt, tt)
+      keys_by x a w k is (listed keys u n i e s z) = rw e (key_list x a keys (keys_of rows (definitions rows) (standing facts) a.row) is refl s)
 
       -- the keys of a list are leafs in it that have names of their own
       pub given_keys : (x : ℕ) (n : Node) → node_of rows facts x ≡ Some n → HasKeys nodes x n.kind × IsOnce (map (λ k. name_at nodes k) (keys_of_node n.kind))

@@ -40,7 +40,7 @@ known_by : (o : Bool) → not o ≡ false → o ≡ true
 known_by true e = refl
 known_by false e = absurd (cc)
 
-all_known : (rows : List Row) (facts : Facts) → first_unknown rows facts ≡ None → (x : ℕ) → x < length facts.nodes → is_some (node_of rows facts x) ≡ true
+pub all_known : (rows : List Row) (facts : Facts) → first_unknown rows facts ≡ None → (x : ℕ) → x < length facts.nodes → is_some (node_of rows facts x) ≡ true
 unfolding first_unknown is_unknown
 all_known rows facts e x lt = known_by (is_some (node_of rows facts x)) (finds_none (is_unknown rows facts) (range_with_len 0 (length facts.nodes)) x e (in_range (length facts.nodes) x lt))
 
@@ -104,7 +104,7 @@ module _ (rows : List Row) (facts : Facts) (all : AreFaultless rows facts) (orde
   abbrev nodes : List Node
   nodes = firsts ++ marker_nodes count
 
-  case : (i : ℕ) (n : Node) → slice_get nodes i ≡ Some n → IsCase rows facts count i n
+  pub case : (i : ℕ) (n : Node) → slice_get nodes i ≡ Some n → IsCase rows facts count i n
   case i n e =
       let are = are_all rows facts known in
       elim (in_both (known_nodes rows facts) (marker_nodes (length (known_nodes rows facts))) i n e) [
@@ -118,7 +118,7 @@ module _ (rows : List Row) (facts : Facts) (all : AreFaultless rows facts) (orde
       let p = placed rows facts x n e in
       omega (arith, within facts.nodes x p.place p.there, are.size)
 
-  at : (x : ℕ) (n : Node) → node_of rows facts x ≡ Some n → slice_get nodes x ≡ Some n
+  pub at : (x : ℕ) (n : Node) → node_of rows facts x ≡ Some n → slice_get nodes x ≡ Some n
   at x n e =
       let are = are_all rows facts known in
       let lt : x < length (known_nodes rows facts) = inside x n e in

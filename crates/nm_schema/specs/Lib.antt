@@ -2,4 +2,5 @@ pub mod Kind
 pub mod Choices
 pub mod Node
 pub mod Marker
+pub mod Whole
 pub mod Built

@@ -6,12 +6,20 @@ ghost use Rattle.nm_tree.specs.Nodes.{SchemaTree, case_at};
 ghost use Rattle.nm_path.specs.Sound.{IsSound};
 ghost use Rattle.nm_flaws.specs.declared.fault.Fault.{Fault};
 ghost use Rattle.nm_schema.specs.Built as spec;
+ghost use Rattle.nm_schema.specs.Whole.{AreWhole};
 ghost use Rattle.nm_schema.specs.Marker.{HasMarker};
 
 /// The nodes of a tree that modules give: their names are identifiers and tell them apart, each stands in an earlier container or
 /// list of its module or at the top, each list has keys, which are leafs in it, and the types are those of YANG.
 pub fn sound_nodes()
     ensures { (modules : List Tree) (t : SchemaTree) → spec.Builds modules (Ok t) → IsSound t.nodes }
+{}
+
+/// In a tree that modules give each leafref leads to a leaf or leaf-list of its own type, and its path turns at a node that the
+/// target stands in, or above all nodes; each unique statement names leafs below its list, in containers alone; each default is a
+/// value of its leaf's type, and keys have none.
+pub fn whole_nodes()
+    ensures { (modules : List Tree) (t : SchemaTree) → spec.Builds modules (Ok t) → AreWhole t.nodes }
 {}
 
 /// The nodes of the marker module stand in a tree that modules give.

@@ -9,6 +9,7 @@ ghost use Rattle.nm_path.specs.Written.{IsWellNamed};
 ghost use Rattle.nm_path.specs.Sound.{IsSound};
 ghost use Rattle.nm_schema.specs.Built as spec;
 ghost use Rattle.nm_schema.specs.Marker.{HasMarker};
+ghost use Rattle.nm_schema.specs.Whole.{AreWhole};
 
 use crate::fault::SchemaFault;
 use crate::tree::schema_of;
@@ -75,13 +76,16 @@ fn answer_rows(alloc: Global, rows: &Rows) -> Result<Schema, SchemaFault>
 /// modules and places.
 ///
 /// The names in a tree are identifiers, and tell the nodes of one place, the keys of a list and the bits of a type apart. Each
-/// node stands at the top, or in an earlier container or list of its module. A list has keys, which are leafs in it.
-#[tactic(auto, using(crate::proofs::Sound::answer_named, crate::proofs::Sound::answer_sound, crate::proofs::Marked::answer_marked))]
+/// node stands at the top, or in an earlier container or list of its module. A list has keys, which are leafs in it. A leafref
+/// leads to a leaf or leaf-list of its own type, a unique statement names leafs below its list in containers alone, and a default
+/// is a value of its leaf's type.
+#[tactic(auto, using(crate::proofs::Sound::answer_named, crate::proofs::Sound::answer_sound, crate::proofs::Marked::answer_marked, crate::proofs::Wholes::answer_whole))]
 pub fn build(alloc: Global, modules: &[Statement]) -> Result<Schema, SchemaFault>
     ensures answers { spec.Answers modules.now result }
     ensures named { IfOk result (λ schema. IsWellNamed schema.nodes) }
     ensures sound { IfOk result (λ schema. IsSound schema.nodes) }
     ensures marked { IfOk result HasMarker }
+    ensures whole { IfOk result (λ schema. AreWhole schema.nodes) }
 {
     let rows = rows_of(alloc, modules)?;
     answer_rows(alloc, &rows)

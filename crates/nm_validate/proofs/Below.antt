@@ -1,9 +1,8 @@
 -- The places below nodes, from what each node stands in.
-use Rattle.std.proofs.Common.{◌≡◌, ℕ, zero, suc, ◌+◌, ◌-◌, ◌<◌, List, [], ◌∷◌, ◌++◌, map, length, Bool, true, false, cond, ◌&&◌, ◌||◌, Option, Some, None, Vec, if◌then◌else◌, slice_get, refl, sym, ap, ◌∙◌, append_assoc, arith}
+use Rattle.std.proofs.Common.{◌≡◌, ℕ, zero, suc, ◌+◌, ◌-◌, ◌<◌, List, [], ◌∷◌, ◌++◌, map, length, Bool, true, false, cond, ◌&&◌, ◌||◌, Option, Some, None, if◌then◌else◌, slice_get, refl, sym, ap, ◌∙◌, append_assoc, arith}
 use Rattle.std.specs.Prelude.{filter}
 use Rattle.std.specs.List.{fold, flat_map, list_any, range_with_len}
 use Rattle.std.specs.FinMap.{keys}
-use Rattle.std.specs.declared.alloc.Global.{Global}
 use Rattle.std.proofs.lemmas.Grind.{fold-append}
 use Rattle.nm_types.specs.Path.{PathStep}
 use Rattle.nm_tree.specs.declared.node.Node.{Node}
@@ -15,8 +14,7 @@ use Rattle.nm_rules.specs.Guards.{leads_to}
 use Rattle.nm_rules.specs.Places.{chain_of, chain, placed, areas_below, areas}
 use Rattle.nm_rules.proofs.Looked.{get_within}
 use Rattle.nm_validate.specs.Groups.{Group, in_group, AreOf}
-use Rattle.nm_validate.specs.Members.{AreMembers, is_allowed_by}
-use Rattle.nm_validate.specs.Placing.{place_by}
+use Rattle.nm_validate.specs.Placing.{place_at}
 use Rattle.nm_validate.proofs.Leasts.{range_step}
 
 -- ---- members of cases
@@ -30,12 +28,21 @@ any_kept test other (x ∷ xs) =
       | false ↦ rest
     ]
 
-pub allowed_is : (t : SchemaTree) (rows : Rows) (above : List PathStep) (case : Option ℕ) (members : Option (Vec ℕ Global)) → AreMembers t case members → is_allowed_by t rows above members ≡ is_allowed t rows above case
+twice_by : {X : Type 0} (one : X → Bool) (x : X) (kept both : List X) (a b : Bool) → one x ≡ a → filter one kept ≡ both → filter one (cond b (x ∷ kept) kept) ≡ cond (a && b) (x ∷ both) both
+twice_by one x kept both true true e h = ap (λ c. cond c (x ∷ filter one kept) (filter one kept)) e ∙ ap (λ l. x ∷ l) h
+twice_by one x kept both false true e h = ap (λ c. cond c (x ∷ filter one kept) (filter one kept)) e ∙ h
+twice_by one x kept both true false e h = h
+twice_by one x kept both false false e h = h
+
+-- what passes one test of what passes another
+pub filter_twice : {X : Type 0} (one other : X → Bool) (xs : List X) → filter one (filter other xs) ≡ filter (λ x. one x && other x) xs
+filter_twice one other [] = refl
+filter_twice one other (x ∷ xs) = twice_by one x (filter other xs) (filter (λ y. one y && other y) xs) (one x) (other x) refl (filter_twice one other xs)
+
+-- a case holds where one of its nodes exists
+pub holds_by : (t : SchemaTree) (rows : Rows) (above : List PathStep) (c : ℕ) (nodes : List ℕ) → nodes ≡ filter (is_in_case t c) (numbers t.nodes) → list_any (exists_at t rows above) nodes ≡ case_holds t rows above c
 unfolding case_holds
-allowed_is t rows above None None h = refl
-allowed_is t rows above (Some c) (Some members) h = ap (list_any (exists_at t rows above)) h ∙ any_kept (is_in_case t c) (exists_at t rows above) (numbers t.nodes)
-allowed_is t rows above None (Some members) h = absurd h
-allowed_is t rows above (Some c) None h = absurd h
+holds_by t rows above c nodes is = ap (list_any (exists_at t rows above)) is ∙ any_kept (is_in_case t c) (exists_at t rows above) (numbers t.nodes)
 
 -- one number more is looked at
 pub kept_in : (test : ℕ → Bool) (i n : ℕ) (before after all : List ℕ) → i < n → test i ≡ true → after ≡ before ++ i ∷ [] → before ++ filter test (range_with_len i (n - i)) ≡ all → after ++ filter test (range_with_len (i + 1) (n - (i + 1))) ≡ all
@@ -56,15 +63,11 @@ place_put : (b : Bool) (p : List PathStep) (keep : List (List PathStep)) (f : Li
 place_put true p keep f = refl
 place_put false p keep f = refl
 
-pub placed_is : (t : SchemaTree) (rows : Rows) (x : ℕ) (members : Option (Vec ℕ Global)) → AreMembers t (case_at t.nodes x) members → (above : List (List PathStep))
-    → flat_map (λ a. place_by t rows a x members) above ≡ placed t rows above x
-placed_is t rows x members h [] = refl
-placed_is t rows x members h (a ∷ more) =
+pub placed_is : (t : SchemaTree) (rows : Rows) (x : ℕ) (above : List (List PathStep)) → flat_map (place_at t rows x) above ≡ placed t rows above x
+placed_is t rows x [] = refl
+placed_is t rows x (a ∷ more) =
     let f = λ (p : List PathStep). p ++ bare t.nodes x ∷ [] in
-    let keep = filter (λ p. is_allowed t rows p (case_at t.nodes x)) more in
-    ap (λ b. (if b then f a ∷ [] else []) ++ flat_map (λ p. place_by t rows p x members) more) (allowed_is t rows a (case_at t.nodes x) members h)
-    ∙ ap (λ l. (if is_allowed t rows a (case_at t.nodes x) then f a ∷ [] else []) ++ l) (placed_is t rows x members h more)
-    ∙ place_put (is_allowed t rows a (case_at t.nodes x)) a keep f
+    ap (λ l. place_at t rows x a ++ l) (placed_is t rows x more) ∙ place_put (is_allowed t rows a (case_at t.nodes x)) a (filter (λ p. is_allowed t rows p (case_at t.nodes x)) more) f
 
 -- ---- from what a node stands in
 

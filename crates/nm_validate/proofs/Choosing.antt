@@ -1,10 +1,9 @@
 -- Where mandatory choices have no node.
-use Rattle.std.proofs.Common.{◌≡◌, ℕ, zero, suc, ◌-◌, ◌<◌, List, [], ◌∷◌, ◌++◌, map, length, Bool, true, false, cond, not, ◌&&◌, Option, Some, None, Vec, if◌then◌else◌, slice_get, refl, sym, ap, ◌∙◌, subst, inl, inr, append-nil, append_assoc, arith}
+use Rattle.std.proofs.Common.{◌≡◌, ℕ, zero, suc, ◌-◌, ◌<◌, List, [], ◌∷◌, ◌++◌, map, length, Bool, true, false, cond, not, ◌&&◌, Option, Some, None, if◌then◌else◌, slice_get, refl, sym, ap, ◌∙◌, subst, inl, inr, append-nil, append_assoc, arith}
 use Rattle.std.proofs.lemmas.Bool.Decides.{nat_tests}
 use Rattle.std.specs.Prelude.{filter, nat_lt}
 use Rattle.std.specs.List.{list_any, flat_map, range_with_len, find}
 use Rattle.std.specs.FinMap.{contains_key, keys}
-use Rattle.std.specs.declared.alloc.Global.{Global}
 use Rattle.nm_types.specs.Path.{PathStep}
 use Rattle.nm_types.specs.PathLaws.{same_path_decides, paths_equiv}
 use Rattle.nm_tree.specs.declared.choice.ChoiceNode.{ChoiceNode}
@@ -27,9 +26,8 @@ use Rattle.nm_rules.proofs.Areas.{ends, holds_by_last, among_areas}
 use Rattle.nm_rules.proofs.Looked.{get_within}
 use Rattle.nm_rules.proofs.Placed.{any_at, key_there, placed_law}
 use Rattle.nm_validate.specs.Least.{least_with}
-use Rattle.nm_validate.specs.Members.{AreMembers}
 use Rattle.nm_validate.specs.Choosing.{is_within, missing_by, missing_places}
-use Rattle.nm_validate.proofs.Below.{any_kept, allowed_is, areas_are}
+use Rattle.nm_validate.proofs.Below.{any_kept, areas_are}
 use Rattle.nm_validate.proofs.Gathered.{filter_among, flat_among, same_least}
 use Rattle.nm_validate.proofs.Leasts.{filter_none, least_is_found}
 
@@ -221,21 +219,20 @@ module _ (t : SchemaTree) (rows : Rows) where
       ∙ wanted c.mandatory (is_same_path path path && is_area_of t c.parent above) (holds_at t rows above) (is_allowed t rows above c.case_in) (not (has_node t rows above k)) must
       (ap (λ b. b && is_area_of t c.parent above) (paths_equiv.refl path) ∙ h.0) h.1
 
-  missing_at : (k : ℕ) (c : ChoiceNode) (members : Option (Vec ℕ Global)) (nodes : List ℕ) → AreMembers t c.case_in members → nodes ≡ filter (is_of_choice t k) (numbers t.nodes) → (above : List PathStep)
-      → missing_by t rows c members nodes above ≡ (if is_allowed t rows above c.case_in && not (has_node t rows above k) then (above ++ choice_step c ∷ []) ∷ [] else [])
+  missing_at : (k : ℕ) (c : ChoiceNode) (nodes : List ℕ) → nodes ≡ filter (is_of_choice t k) (numbers t.nodes) → (above : List PathStep)
+      → missing_by t rows c nodes above ≡ (if is_allowed t rows above c.case_in && not (has_node t rows above k) then (above ++ choice_step c ∷ []) ∷ [] else [])
   unfolding has_node
-  missing_at k c members nodes are is above =
+  missing_at k c nodes is above =
       let put = λ (b : Bool). if b then (above ++ choice_step c ∷ []) ∷ [] else [] in
-      ap (λ b. put (b && not (list_any (exists_at t rows above) nodes))) (allowed_is t rows above c.case_in members are)
-      ∙ ap (λ b. put (is_allowed t rows above c.case_in && not b)) (ap (list_any (exists_at t rows above)) is ∙ any_kept (is_of_choice t k) (exists_at t rows above) (numbers t.nodes))
+      ap (λ b. put (is_allowed t rows above c.case_in && not b)) (ap (list_any (exists_at t rows above)) is ∙ any_kept (is_of_choice t k) (exists_at t rows above) (numbers t.nodes))
 
   -- the places of a choice that has to have a node, those where it has none
-  pub choice_missing : IsSound t.nodes → (k : ℕ) (c : ChoiceNode) (members : Option (Vec ℕ Global)) (nodes : List ℕ) → slice_get t.choices k ≡ Some c → c.mandatory ≡ true → is_within t c.parent ≡ true
-      → AreMembers t c.case_in members → nodes ≡ filter (is_of_choice t k) (numbers t.nodes) → flat_map (missing_by t rows c members nodes) (areas t rows c.parent) ≡ missing_places t rows k
+  pub choice_missing : IsSound t.nodes → (k : ℕ) (c : ChoiceNode) (nodes : List ℕ) → slice_get t.choices k ≡ Some c → c.mandatory ≡ true → is_within t c.parent ≡ true
+      → nodes ≡ filter (is_of_choice t k) (numbers t.nodes) → flat_map (missing_by t rows c nodes) (areas t rows c.parent) ≡ missing_places t rows k
   unfolding choice_places
-  choice_missing sound k c members nodes there must within are is =
-      gathered (λ a. is_allowed t rows a c.case_in) (λ a. not (has_node t rows a k)) (λ a. a ++ choice_step c ∷ []) (λ path. is_missing t rows path k (Some c)) (missing_by t rows c members nodes)
-      (areas t rows c.parent) (λ a m. at_area k c must a (area_holds sound c.parent within a m)) (missing_at k c members nodes are is)
+  choice_missing sound k c nodes there must within is =
+      gathered (λ a. is_allowed t rows a c.case_in) (λ a. not (has_node t rows a k)) (λ a. a ++ choice_step c ∷ []) (λ path. is_missing t rows path k (Some c)) (missing_by t rows c nodes)
+      (areas t rows c.parent) (λ a m. at_area k c must a (area_holds sound c.parent within a m)) (missing_at k c nodes is)
       ∙ ap (λ o. filter (λ path. is_missing t rows path k o) (choice_places_of t rows o)) (sym there)
 
   -- ---- all choices

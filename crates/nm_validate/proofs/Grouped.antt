@@ -15,6 +15,7 @@ use Rattle.nm_config.specs.Rows.{Rows}
 use Rattle.nm_validate.specs.declared.areas.Grouped.{Grouped}
 use Rattle.nm_validate.specs.declared.areas.NodeRow.{NodeRow}
 use Rattle.nm_validate.specs.Listed.{Row, alone, HaveNodes}
+use Rattle.nm_validate.specs.Tables.{AreOfCases}
 use Rattle.nm_validate.specs.Groups.{Group, paths_in, in_group, AreEmpty, one_if, Puts, AreOf, IsGrouped}
 
 -- ---- no groups
@@ -180,10 +181,11 @@ paths_are (p ∷ ps) = ap (λ l. p.0.now ∷ l) (paths_are ps)
 
 -- once none are left, all are grouped
 pub all_listed : (t : SchemaTree) (rows : Rows) (left all : List Pair) (grouped : Grouped) → left ≡ [] → map deref_pair all ≡ entries rows
-    → AreListed t left all grouped.rows.items grouped.groups.items → IsGrouped t rows grouped
-all_listed t rows left all grouped none is h = record {
+    → AreListed t left all grouped.rows.items grouped.groups.items → AreOfCases t grouped.cases.items → IsGrouped t rows grouped
+all_listed t rows left all grouped none is h cases = record {
   rows_are = sym (append-nil (map alone grouped.rows.items)) ∙ ap (λ l. map alone grouped.rows.items ++ map deref_pair l) (sym none) ∙ h.rows_are ∙ is;
   nodes_are = h.nodes_are;
   groups_are = none_left t (paths_of left) (keys rows) grouped.groups.items (ap paths_of none)
       (subst (λ l. AreLeft t (paths_of left) l grouped.groups.items) (paths_are all ∙ ap (map (λ (e : Row). e.0)) is) h.groups_are);
+  cases_are = cases;
 }

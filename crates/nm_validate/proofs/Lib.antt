@@ -15,3 +15,4 @@ pub mod Choosing
 pub mod Repeated
 pub mod InUse
 pub mod Apart
+pub mod Tabled

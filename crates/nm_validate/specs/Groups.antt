@@ -9,6 +9,7 @@ use Rattle.nm_config.specs.Rows.{Rows}
 use Rattle.nm_rules.specs.Guards.{is_node, leads_to}
 use Rattle.nm_validate.specs.declared.areas.Grouped.{Grouped}
 use Rattle.nm_validate.specs.Listed.{alone, HaveNodes}
+use Rattle.nm_validate.specs.Tables.{AreOfCases}
 
 -- paths that are lent
 abbrev pub Group : Type 0
@@ -40,8 +41,9 @@ pub record AreOf (t : SchemaTree) (paths : List (List PathStep)) (groups : List 
   pub count : length groups ≡ length t.nodes
   pub each : (x : ℕ) → x < length t.nodes → in_group groups x ≡ filter (leads_to t x) paths
 
--- all rows of a configuration in path order, with their nodes, and the paths of each node's rows
+-- all rows of a configuration in path order, with their nodes, the paths of each node's rows, and the nodes of each case
 pub record IsGrouped (t : SchemaTree) (rows : Rows) (grouped : Grouped) : Type 0 where
   pub rows_are : map alone grouped.rows.items ≡ entries rows
   pub nodes_are : HaveNodes t grouped.rows.items
   pub groups_are : AreOf t (keys rows) grouped.groups.items
+  pub cases_are : AreOfCases t grouped.cases.items

@@ -7,3 +7,4 @@ pub mod Counts
 pub mod Wanted
 pub mod Choosing
 pub mod Repeated
+pub mod Tables

@@ -7,12 +7,6 @@ use Rattle.nm_tree.specs.Nodes.{SchemaTree}
 use Rattle.nm_config.specs.Rows.{Rows}
 use Rattle.nm_rules.specs.Cases.{numbers, is_in_case, exists_at}
 
--- the nodes of a case, and none of no case (RFC 7950 section 7.9.2)
-abbrev pub AreMembers : SchemaTree → Option ℕ → Option (Vec ℕ Global) → Type 0
-AreMembers t None None = ⊤
-AreMembers t (Some c) (Some members) = members.items ≡ filter (is_in_case t c) (numbers t.nodes)
-AreMembers t _ _ = ⊥
-
 -- one of these nodes exists at a place, or nothing is asked
 abbrev pub is_allowed_by : SchemaTree → Rows → List PathStep → Option (Vec ℕ Global) → Bool
 is_allowed_by t rows above None = true

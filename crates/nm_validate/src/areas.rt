@@ -1,13 +1,12 @@
 //! The places at which nodes may stand, in the configuration at hand.
 
 ghost use Rattle.std.specs.Prelude.{◌≡◌, ◌∷◌, ◌++◌, [], IfOk, OnOk};
-ghost use Rattle.std.specs.FinMap.{keys};
 ghost use Rattle.nm_rules.specs.Places as spec;
-ghost use Rattle.std.specs.List.{flat_map};
 ghost use Rattle.nm_validate.specs.Groups as group;
-ghost use Rattle.nm_validate.specs.Placing.{place_by};
+ghost use Rattle.nm_validate.specs.Placing.{place_at};
 
-use crate::cases::{bare, is_allowed, members_of};
+use crate::cases::{bare, is_allowed};
+use crate::tables::by_case;
 use nm_base::NoMemory;
 use nm_config::RowMap;
 use nm_path::node_of;
@@ -23,11 +22,12 @@ pub struct NodeRow<'r> {
     pub node: Option<usize>,
 }
 
-/// The rows of a configuration in path order, and the paths of each node's rows.
+/// The rows of a configuration in path order, the paths of each node's rows, and the nodes of each case.
 #[derive(Drop)]
 pub struct Grouped<'r> {
     pub rows: Vec<NodeRow<'r>>,
     pub groups: Vec<Vec<&'r Path>>,
+    pub cases: Vec<Vec<usize>>,
 }
 
 // So many groups without paths.
@@ -58,7 +58,7 @@ fn put_into<'r>(
     Ok(())
 }
 
-/// The rows of a configuration, each with its node, and the paths of each node's rows. It is made once for all rules.
+/// The rows of a configuration, each with its node, the paths of each node's rows, and the nodes of each case. It is made once for all rules.
 pub fn group_rows<'r, M: RowMap>(
     alloc: Global,
     schema: &Schema,
@@ -74,7 +74,12 @@ pub fn group_rows<'r, M: RowMap>(
         put_into(&mut groups, node, path)?;
         rows.push(NodeRow { path, value, node })?;
     }
-    Ok(Grouped { rows, groups })
+    let cases = by_case(alloc, schema)?;
+    Ok(Grouped {
+        rows,
+        groups,
+        cases,
+    })
 }
 
 // Copies of the paths of a group, and none where there is no group of this number.
@@ -96,14 +101,15 @@ fn put_place<M: RowMap>(
     alloc: Global,
     schema: &Schema,
     config: &M,
+    grouped: &Grouped<'_>,
     above: &Path,
     at: usize,
-    members: &Option<Vec<usize>>,
     paths: &mut Vec<Path>,
 ) -> Result<(), NoMemory>
-    ensures { OnOk result (paths.new.items ≡ paths.old.items ++ place_by schema.now (M.rows config.now) above.now at members.now) }
+    requires { group.IsGrouped schema.now (M.rows config.now) grouped.now }
+    ensures { OnOk result (paths.new.items ≡ paths.old.items ++ place_at schema.now (M.rows config.now) at above.now) }
 {
-    if !is_allowed(alloc, schema, config, above, members)? {
+    if !is_allowed(alloc, schema, config, grouped, above, schema.case_in(at))? {
         return Ok(());
     }
     let step = bare(alloc, schema, at)?;
@@ -112,36 +118,23 @@ fn put_place<M: RowMap>(
     Ok(())
 }
 
-// The paths of a node whose case has these nodes, at these places.
-fn placed_by<M: RowMap>(
-    alloc: Global,
-    schema: &Schema,
-    config: &M,
-    areas: &[Path],
-    at: usize,
-    members: &Option<Vec<usize>>,
-) -> Result<Vec<Path>, NoMemory>
-    ensures { IfOk result (λ paths. paths.items ≡ flat_map (λ above. place_by schema.now (M.rows config.now) above at members.now) areas.now) }
-{
-    let mut paths = Vec::new(alloc);
-    for above in areas {
-        put_place(alloc, schema, config, above, at, members, &mut paths)?;
-    }
-    Ok(paths)
-}
-
 /// The paths of a node at these places: those where its case holds.
+#[tactic(auto, using(crate::proofs::Below::placed_is))]
 pub fn placed<M: RowMap>(
     alloc: Global,
     schema: &Schema,
     config: &M,
+    grouped: &Grouped<'_>,
     areas: &[Path],
     at: usize,
 ) -> Result<Vec<Path>, NoMemory>
+    requires { group.IsGrouped schema.now (M.rows config.now) grouped.now }
     ensures { IfOk result (λ paths. paths.items ≡ spec.placed schema.now (M.rows config.now) areas.now at) }
 {
-    let members = members_of(alloc, schema, schema.case_in(at))?;
-    let paths = placed_by(alloc, schema, config, areas, at, &members)?;
+    let mut paths = Vec::new(alloc);
+    for above in areas {
+        put_place(alloc, schema, config, grouped, above, at, &mut paths)?;
+    }
     Ok(paths)
 }
 
@@ -151,10 +144,10 @@ pub fn areas<M: RowMap>(
     alloc: Global,
     schema: &Schema,
     config: &M,
-    groups: &[Vec<&Path>],
+    grouped: &Grouped<'_>,
     parent: Option<usize>,
 ) -> Result<Vec<Path>, NoMemory>
-    requires { group.AreOf schema.now (keys (M.rows config.now)) groups.now }
+    requires { group.IsGrouped schema.now (M.rows config.now) grouped.now }
     ensures { IfOk result (λ paths. paths.items ≡ spec.areas schema.now (M.rows config.now) parent) }
 {
     let Some(at) = parent else {
@@ -165,11 +158,11 @@ pub fn areas<M: RowMap>(
     };
     schema.laws();
     if schema.is_guard(at) {
-        let paths = copies(alloc, groups, at)?;
+        let paths = copies(alloc, &grouped.groups, at)?;
         return Ok(paths);
     }
-    let above = areas(alloc, schema, config, groups, schema.parent(at))?;
-    let paths = placed(alloc, schema, config, &above, at)?;
+    let above = areas(alloc, schema, config, grouped, schema.parent(at))?;
+    let paths = placed(alloc, schema, config, grouped, &above, at)?;
     Ok(paths)
 }
 
@@ -179,12 +172,12 @@ pub fn places<M: RowMap>(
     alloc: Global,
     schema: &Schema,
     config: &M,
-    groups: &[Vec<&Path>],
+    grouped: &Grouped<'_>,
     at: usize,
 ) -> Result<Vec<Path>, NoMemory>
-    requires { group.AreOf schema.now (keys (M.rows config.now)) groups.now }
+    requires { group.IsGrouped schema.now (M.rows config.now) grouped.now }
     ensures { IfOk result (λ paths. paths.items ≡ spec.places schema.now (M.rows config.now) at) }
 {
-    let above = areas(alloc, schema, config, groups, schema.parent(at))?;
-    placed(alloc, schema, config, &above, at)
+    let above = areas(alloc, schema, config, grouped, schema.parent(at))?;
+    placed(alloc, schema, config, grouped, &above, at)
 }

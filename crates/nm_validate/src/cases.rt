@@ -5,8 +5,12 @@ ghost use Rattle.std.specs.List.{list_any};
 ghost use Rattle.nm_base.specs.Numbers.{is_among};
 ghost use Rattle.nm_tree.specs.Nodes.{case_at};
 ghost use Rattle.nm_rules.specs.Cases as spec;
-ghost use Rattle.nm_validate.specs.Members.{AreMembers, AreOthers, is_allowed_by};
+ghost use Rattle.nm_validate.specs.Groups.{IsGrouped};
+ghost use Rattle.nm_validate.specs.Members.{AreOthers};
+ghost use Rattle.nm_validate.specs.Tables.{AreOfCases};
 
+use crate::areas::Grouped;
+use crate::tables::nodes_in;
 use nm_base::{Label, NoMemory};
 use nm_config::RowMap;
 use nm_tree::Schema;
@@ -32,9 +36,9 @@ fn is_outwards(schema: &Schema, case: usize, most: usize, from: Option<usize>) -
     false
 }
 
-/// Whether a node stands in a case, in it directly or in a case of a choice that is nested in it.
+// Whether a node stands in a case, in it directly or in a case of a choice that is nested in it.
 #[tactic(auto, unfolding(nm_rules::specs::Cases::cases_over))]
-pub fn is_in_case(schema: &Schema, case: usize, at: usize) -> bool
+fn is_in_case(schema: &Schema, case: usize, at: usize) -> bool
     ensures { result ≡ spec.is_in_case schema.now case at }
 {
     is_outwards(schema, case, schema.cases().len(), schema.case_in(at))
@@ -53,50 +57,52 @@ fn nodes_of(alloc: Global, schema: &Schema, case: usize) -> Result<Vec<usize>, N
     Ok(all)
 }
 
-/// The nodes of the case that something stands in, and None where it stands in none.
-pub fn members_of(
-    alloc: Global,
-    schema: &Schema,
-    case: Option<usize>,
-) -> Result<Option<Vec<usize>>, NoMemory>
-    ensures { IfOk result (AreMembers schema.now case) }
-{
-    match case {
-        None => Ok(None),
-        Some(case) => Ok(Some(nodes_of(alloc, schema, case)?)),
-    }
-}
-
-// Whether a node is another than one that stands in a case, and stands in that case too.
-fn is_other(schema: &Schema, case: usize, at: usize, other: usize) -> bool
-    ensures { result ≡ (not (other == at) && spec.is_in_case schema.now case other) }
-{
-    if other == at {
-        return false;
-    }
-    is_in_case(schema, case, other)
-}
-
-// The nodes of a case other than one of them.
-fn others_in(alloc: Global, schema: &Schema, case: usize, at: usize) -> Result<Vec<usize>, NoMemory>
-    ensures { IfOk result (λ all. all.items ≡ filter (λ other. not (other == at) && spec.is_in_case schema.now case other) (spec.numbers schema.now.nodes)) }
+// The nodes of some that are other than one of them.
+fn others_in(alloc: Global, nodes: &[usize], at: usize) -> Result<Vec<usize>, NoMemory>
+    ensures { IfOk result (λ all. all.items ≡ filter (λ other. not (other == at)) nodes.now) }
 {
     let mut all = Vec::new(alloc);
-    for other in 0..schema.len() {
-        if is_other(schema, case, at, other) {
-            all.push(other)?;
+    for other in nodes {
+        if *other != at {
+            all.push(*other)?;
         }
     }
     Ok(all)
 }
 
+// The nodes of a case other than one of them.
+fn others_in_case(
+    alloc: Global,
+    schema: &Schema,
+    cases: &[Vec<usize>],
+    case: usize,
+    at: usize,
+) -> Result<Vec<usize>, NoMemory>
+    requires { AreOfCases schema.now cases.now }
+    ensures { IfOk result (λ all. all.items ≡ filter (λ other. not (other == at) && spec.is_in_case schema.now case other) (spec.numbers schema.now.nodes)) }
+{
+    if case < cases.len() {
+        let all = others_in(alloc, nodes_in(cases, case), at)?;
+        return Ok(all);
+    }
+    let nodes = nodes_of(alloc, schema, case)?;
+    let all = others_in(alloc, &nodes, at)?;
+    Ok(all)
+}
+
 /// The other nodes of the case that a node stands in, and None where it stands in none.
-pub fn others_of(alloc: Global, schema: &Schema, at: usize) -> Result<Option<Vec<usize>>, NoMemory>
+pub fn others_of(
+    alloc: Global,
+    schema: &Schema,
+    cases: &[Vec<usize>],
+    at: usize,
+) -> Result<Option<Vec<usize>>, NoMemory>
+    requires { AreOfCases schema.now cases.now }
     ensures { IfOk result (AreOthers schema.now at (case_at schema.now.nodes at)) }
 {
     match schema.case_in(at) {
         None => Ok(None),
-        Some(case) => Ok(Some(others_in(alloc, schema, case, at)?)),
+        Some(case) => Ok(Some(others_in_case(alloc, schema, cases, case, at)?)),
     }
 }
 
@@ -151,18 +157,41 @@ pub fn any_at<M: RowMap>(
     Ok(false)
 }
 
-/// Whether what stands in a case that has these nodes, or in none, may be wanted at a place.
+// Whether a case holds at a place: one of its nodes exists there. Of a case that isn't there, the nodes are found among all.
+fn case_holds<M: RowMap>(
+    alloc: Global,
+    schema: &Schema,
+    config: &M,
+    cases: &[Vec<usize>],
+    above: &Path,
+    case: usize,
+) -> Result<bool, NoMemory>
+    requires { AreOfCases schema.now cases.now }
+    ensures { IfOk result (λ holds. holds ≡ spec.case_holds schema.now (M.rows config.now) above.now case) }
+{
+    if case < cases.len() {
+        let there = any_at(alloc, schema, config, above, nodes_in(cases, case))?;
+        return Ok(there);
+    }
+    let nodes = nodes_of(alloc, schema, case)?;
+    let there = any_at(alloc, schema, config, above, &nodes)?;
+    Ok(there)
+}
+
+/// Whether what stands in a case, or in none, may be wanted at a place.
 pub fn is_allowed<M: RowMap>(
     alloc: Global,
     schema: &Schema,
     config: &M,
+    grouped: &Grouped<'_>,
     above: &Path,
-    members: &Option<Vec<usize>>,
+    case: Option<usize>,
 ) -> Result<bool, NoMemory>
-    ensures { IfOk result (λ allowed. allowed ≡ is_allowed_by schema.now (M.rows config.now) above.now members.now) }
+    requires { IsGrouped schema.now (M.rows config.now) grouped.now }
+    ensures { IfOk result (λ allowed. allowed ≡ spec.is_allowed schema.now (M.rows config.now) above.now case) }
 {
-    match members {
+    match case {
         None => Ok(true),
-        Some(nodes) => any_at(alloc, schema, config, above, nodes),
+        Some(case) => case_holds(alloc, schema, config, &grouped.cases, above, case),
     }
 }

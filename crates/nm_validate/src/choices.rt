@@ -2,7 +2,6 @@
 
 ghost use Rattle.std.specs.Prelude.{◌≡◌, IfOk, MatchOption, None, Some, filter, length, slice_get};
 ghost use Rattle.std.specs.List.{find, flat_map};
-ghost use Rattle.std.specs.FinMap.{keys};
 ghost use Rattle.nm_tree.specs.Nodes.{choice_at};
 ghost use Rattle.nm_path.specs.Sound.{IsSound};
 ghost use Rattle.nm_rules.specs.declared.rule.Rule.TheVariants as rule;
@@ -15,8 +14,9 @@ ghost use Rattle.nm_validate.specs.Least.{least_with};
 ghost use Rattle.nm_validate.specs.Choosing.{is_within, missing_by, missing_places};
 
 use crate::areas::{Grouped, areas};
-use crate::cases::{any_at, is_allowed, members_of};
+use crate::cases::{any_at, is_allowed};
 use crate::least::with_path;
+use crate::tables::{by_choice, nodes_in};
 use nm_base::NoMemory;
 use nm_config::RowMap;
 use nm_tree::{ChoiceNode, Schema};
@@ -60,26 +60,6 @@ pub fn case_of_choice(schema: &Schema, choice: usize, at: usize) -> Option<usize
     first_outwards(schema, choice, schema.cases().len(), schema.case_in(at))
 }
 
-// Whether a node stands in a choice.
-fn is_of_choice(schema: &Schema, choice: usize, at: usize) -> bool
-    ensures { result ≡ is_of_choice schema.now choice at }
-{
-    case_of_choice(schema, choice, at).is_some()
-}
-
-/// The nodes that stand in a choice.
-pub fn nodes_of(alloc: Global, schema: &Schema, choice: usize) -> Result<Vec<usize>, NoMemory>
-    ensures { IfOk result (λ all. all.items ≡ filter (is_of_choice schema.now choice) (spec.numbers schema.now.nodes)) }
-{
-    let mut all = Vec::new(alloc);
-    for at in 0..schema.len() {
-        if is_of_choice(schema, choice, at) {
-            all.push(at)?;
-        }
-    }
-    Ok(all)
-}
-
 // Whether what a choice stands in is there: a node, or the top.
 fn is_within(schema: &Schema, parent: Option<usize>) -> bool
     ensures { result ≡ is_within schema.now parent }
@@ -106,15 +86,16 @@ fn with_missing<M: RowMap>(
     alloc: Global,
     schema: &Schema,
     config: &M,
+    grouped: &Grouped<'_>,
     above: &Path,
     choice: &ChoiceNode,
-    members: &Option<Vec<usize>>,
     nodes: &[usize],
     found: Option<Path>,
 ) -> Result<Option<Path>, NoMemory>
-    ensures { IfOk result (λ least. least ≡ least_with found (missing_by schema.now (M.rows config.now) choice.now members.now nodes.now above.now)) }
+    requires { group.IsGrouped schema.now (M.rows config.now) grouped.now }
+    ensures { IfOk result (λ least. least ≡ least_with found (missing_by schema.now (M.rows config.now) choice.now nodes.now above.now)) }
 {
-    if !is_allowed(alloc, schema, config, above, members)? {
+    if !is_allowed(alloc, schema, config, grouped, above, choice.case_in)? {
         return Ok(found);
     }
     if any_at(alloc, schema, config, above, nodes)? {
@@ -130,17 +111,18 @@ fn least_among<M: RowMap>(
     alloc: Global,
     schema: &Schema,
     config: &M,
+    grouped: &Grouped<'_>,
     areas: &[Path],
     choice: &ChoiceNode,
-    members: &Option<Vec<usize>>,
     nodes: &[usize],
     found: Option<Path>,
 ) -> Result<Option<Path>, NoMemory>
-    ensures { IfOk result (λ least. least ≡ least_with found (flat_map (missing_by schema.now (M.rows config.now) choice.now members.now nodes.now) areas.now)) }
+    requires { group.IsGrouped schema.now (M.rows config.now) grouped.now }
+    ensures { IfOk result (λ least. least ≡ least_with found (flat_map (missing_by schema.now (M.rows config.now) choice.now nodes.now) areas.now)) }
 {
     let mut least = found;
     for above in areas {
-        least = with_missing(alloc, schema, config, above, choice, members, nodes, least)?;
+        least = with_missing(alloc, schema, config, grouped, above, choice, nodes, least)?;
     }
     Ok(least)
 }
@@ -152,17 +134,19 @@ fn choice_of(schema: &Schema, at: usize) -> Option<&ChoiceNode>
     schema.choices().get(at)
 }
 
-// The least of what was found so far and of the places at which a choice has no node.
+// The least of what was found so far and of the places at which a choice has none of its nodes.
 fn least_at_choice<M: RowMap>(
     alloc: Global,
     schema: &Schema,
     config: &M,
-    groups: &[Vec<&Path>],
+    grouped: &Grouped<'_>,
     at: usize,
+    nodes: &[usize],
     found: Option<Path>,
 ) -> Result<Option<Path>, NoMemory>
     requires sound { IsSound schema.now.nodes }
-    requires groups { group.AreOf schema.now (keys (M.rows config.now)) groups.now }
+    requires grouped { group.IsGrouped schema.now (M.rows config.now) grouped.now }
+    requires nodes { nodes.now ≡ filter (is_of_choice schema.now at) (spec.numbers schema.now.nodes) }
     ensures { IfOk result (λ least. least ≡ least_with found (missing_places schema.now (M.rows config.now) at)) }
 {
     let Some(choice) = choice_of(schema, at) else {
@@ -174,12 +158,8 @@ fn least_at_choice<M: RowMap>(
     if !is_within(schema, choice.parent) {
         return Ok(found);
     }
-    let members = members_of(alloc, schema, choice.case_in)?;
-    let nodes = nodes_of(alloc, schema, at)?;
-    let above = areas(alloc, schema, config, groups, choice.parent)?;
-    let least = least_among(
-        alloc, schema, config, &above, choice, &members, &nodes, found,
-    )?;
+    let above = areas(alloc, schema, config, grouped, choice.parent)?;
+    let least = least_among(alloc, schema, config, grouped, &above, choice, nodes, found)?;
     Ok(least)
 }
 
@@ -201,10 +181,12 @@ pub fn least_missing_choice<M: RowMap>(
     requires grouped { group.IsGrouped schema.now (M.rows config.now) grouped.now }
     ensures { IfOk result (λ found. found ≡ least_at schema.now (M.rows config.now) rule.MandatoryChoice) }
 {
-    let groups = grouped.groups.as_slice();
+    let table = by_choice(alloc, schema)?;
+    let choices = table.as_slice();
     let mut least = None;
     for at in 0..choice_count(schema) {
-        least = least_at_choice(alloc, schema, config, groups, at, least)?;
+        let nodes = nodes_in(choices, at);
+        least = least_at_choice(alloc, schema, config, grouped, at, nodes, least)?;
     }
     Ok(least)
 }

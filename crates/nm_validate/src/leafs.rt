@@ -1,7 +1,7 @@
 //! The rule of mandatory leafs: they are there, where their guards hold.
 
 ghost use Rattle.std.specs.Prelude.{◌≡◌, ◌<◌, ◌∷◌, [], IfOk, filter, length, not};
-ghost use Rattle.std.specs.FinMap.{contains_key, keys};
+ghost use Rattle.std.specs.FinMap.{contains_key};
 ghost use Rattle.nm_path.specs.Sound.{IsSound};
 ghost use Rattle.nm_rules.specs.declared.rule.Rule.TheVariants as rule;
 ghost use Rattle.nm_rules.specs.Places as place_spec;
@@ -44,19 +44,19 @@ fn least_at_node<M: RowMap>(
     alloc: Global,
     schema: &Schema,
     config: &M,
-    groups: &[Vec<&Path>],
+    grouped: &Grouped<'_>,
     at: usize,
     found: Option<Path>,
 ) -> Result<Option<Path>, NoMemory>
     requires sound { IsSound schema.now.nodes }
-    requires groups { group.AreOf schema.now (keys (M.rows config.now)) groups.now }
+    requires grouped { group.IsGrouped schema.now (M.rows config.now) grouped.now }
     requires within { at < length schema.now.nodes }
     ensures { IfOk result (λ least. least ≡ least_with found (filter (violated schema.now (M.rows config.now) rule.Mandatory) (place_spec.places schema.now (M.rows config.now) at))) }
 {
     if !schema.is_mandatory(at) {
         return Ok(found);
     }
-    let paths = places(alloc, schema, config, groups, at)?;
+    let paths = places(alloc, schema, config, grouped, at)?;
     let least = least_missing(config, paths, found);
     Ok(least)
 }
@@ -72,10 +72,9 @@ pub fn least_missing_leaf<M: RowMap>(
     requires grouped { group.IsGrouped schema.now (M.rows config.now) grouped.now }
     ensures { IfOk result (λ found. found ≡ least_at schema.now (M.rows config.now) rule.Mandatory) }
 {
-    let groups = grouped.groups.as_slice();
     let mut least = None;
     for at in 0..schema.len() {
-        least = least_at_node(alloc, schema, config, groups, at, least)?;
+        least = least_at_node(alloc, schema, config, grouped, at, least)?;
     }
     Ok(least)
 }

@@ -12,13 +12,14 @@ mod fits;
 pub mod keys;
 mod leafs;
 mod least;
+pub mod tables;
 mod too_few;
 mod too_many;
 mod unique;
 mod value_types;
 pub mod values;
 
-pub use choices::{case_of_choice, least_missing_choice, nodes_of};
+pub use choices::{case_of_choice, least_missing_choice};
 pub use keys::least_bad_key;
 pub use leafs::least_missing_leaf;
 pub use least::with_path;

@@ -1,7 +1,6 @@
 //! The rule of min-elements: a list or a leaf-list has as many entries as it has to, where they are wanted.
 
 ghost use Rattle.std.specs.Prelude.{◌≡◌, ◌<◌, ◌∷◌, [], IfOk, filter, length};
-ghost use Rattle.std.specs.FinMap.{keys};
 ghost use Rattle.nm_path.specs.Sound.{IsSound};
 ghost use Rattle.nm_rules.specs.declared.rule.Rule.TheVariants as rule;
 ghost use Rattle.nm_rules.specs.Guards as guard;
@@ -10,10 +9,11 @@ ghost use Rattle.nm_rules.specs.Violated.{violated};
 ghost use Rattle.nm_rules.specs.Violation.{least_at};
 ghost use Rattle.nm_validate.specs.Groups as group;
 ghost use Rattle.nm_validate.specs.Least.{least_with};
+ghost use Rattle.nm_validate.specs.Members.{is_allowed_by};
 ghost use Rattle.nm_validate.specs.Wanted.{has_at_least, is_short};
 
 use crate::areas::{Grouped, places};
-use crate::cases::{is_allowed, others_of};
+use crate::cases::{any_at, others_of};
 use crate::counts::has_more;
 use crate::least::with_path;
 use nm_base::NoMemory;
@@ -41,6 +41,22 @@ pub fn front(alloc: Global, path: &Path) -> Result<Path, NoMemory>
     Ok(above)
 }
 
+// Whether one of some nodes exists at a place, or nothing is asked.
+fn is_allowed_by<M: RowMap>(
+    alloc: Global,
+    schema: &Schema,
+    config: &M,
+    above: &Path,
+    others: &Option<Vec<usize>>,
+) -> Result<bool, NoMemory>
+    ensures { IfOk result (λ allowed. allowed ≡ is_allowed_by schema.now (M.rows config.now) above.now others.now) }
+{
+    match others {
+        None => Ok(true),
+        Some(nodes) => any_at(alloc, schema, config, above, nodes),
+    }
+}
+
 // The lesser of what was found so far and one path more, where that has fewer entries than these, and one of these nodes stands beside it.
 fn with_too_few<M: RowMap>(
     alloc: Global,
@@ -57,7 +73,7 @@ fn with_too_few<M: RowMap>(
         return Ok(found);
     }
     let above = front(alloc, &path)?;
-    if !is_allowed(alloc, schema, config, &above, others)? {
+    if !is_allowed_by(alloc, schema, config, &above, others)? {
         return Ok(found);
     }
     Ok(with_path(found, path))
@@ -87,20 +103,20 @@ fn least_at_node<M: RowMap>(
     alloc: Global,
     schema: &Schema,
     config: &M,
-    groups: &[Vec<&Path>],
+    grouped: &Grouped<'_>,
     at: usize,
     found: Option<Path>,
 ) -> Result<Option<Path>, NoMemory>
     requires sound { IsSound schema.now.nodes }
-    requires groups { group.AreOf schema.now (keys (M.rows config.now)) groups.now }
+    requires grouped { group.IsGrouped schema.now (M.rows config.now) grouped.now }
     requires within { at < length schema.now.nodes }
     ensures { IfOk result (λ least. least ≡ least_with found (filter (violated schema.now (M.rows config.now) rule.MinElements) (place_spec.places schema.now (M.rows config.now) at))) }
 {
     let Some(min) = schema.elements(at).min else {
         return Ok(found);
     };
-    let others = others_of(alloc, schema, at)?;
-    let paths = places(alloc, schema, config, groups, at)?;
+    let others = others_of(alloc, schema, &grouped.cases, at)?;
+    let paths = places(alloc, schema, config, grouped, at)?;
     let least = least_below(alloc, schema, config, paths, min, &others, found)?;
     Ok(least)
 }
@@ -116,10 +132,9 @@ pub fn least_too_few<M: RowMap>(
     requires grouped { group.IsGrouped schema.now (M.rows config.now) grouped.now }
     ensures { IfOk result (λ found. found ≡ least_at schema.now (M.rows config.now) rule.MinElements) }
 {
-    let groups = grouped.groups.as_slice();
     let mut least = None;
     for at in 0..schema.len() {
-        least = least_at_node(alloc, schema, config, groups, at, least)?;
+        least = least_at_node(alloc, schema, config, grouped, at, least)?;
     }
     Ok(least)
 }

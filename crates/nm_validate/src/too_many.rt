@@ -1,7 +1,6 @@
 //! The rule of max-elements: a list or a leaf-list has no more entries than it may.
 
 ghost use Rattle.std.specs.Prelude.{◌≡◌, ◌<◌, ◌∷◌, [], IfOk, filter, length, nat_lt};
-ghost use Rattle.std.specs.FinMap.{keys};
 ghost use Rattle.nm_path.specs.Sound.{IsSound};
 ghost use Rattle.nm_rules.specs.declared.rule.Rule.TheVariants as rule;
 ghost use Rattle.nm_rules.specs.Places as place_spec;
@@ -51,25 +50,25 @@ fn least_at_node<M: RowMap>(
     alloc: Global,
     schema: &Schema,
     config: &M,
-    groups: &[Vec<&Path>],
+    grouped: &Grouped<'_>,
     at: usize,
     found: Option<Path>,
 ) -> Result<Option<Path>, NoMemory>
     requires sound { IsSound schema.now.nodes }
-    requires groups { group.AreOf schema.now (keys (M.rows config.now)) groups.now }
+    requires grouped { group.IsGrouped schema.now (M.rows config.now) grouped.now }
     requires within { at < length schema.now.nodes }
     ensures { IfOk result (λ least. least ≡ least_with found (filter (violated schema.now (M.rows config.now) rule.MaxElements) (place_spec.places schema.now (M.rows config.now) at))) }
 {
     let Some(max) = schema.elements(at).max else {
         return Ok(found);
     };
-    let Some(group) = groups.get(at) else {
+    let Some(group) = grouped.groups.as_slice().get(at) else {
         return Ok(found);
     };
     if group.is_empty() {
         return Ok(found);
     }
-    let paths = places(alloc, schema, config, groups, at)?;
+    let paths = places(alloc, schema, config, grouped, at)?;
     let least = least_above(config, paths, max, found);
     Ok(least)
 }
@@ -85,10 +84,9 @@ pub fn least_too_many<M: RowMap>(
     requires grouped { group.IsGrouped schema.now (M.rows config.now) grouped.now }
     ensures { IfOk result (λ found. found ≡ least_at schema.now (M.rows config.now) rule.MaxElements) }
 {
-    let groups = grouped.groups.as_slice();
     let mut least = None;
     for at in 0..schema.len() {
-        least = least_at_node(alloc, schema, config, groups, at, least)?;
+        least = least_at_node(alloc, schema, config, grouped, at, least)?;
     }
     Ok(least)
 }

@@ -27,16 +27,18 @@ fn value_in<M: RowMap>(
     alloc: Global,
     schema: &Schema,
     config: &M,
+    grouped: &Grouped<'_>,
     near: &[NodeRow<'_>],
     entry: &Path,
     at: usize,
 ) -> Result<Option<Value>, NoMemory>
-    requires { AreRows (M.rows config.now) near.now }
+    requires grouped { group.IsGrouped schema.now (M.rows config.now) grouped.now }
+    requires rows { AreRows (M.rows config.now) near.now }
     ensures { IfOk result (λ value. value ≡ spec.value_in schema.now (M.rows config.now) entry.now at) }
 {
     let path = path_in(alloc, schema, entry, at)?;
     if !schema.is_key(at) {
-        return row_or_default(alloc, schema, config, near, &path, at);
+        return row_or_default(alloc, schema, config, grouped, near, &path, at);
     }
     let list = front(alloc, &path)?;
     key_in_entry(schema, at, &list)
@@ -47,16 +49,18 @@ fn unique_values<M: RowMap>(
     alloc: Global,
     schema: &Schema,
     config: &M,
+    grouped: &Grouped<'_>,
     near: &[NodeRow<'_>],
     entry: &Path,
     leafs: &[usize],
 ) -> Result<Option<Vec<Value>>, NoMemory>
-    requires { AreRows (M.rows config.now) near.now }
+    requires grouped { group.IsGrouped schema.now (M.rows config.now) grouped.now }
+    requires rows { AreRows (M.rows config.now) near.now }
     ensures { IfOk result (λ found. spec.items_in found ≡ value_spec.unique_values schema.now (M.rows config.now) entry.now leafs.now) }
 {
     let mut values = Vec::new(alloc);
     for at in leafs {
-        let Some(value) = value_in(alloc, schema, config, near, entry, *at)? else {
+        let Some(value) = value_in(alloc, schema, config, grouped, near, entry, *at)? else {
             return Ok(None);
         };
         values.push(value)?;
@@ -70,14 +74,16 @@ fn key_of<M: RowMap>(
     alloc: Global,
     schema: &Schema,
     config: &M,
+    grouped: &Grouped<'_>,
     near: &[NodeRow<'_>],
     leafs: &[usize],
     entry: &Path,
 ) -> Result<Option<Path>, NoMemory>
-    requires { AreRows (M.rows config.now) near.now }
+    requires grouped { group.IsGrouped schema.now (M.rows config.now) grouped.now }
+    requires rows { AreRows (M.rows config.now) near.now }
     ensures { IfOk result (λ key. key ≡ spec.key_of schema.now (M.rows config.now) leafs.now entry.now) }
 {
-    let Some(values) = unique_values(alloc, schema, config, near, entry, leafs)? else {
+    let Some(values) = unique_values(alloc, schema, config, grouped, near, entry, leafs)? else {
         return Ok(None);
     };
     let mut path = front(alloc, entry)?;
@@ -95,16 +101,18 @@ fn see<M: RowMap>(
     alloc: Global,
     schema: &Schema,
     config: &M,
+    grouped: &Grouped<'_>,
     near: &[NodeRow<'_>],
     leafs: &[usize],
     entry: &Path,
     seen: &mut Config,
 ) -> Result<bool, NoMemory>
-    requires { AreRows (M.rows config.now) near.now }
+    requires grouped { group.IsGrouped schema.now (M.rows config.now) grouped.now }
+    requires rows { AreRows (M.rows config.now) near.now }
     ensures told { IfOk result (λ is. is ≡ spec.is_seen seen.old (spec.key_of schema.now (M.rows config.now) leafs.now entry.now)) }
     ensures seen { IfOk result (λ _. seen.new ≡ spec.with_seen seen.old (spec.key_of schema.now (M.rows config.now) leafs.now entry.now)) }
 {
-    let Some(path) = key_of(alloc, schema, config, near, leafs, entry)? else {
+    let Some(path) = key_of(alloc, schema, config, grouped, near, leafs, entry)? else {
         return Ok(false);
     };
     let before = seen.put(path, Value::Present)?;
@@ -145,15 +153,17 @@ fn put_key<M: RowMap>(
     alloc: Global,
     schema: &Schema,
     config: &M,
+    grouped: &Grouped<'_>,
     near: &[NodeRow<'_>],
     leafs: &[usize],
     entry: &Path,
     keys: &mut Vec<(Path, Value)>,
 ) -> Result<(), NoMemory>
-    requires { AreRows (M.rows config.now) near.now }
+    requires grouped { group.IsGrouped schema.now (M.rows config.now) grouped.now }
+    requires rows { AreRows (M.rows config.now) near.now }
     ensures { OnOk result (keys.new.items ≡ keys.old.items ++ spec.row_by (spec.key_of schema.now (M.rows config.now) leafs.now entry.now)) }
 {
-    let Some(path) = key_of(alloc, schema, config, near, leafs, entry)? else {
+    let Some(path) = key_of(alloc, schema, config, grouped, near, leafs, entry)? else {
         return Ok(());
     };
     keys.push((path, Value::Present))?;
@@ -161,23 +171,26 @@ fn put_key<M: RowMap>(
 }
 
 // The paths for the values of some leafs in the entries of a list.
+#[tactic(auto, using(crate::proofs::Rows::lent_rows))]
 fn keys_of<M: RowMap>(
     alloc: Global,
     schema: &Schema,
     config: &M,
-    rows: &[NodeRow<'_>],
+    grouped: &Grouped<'_>,
     list: usize,
     leafs: &[usize],
     entries: &[&Path],
 ) -> Result<Vec<(Path, Value)>, NoMemory>
-    requires { AreRows (M.rows config.now) rows.now }
+    requires { group.IsGrouped schema.now (M.rows config.now) grouped.now }
     ensures { IfOk result (λ keys. keys.items ≡ spec.keys_in schema.now (M.rows config.now) leafs.now (each (λ entry. entry.now) entries.now)) }
 {
     let mut keys = Vec::new(alloc);
-    let mut rest = rows;
+    let mut rest = grouped.rows.as_slice();
     for entry in entries {
         rest = behind_first(rest, list);
-        put_key(alloc, schema, config, rest, leafs, entry, &mut keys)?;
+        put_key(
+            alloc, schema, config, grouped, rest, leafs, entry, &mut keys,
+        )?;
     }
     Ok(keys)
 }
@@ -187,44 +200,47 @@ fn are_apart<M: RowMap>(
     alloc: Global,
     schema: &Schema,
     config: &M,
-    rows: &[NodeRow<'_>],
+    grouped: &Grouped<'_>,
     list: usize,
     leafs: &[usize],
     entries: &[&Path],
 ) -> Result<bool, NoMemory>
-    requires { AreRows (M.rows config.now) rows.now }
+    requires { group.IsGrouped schema.now (M.rows config.now) grouped.now }
     ensures { IfOk result (λ apart. apart ≡ true → spec.repeated schema.now (M.rows config.now) leafs.now empty (each (λ entry. entry.now) entries.now) ≡ []) }
 {
-    let keys = keys_of(alloc, schema, config, rows, list, leafs, entries)?;
+    let keys = keys_of(alloc, schema, config, grouped, list, leafs, entries)?;
     let count = keys.len();
     let kept = Config::of_rows(alloc, keys)?;
     Ok(kept.len() == count)
 }
 
 // The least of what was found so far and of the entries of a list that have the same values in some leafs as one before.
+#[tactic(auto, using(crate::proofs::Rows::lent_rows))]
 fn least_repeated<M: RowMap>(
     alloc: Global,
     schema: &Schema,
     config: &M,
-    rows: &[NodeRow<'_>],
+    grouped: &Grouped<'_>,
     list: usize,
     leafs: &[usize],
     entries: &[&Path],
     found: Option<Path>,
 ) -> Result<Option<Path>, NoMemory>
-    requires { AreRows (M.rows config.now) rows.now }
+    requires { group.IsGrouped schema.now (M.rows config.now) grouped.now }
     ensures { IfOk result (λ least. least ≡ least_with found (spec.repeated schema.now (M.rows config.now) leafs.now empty (each (λ entry. entry.now) entries.now))) }
 {
-    let apart = are_apart(alloc, schema, config, rows, list, leafs, entries)?;
+    let apart = are_apart(alloc, schema, config, grouped, list, leafs, entries)?;
     if apart {
         return Ok(found);
     }
     let mut seen = Config::new(alloc);
     let mut least = found;
-    let mut rest = rows;
+    let mut rest = grouped.rows.as_slice();
     for entry in entries {
         rest = behind_first(rest, list);
-        let repeats = see(alloc, schema, config, rest, leafs, entry, &mut seen)?;
+        let repeats = see(
+            alloc, schema, config, grouped, rest, leafs, entry, &mut seen,
+        )?;
         least = with_entry(alloc, least, entry, repeats)?;
     }
     Ok(least)
@@ -242,19 +258,19 @@ fn least_in_all<M: RowMap>(
     alloc: Global,
     schema: &Schema,
     config: &M,
-    rows: &[NodeRow<'_>],
+    grouped: &Grouped<'_>,
     list: usize,
     uniques: &[Numbers],
     entries: &[&Path],
     found: Option<Path>,
 ) -> Result<Option<Path>, NoMemory>
-    requires { AreRows (M.rows config.now) rows.now }
+    requires { group.IsGrouped schema.now (M.rows config.now) grouped.now }
     ensures { IfOk result (λ least. least ≡ least_with found (flat_map (λ leafs. spec.repeated schema.now (M.rows config.now) leafs empty (each (λ entry. entry.now) entries.now)) uniques.now)) }
 {
     let mut least = found;
     for leafs in uniques {
         let leafs = leafs.as_slice();
-        least = least_repeated(alloc, schema, config, rows, list, leafs, entries, least)?;
+        least = least_repeated(alloc, schema, config, grouped, list, leafs, entries, least)?;
     }
     Ok(least)
 }
@@ -264,19 +280,18 @@ fn least_at_node<M: RowMap>(
     alloc: Global,
     schema: &Schema,
     config: &M,
-    rows: &[NodeRow<'_>],
-    groups: &[Vec<&Path>],
+    grouped: &Grouped<'_>,
     at: usize,
     found: Option<Path>,
 ) -> Result<Option<Path>, NoMemory>
-    requires { AreRows (M.rows config.now) rows.now }
-    ensures { IfOk result (λ least. least ≡ least_with found (spec.repeated_at schema.now (M.rows config.now) (group.in_group groups.now at) at)) }
+    requires { group.IsGrouped schema.now (M.rows config.now) grouped.now }
+    ensures { IfOk result (λ least. least ≡ least_with found (spec.repeated_at schema.now (M.rows config.now) (group.in_group grouped.now.groups.items at) at)) }
 {
-    let Some(entries) = entries_of(groups, at) else {
+    let Some(entries) = entries_of(&grouped.groups, at) else {
         return Ok(found);
     };
     let uniques = schema.uniques(at);
-    let least = least_in_all(alloc, schema, config, rows, at, uniques, entries, found)?;
+    let least = least_in_all(alloc, schema, config, grouped, at, uniques, entries, found)?;
     Ok(least)
 }
 
@@ -290,11 +305,9 @@ pub fn least_repeated_entry<M: RowMap>(
     requires { group.IsGrouped schema.now (M.rows config.now) grouped.now }
     ensures { IfOk result (λ found. found ≡ least_at schema.now (M.rows config.now) rule.Unique) }
 {
-    let rows = grouped.rows.as_slice();
-    let groups = grouped.groups.as_slice();
     let mut least = None;
     for at in 0..schema.len() {
-        least = least_at_node(alloc, schema, config, rows, groups, at, least)?;
+        least = least_at_node(alloc, schema, config, grouped, at, least)?;
     }
     Ok(least)
 }

@@ -11,11 +11,12 @@ ghost use Rattle.nm_rules.specs.Guards as guard;
 ghost use Rattle.nm_rules.specs.Places as place_spec;
 ghost use Rattle.nm_rules.specs.Values as spec;
 ghost use Rattle.nm_rules.specs.Violated.{last_chosen};
+ghost use Rattle.nm_validate.specs.Groups.{IsGrouped};
 ghost use Rattle.nm_validate.specs.Listed.{AreRows};
 ghost use Rattle.nm_validate.specs.Repeated.{is_open, row_or_default};
 
-use crate::areas::NodeRow;
-use crate::cases::{bare, is_allowed, members_of};
+use crate::areas::{Grouped, NodeRow};
+use crate::cases::{bare, is_allowed};
 use crate::keys::values_in;
 use crate::too_few::front;
 use nm_base::NoMemory;
@@ -83,21 +84,21 @@ fn is_none_chosen(chosen: &Chosen) -> bool
 }
 
 // Whether the case that a node stands in, if there is one, holds at a place.
-#[tactic(auto, using(crate::proofs::Below::allowed_is))]
 fn is_allowed_at<M: RowMap>(
     alloc: Global,
     schema: &Schema,
     config: &M,
+    grouped: &Grouped<'_>,
     above: &Path,
     node: Option<usize>,
 ) -> Result<bool, NoMemory>
+    requires { IsGrouped schema.now (M.rows config.now) grouped.now }
     ensures { IfOk result (λ allowed. allowed ≡ guard.is_allowed_at schema.now (M.rows config.now) above.now node) }
 {
     let Some(at) = node else {
         return Ok(false);
     };
-    let members = members_of(alloc, schema, schema.case_in(at))?;
-    is_allowed(alloc, schema, config, above, &members)
+    is_allowed(alloc, schema, config, grouped, above, schema.case_in(at))
 }
 
 // Whether the last step of a path has no predicates, and leads to a node whose case holds.
@@ -105,15 +106,17 @@ fn is_open<M: RowMap>(
     alloc: Global,
     schema: &Schema,
     config: &M,
+    grouped: &Grouped<'_>,
     above: &Path,
     path: &Path,
 ) -> Result<bool, NoMemory>
+    requires { IsGrouped schema.now (M.rows config.now) grouped.now }
     ensures { IfOk result (λ opens. opens ≡ is_open schema.now (M.rows config.now) above.now path.now) }
 {
     if !is_whole(path) {
         return Ok(false);
     }
-    is_allowed_at(alloc, schema, config, above, node_of(schema, path))
+    is_allowed_at(alloc, schema, config, grouped, above, node_of(schema, path))
 }
 
 // Whether a path leads to a list or a container with presence.
@@ -152,9 +155,11 @@ fn holds_at<M: RowMap>(
     alloc: Global,
     schema: &Schema,
     config: &M,
+    grouped: &Grouped<'_>,
     path: &Path,
     count: usize,
 ) -> Result<bool, NoMemory>
+    requires grouped { IsGrouped schema.now (M.rows config.now) grouped.now }
     requires counted { count ≡ length path.now }
     ensures { IfOk result (λ holds. holds ≡ guard.holds_at schema.now (M.rows config.now) path.now) }
 {
@@ -165,11 +170,11 @@ fn holds_at<M: RowMap>(
         return Ok(has_row(config, path));
     }
     let above = front(alloc, path)?;
-    let opens = is_open(alloc, schema, config, &above, path)?;
+    let opens = is_open(alloc, schema, config, grouped, &above, path)?;
     if !opens {
         return Ok(false);
     }
-    let holds = holds_at(alloc, schema, config, &above, count - 1)?;
+    let holds = holds_at(alloc, schema, config, grouped, &above, count - 1)?;
     Ok(holds)
 }
 
@@ -178,19 +183,21 @@ fn stands<M: RowMap>(
     alloc: Global,
     schema: &Schema,
     config: &M,
+    grouped: &Grouped<'_>,
     path: &Path,
 ) -> Result<bool, NoMemory>
+    requires { IsGrouped schema.now (M.rows config.now) grouped.now }
     ensures { IfOk result (λ there. there ≡ guard.stands schema.now (M.rows config.now) path.now) }
 {
     if is_top(path) {
         return Ok(false);
     }
     let above = front(alloc, path)?;
-    let opens = is_open(alloc, schema, config, &above, path)?;
+    let opens = is_open(alloc, schema, config, grouped, &above, path)?;
     if !opens {
         return Ok(false);
     }
-    let holds = holds_at(alloc, schema, config, &above, step_count(&above))?;
+    let holds = holds_at(alloc, schema, config, grouped, &above, step_count(&above))?;
     Ok(holds)
 }
 
@@ -201,9 +208,11 @@ pub fn default_in_use<M: RowMap>(
     alloc: Global,
     schema: &Schema,
     config: &M,
+    grouped: &Grouped<'_>,
     path: &Path,
     at: usize,
 ) -> Result<Option<Value>, NoMemory>
+    requires { IsGrouped schema.now (M.rows config.now) grouped.now }
     ensures { IfOk result (λ value. value ≡ spec.default_in_use schema.now (M.rows config.now) path.now at) }
 {
     let Some(value) = schema.default(at) else {
@@ -212,7 +221,7 @@ pub fn default_in_use<M: RowMap>(
     if config.value(path).is_some() {
         return Ok(None);
     }
-    if !stands(alloc, schema, config, path)? {
+    if !stands(alloc, schema, config, grouped, path)? {
         return Ok(None);
     }
     Ok(Some(value.copy()?))
@@ -256,16 +265,18 @@ pub fn row_or_default<M: RowMap>(
     alloc: Global,
     schema: &Schema,
     config: &M,
+    grouped: &Grouped<'_>,
     near: &[NodeRow<'_>],
     path: &Path,
     at: usize,
 ) -> Result<Option<Value>, NoMemory>
-    requires { AreRows (M.rows config.now) near.now }
+    requires grouped { IsGrouped schema.now (M.rows config.now) grouped.now }
+    requires rows { AreRows (M.rows config.now) near.now }
     ensures { IfOk result (λ value. value ≡ row_or_default schema.now (M.rows config.now) path.now at) }
 {
     match value_near(config, near, path, at) {
         Some(value) => Ok(Some(value.copy()?)),
-        None => default_in_use(alloc, schema, config, path, at),
+        None => default_in_use(alloc, schema, config, grouped, path, at),
     }
 }
 

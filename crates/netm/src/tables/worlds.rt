@@ -1,17 +1,15 @@
 //! Runs of change sets beside losses, timers, restarts, crashes and operators. The texts are worked out by hand from
 //! docs/FORMATS.md.
 
-use nm_console::console::console;
-use nm_disk::MemoryDisk;
-use nm_io::{MemorySink, MemorySource};
+use super::replays_so;
 use std::alloc::Global;
 use std::test::Fail;
 
 /// A name, what follows the word `events` in a scenario, and the status and the text of its replay.
 struct Run(&'static str, &'static str, u8, &'static str);
 
-// Change set 1 is to set cell 7 of both devices.
-const TWO_DEVICES: &str =
+/// Change set 1 is to set cell 7 of both devices.
+pub const TWO_DEVICES: &str =
     r#"{"netm":1,"contents":"flat","devices":[{"running":{"7":1}},{"running":{"7":1}}],"changes":[{"edits":[{"device":1,"edit":{"7":2}},{"device":2,"edit":{"7":2}}]}],"events":"#;
 
 static RUNS: [Run; 16] = [
@@ -128,24 +126,7 @@ static QUEUES: [Run; 1] = [Run(
 fn ends_so(alloc: Global, open: &str, run: &Run) -> Result<(), Fail> {
     let Run(name, events, status, want) = *run;
     let scenario = format!(in alloc; "{open}{events}}}")?;
-    let mut words = Vec::new(alloc);
-    words.push(String::from_str(alloc, "replay")?)?;
-    let bytes = Vec::from_slice(alloc, scenario.as_bytes())?;
-    let mut input = MemorySource::new(bytes, Vec::new(alloc));
-    let mut output = MemorySink::new(alloc, 8192, Vec::new(alloc))?;
-    let mut journal = MemoryDisk::with_limit(alloc, 256, 256)?;
-    let found = console(
-        alloc,
-        words.as_slice(),
-        &mut input,
-        &mut output,
-        &mut journal,
-    );
-    if found.code() == status && output.taken() == want.as_bytes() {
-        return Ok(());
-    }
-    let text = str::from_utf8(output.taken())?;
-    Err(Fail::new(format_args!("{name}: {} {text}", found.code())))
+    replays_so(alloc, name, scenario.as_str(), status, want)
 }
 
 #[test]

@@ -8,4 +8,4 @@ returns g c =
     let t = c.args.schema.now in
     let rows = g.M.RowMap.rows c.args.config.now in
     c.in_ok-least.ensures
-    ∙ ap (least_with c.args.found) (all_below t rows c.args.choice c.deref.result.now (c.deref.ensures.value ∙ c.in_ok-nodes.ensures) c.args.places.now)
+    ∙ ap (least_with c.args.found) (all_below t rows c.args.choice c.args.nodes.now c.requires c.args.places.now)

@@ -1,4 +1,5 @@
 use Rattle.std.proofs.Common.{◌≡◌, ◌<◌, ◌-◌, length, ap, sym, ◌∙◌, arith}
+use Rattle.nm_validate.specs.Tables.{nodes_in}
 use Rattle.nm_validate.specs.Least.{least_with}
 use Rattle.nm_validate.proofs.Leasts.{turn_all}
 use Rattle.nm_check.specs.Others.{others_of}
@@ -11,6 +12,13 @@ returns-then-choice_count-eq0 g c =
     let none = c.if-choice_count-eq0.true in
     let count = c.choice_count.ensures in
     sym (no_choices c.args.schema.now (g.M.RowMap.rows c.args.config.now) (omega (arith, none, count)))
+
+pub least_of_choice-requires : goal.least_of_choice-requires
+least_of_choice-requires g c =
+    let test_is = c.loop-choice-test.true in
+    let end_is = c.choice_count-choice-end.ensures in
+    let lt : c.loop-choice.choice < length c.args.schema.now.choices = omega (arith, test_is, end_is) in
+    c.nodes_in-nodes.ensures ∙ ap (λ gs. nodes_in gs c.loop-choice.choice) c.as_slice-choices.ensures.value ∙ c.in_ok-table.ensures.each c.loop-choice.choice lt
 
 pub loop-choice-preserved : goal.loop-choice-preserved
 loop-choice-preserved g c =

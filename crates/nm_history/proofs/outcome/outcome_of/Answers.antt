@@ -1,9 +1,18 @@
+use Rattle.std.proofs.Common.{◌+◌, drop, sym, ◌∙◌}
 use Rattle.nm_history.specs.Outcome.{outcome_of}
-use Rattle.nm_history.proofs.Standings.{read_on}
+use Rattle.nm_history.proofs.Standings.{read_on, final_stays}
 use Rattle.nm_history.proofs.outcome.outcome_of.Goals as goal
 
 pub loop-entry-preserved : goal.loop-entry-preserved
 loop-entry-preserved c =
     read_on c.args.token.now (record { outcome = c.loop-entry.standing.outcome; other = c.loop-entry.standing.other })
+    (record { outcome = c.after-standing.result.outcome; other = c.after-standing.result.other }) c.args.history.now c.loop-entry.entry-index c.entry-item.result
+    (outcome_of c.args.token.now c.args.history.now) c.loop-entry-test.true c.entry-item.is c.after-standing.ensures.outcome c.after-standing.ensures.other c.loop-entry.invariant
+
+pub returns-then-is_final : goal.returns-then-is_final
+returns-then-is_final c =
+    let rest = drop (c.loop-entry.entry-index + 1) c.args.history.now in
+    sym (final_stays c.args.token.now c.after-standing.result.outcome c.after-standing.result.other rest (sym (c.is_final.ensures) ∙ c.if-is_final.true))
+    ∙ read_on c.args.token.now (record { outcome = c.loop-entry.standing.outcome; other = c.loop-entry.standing.other })
     (record { outcome = c.after-standing.result.outcome; other = c.after-standing.result.other }) c.args.history.now c.loop-entry.entry-index c.entry-item.result
     (outcome_of c.args.token.now c.args.history.now) c.loop-entry-test.true c.entry-item.is c.after-standing.ensures.outcome c.after-standing.ensures.other c.loop-entry.invariant

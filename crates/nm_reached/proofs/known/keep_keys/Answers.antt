@@ -24,7 +24,7 @@ returns-in_default-group_of g c =
     let key = sym c.is_key.ensures ∙ c.if-not-is_key.false in
     let parent = sym c.parent.ensures ∙ c.in-Some.is in
     ap (λ ps. with_values c.args.at c.args.depth (key_in_entry t c.args.at) c.args.kept.now ps)
-    (sym (no_group_entries t rows c.args.groups.now c.args.at c.in-Some.list c.requires key parent c.in_default-group_of.ensures))
+    (sym (no_group_entries t rows c.args.grouped.now.groups.items c.args.at c.in-Some.list c.requires.groups_are key parent c.in_default-group_of.ensures))
 
 pub returns : goal.returns
 returns g c =
@@ -35,4 +35,4 @@ returns g c =
     c.in_ok-keep_all_keys.ensures
     ∙ ap (λ ps. with_values c.args.at c.args.depth (key_in_entry t c.args.at) c.args.kept.now (map (λ entry. entry.now) ps)) c.deref.ensures.value
     ∙ ap (λ ps. with_values c.args.at c.args.depth (key_in_entry t c.args.at) c.args.kept.now ps)
-    (group_entries t rows c.args.groups.now c.args.at c.in-Some.list c.in-Some-group_of.entries.now c.requires key parent c.in-Some-group_of.ensures)
+    (group_entries t rows c.args.grouped.now.groups.items c.args.at c.in-Some.list c.in-Some-group_of.entries.now c.requires.groups_are key parent c.in-Some-group_of.ensures)

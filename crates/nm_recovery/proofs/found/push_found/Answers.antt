@@ -1,4 +1,4 @@
-use Rattle.std.proofs.Common.{rules, ◌≡◌, ◌++◌, sym, List, [], ◌∷◌}
+use Rattle.std.proofs.Common.{sym}
 use Rattle.nm_recovery.proofs.found.push_found.Goals as goal
 
 pub returns-in_ok-push-in-Started : goal.returns-in_ok-push-in-Started

@@ -1,11 +1,12 @@
 use Rattle.std.proofs.Common.{ap, sym, ◌∙◌}
 use Rattle.nm_rules.specs.Places.{areas}
+use Rattle.nm_validate.specs.Groups.{in_group}
 use Rattle.nm_validate.proofs.Below.{guard_areas}
 use Rattle.nm_validate.proofs.areas.+areas.Goals as goal
 
 pub returns-then-is_guard : goal.returns-then-is_guard
 returns-then-is_guard g t c =
     let rows = g.M.RowMap.rows c.args.config.now in
-    c.in_ok-paths.ensures
-    ∙ guard_areas c.args.schema.now c.laws.ensures rows c.in-Some.at c.args.groups.now c.requires (sym c.is_guard.ensures ∙ c.if-is_guard.true)
+    c.in_ok-paths.ensures ∙ ap (λ gs. in_group gs c.in-Some.at) c.deref.ensures.value
+    ∙ guard_areas c.args.schema.now c.laws.ensures rows c.in-Some.at c.args.grouped.now.groups.items c.requires.groups_are (sym c.is_guard.ensures ∙ c.if-is_guard.true)
     ∙ ap (areas c.args.schema.now rows) (sym c.in-Some.is)

@@ -15,4 +15,4 @@ returns g c =
     let ends = c.loop-path.auto.path-index-end in
     let past : length c.deref-path-items.result.now ≤ c.loop-path.path-index = omega (arith, end_is, ends) in
     all_listed c.args.schema.now (g.M.RowMap.rows c.args.config.now) (drop c.loop-path.path-index c.deref-path-items.result.now) c.deref-path-items.result.now _
-    (drop_all c.loop-path.path-index c.deref-path-items.result.now past) (ap (map deref_pair) c.deref-path-items.ensures.value ∙ c.in_ok-all.ensures) c.loop-path.invariant
+    (drop_all c.loop-path.path-index c.deref-path-items.result.now past) (ap (map deref_pair) c.deref-path-items.ensures.value ∙ c.in_ok-all.ensures) c.loop-path.invariant c.in_ok-cases.ensures

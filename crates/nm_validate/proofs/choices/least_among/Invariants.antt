@@ -6,5 +6,5 @@ use Rattle.nm_validate.proofs.choices.least_among.Given as goal
 
 abbrev pub invariant-loop-above : goal.invariant-loop-above
 invariant-loop-above g l =
-    least_with l.least (flat_map (missing_by l.schema (g.M.RowMap.rows l.config) l.choice l.members l.nodes) (drop l.above-index l.areas))
-    ≡ least_with l.fn.found (flat_map (missing_by l.schema (g.M.RowMap.rows l.config) l.choice l.members l.nodes) l.areas)
+    least_with l.least (flat_map (missing_by l.schema (g.M.RowMap.rows l.config) l.choice l.nodes) (drop l.above-index l.areas))
+    ≡ least_with l.fn.found (flat_map (missing_by l.schema (g.M.RowMap.rows l.config) l.choice l.nodes) l.areas)

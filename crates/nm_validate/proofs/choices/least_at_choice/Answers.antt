@@ -21,10 +21,8 @@ returns g c =
     let t = c.args.schema.now in
     let rows = g.M.RowMap.rows c.args.config.now in
     let choice = c.in-Some.choice.now in
-    let members = c.in_ok-members.members in
-    let nodes = c.in_ok-nodes.nodes.items in
+    let nodes = c.args.nodes.now in
     c.in_ok-least.ensures
-    ∙ ap (λ l. least_with c.args.found (flat_map (missing_by t rows choice members l) c.deref.result.now)) c.deref-2.ensures.value
-    ∙ ap (λ l. least_with c.args.found (flat_map (missing_by t rows choice members nodes) l)) (c.deref.ensures.value ∙ c.in_ok-above.ensures)
-    ∙ ap (least_with c.args.found) (choice_missing t rows c.requires.sound c.args.at choice members nodes c.in-Some.ensures c.if-not-choice.false
-    (sym c.is_within.ensures ∙ c.if-not-is_within.false) c.in_ok-members.ensures c.in_ok-nodes.ensures)
+    ∙ ap (λ l. least_with c.args.found (flat_map (missing_by t rows choice nodes) l)) (c.deref.ensures.value ∙ c.in_ok-above.ensures)
+    ∙ ap (least_with c.args.found) (choice_missing t rows c.requires.sound c.args.at choice nodes c.in-Some.ensures c.if-not-choice.false
+    (sym c.is_within.ensures ∙ c.if-not-is_within.false) c.requires.nodes)

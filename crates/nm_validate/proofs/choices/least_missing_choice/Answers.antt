@@ -1,13 +1,16 @@
-use Rattle.std.proofs.Common.{◌≡◌, ◌<◌, ◌-◌, length, ◌∙◌, arith}
+use Rattle.std.proofs.Common.{◌≡◌, ◌<◌, ◌-◌, length, ap, ◌∙◌, arith}
+use Rattle.nm_validate.specs.Tables.{nodes_in}
 use Rattle.nm_validate.specs.Choosing.{missing_places}
 use Rattle.nm_validate.proofs.Leasts.{turn_all}
-use Rattle.nm_validate.proofs.Loops.{lent_groups}
 use Rattle.nm_validate.proofs.Choosing.{all_choices}
 use Rattle.nm_validate.proofs.choices.least_missing_choice.Goals as goal
 
-pub least_at_choice-requires-clause-groups : goal.least_at_choice-requires-clause-groups
-least_at_choice-requires-clause-groups g c =
-    lent_groups c.args.schema.now (g.M.RowMap.rows c.args.config.now) c.args.grouped.now c.as_slice-groups.result.now c.requires.grouped c.as_slice-groups.ensures.value
+pub least_at_choice-requires-clause-nodes : goal.least_at_choice-requires-clause-nodes
+least_at_choice-requires-clause-nodes g c =
+    let test_is = c.loop-at-test.true in
+    let end_is = c.choice_count-at-end.ensures in
+    let lt : c.loop-at.at < length c.args.schema.now.choices = omega (arith, test_is, end_is) in
+    c.nodes_in-nodes.ensures ∙ ap (λ gs. nodes_in gs c.loop-at.at) c.as_slice-choices.ensures.value ∙ c.in_ok-table.ensures.each c.loop-at.at lt
 
 pub loop-at-preserved : goal.loop-at-preserved
 loop-at-preserved g c =

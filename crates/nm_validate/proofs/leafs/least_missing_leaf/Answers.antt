@@ -3,12 +3,8 @@ use Rattle.nm_rules.specs.declared.rule.Rule.TheVariants.{Mandatory}
 use Rattle.nm_rules.specs.Places.{places}
 use Rattle.nm_rules.specs.Violated.{violated}
 use Rattle.nm_validate.proofs.Leasts.{turn}
-use Rattle.nm_validate.proofs.Loops.{lent_groups, all_looked}
+use Rattle.nm_validate.proofs.Loops.{all_looked}
 use Rattle.nm_validate.proofs.leafs.least_missing_leaf.Goals as goal
-
-pub least_at_node-requires-clause-groups : goal.least_at_node-requires-clause-groups
-least_at_node-requires-clause-groups g c =
-    lent_groups c.args.schema.now (g.M.RowMap.rows c.args.config.now) c.args.grouped.now c.as_slice-groups.result.now c.requires.grouped c.as_slice-groups.ensures.value
 
 pub loop-at-preserved : goal.loop-at-preserved
 loop-at-preserved g c =

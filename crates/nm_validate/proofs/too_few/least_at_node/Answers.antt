@@ -1,9 +1,13 @@
-use Rattle.std.proofs.Common.{ap, sym, ◌∙◌}
+use Rattle.std.proofs.Common.{ap, sym, ◌∙◌, subst}
 use Rattle.std.specs.Prelude.{filter}
 use Rattle.nm_validate.specs.Least.{least_with}
+use Rattle.nm_validate.specs.Tables.{AreOfCases}
 use Rattle.nm_validate.specs.Wanted.{is_short}
 use Rattle.nm_validate.proofs.Elements.{below_min, no_min}
 use Rattle.nm_validate.proofs.too_few.least_at_node.Goals as goal
+
+pub others_of-requires : goal.others_of-requires
+others_of-requires g c = subst (λ gs. AreOfCases c.args.schema.now gs) (sym c.deref.ensures.value) c.requires.grouped.cases_are
 
 pub returns-in_default : goal.returns-in_default
 returns-in_default g c =

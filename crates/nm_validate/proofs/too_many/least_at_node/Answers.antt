@@ -4,6 +4,7 @@ use Rattle.nm_rules.specs.Values.{count_at}
 use Rattle.nm_validate.specs.Least.{least_with}
 use Rattle.nm_validate.proofs.Elements.{above_max, no_max}
 use Rattle.nm_validate.proofs.Rowless.{empty_group}
+use Rattle.nm_validate.proofs.Loops.{lent_groups}
 use Rattle.nm_validate.proofs.too_many.least_at_node.Goals as goal
 
 pub returns-in_default : goal.returns-in_default
@@ -14,7 +15,7 @@ returns-in_default g c =
 pub returns-then-is_empty : goal.returns-then-is_empty
 returns-then-is_empty g c =
     let rows = g.M.RowMap.rows c.args.config.now in
-    ap (least_with c.args.found) (sym (empty_group c.args.schema.now rows c.requires.sound c.args.groups.now c.args.at c.requires.within c.requires.groups c.in-Some-get.group.now c.in-Some-get.ensures.lookup.1 (sym c.is_empty.ensures ∙ c.if-is_empty.true)))
+    ap (least_with c.args.found) (sym (empty_group c.args.schema.now rows c.requires.sound c.as_slice.result.now c.args.at c.requires.within (lent_groups c.args.schema.now rows c.args.grouped.now c.as_slice.result.now c.requires.grouped c.as_slice.ensures.value) c.in-Some-get.group.now c.in-Some-get.ensures.lookup.1 (sym c.is_empty.ensures ∙ c.if-is_empty.true)))
 
 pub returns : goal.returns
 returns g c =

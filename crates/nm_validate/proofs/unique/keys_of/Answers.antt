@@ -5,8 +5,8 @@ use Rattle.nm_validate.specs.Repeated.{keys_in}
 use Rattle.nm_validate.proofs.Apart.{keys_on}
 use Rattle.nm_validate.proofs.unique.keys_of.Goals as goal
 
-pub put_key-requires : goal.put_key-requires
-put_key-requires g c = c.behind_first-rest.ensures (g.M.RowMap.rows c.args.config.now) c.loop-entry.invariant.0
+pub put_key-requires-clause-rows : goal.put_key-requires-clause-rows
+put_key-requires-clause-rows g c = c.behind_first-rest.ensures (g.M.RowMap.rows c.args.config.now) c.loop-entry.invariant.0
 
 pub loop-entry-preserved : goal.loop-entry-preserved
 loop-entry-preserved g c =

@@ -9,8 +9,8 @@ use Rattle.nm_validate.proofs.unique.least_repeated.Goals as goal
 pub returns-then-apart : goal.returns-then-apart
 returns-then-apart g c = ap (least_with c.args.found) (sym (c.in_ok-apart.ensures c.if-apart.true))
 
-pub see-requires : goal.see-requires
-see-requires g c = c.behind_first-rest.ensures (g.M.RowMap.rows c.args.config.now) c.loop-entry.invariant.0
+pub see-requires-clause-rows : goal.see-requires-clause-rows
+see-requires-clause-rows g c = c.behind_first-rest.ensures (g.M.RowMap.rows c.args.config.now) c.loop-entry.invariant.0
 
 pub loop-entry-preserved : goal.loop-entry-preserved
 loop-entry-preserved g c =

@@ -2,13 +2,8 @@ use Rattle.std.proofs.Common.{◌≡◌, ◌<◌, ◌-◌, length, ◌∙◌, ar
 use Rattle.nm_validate.specs.Groups.{in_group}
 use Rattle.nm_validate.specs.Repeated.{repeated_at}
 use Rattle.nm_validate.proofs.Leasts.{turn_all}
-use Rattle.nm_validate.proofs.Loops.{lent_groups}
-use Rattle.nm_validate.proofs.Rows.{lent_rows}
 use Rattle.nm_validate.proofs.Repeated.{all_lists}
 use Rattle.nm_validate.proofs.unique.least_repeated_entry.Goals as goal
-
-pub least_at_node-requires : goal.least_at_node-requires
-least_at_node-requires g c = lent_rows c.args.schema.now (g.M.RowMap.rows c.args.config.now) c.args.grouped.now c.as_slice-rows.result.now c.requires c.as_slice-rows.ensures.value
 
 pub loop-at-preserved : goal.loop-at-preserved
 loop-at-preserved g c =
@@ -16,7 +11,7 @@ loop-at-preserved g c =
     let test_is = c.loop-at-test.true in
     let end_is = c.len-at-end.ensures in
     let lt : c.loop-at.at < length c.args.schema.now.nodes = omega (arith, test_is, end_is) in
-    turn_all (λ x. repeated_at c.args.schema.now rows (in_group c.as_slice-groups.result.now x) x) c.loop-at.at (length c.args.schema.now.nodes) c.loop-at.least c.in_ok-least.least lt c.in_ok-least.ensures ∙ c.loop-at.invariant
+    turn_all (λ x. repeated_at c.args.schema.now rows (in_group c.args.grouped.now.groups.items x) x) c.loop-at.at (length c.args.schema.now.nodes) c.loop-at.least c.in_ok-least.least lt c.in_ok-least.ensures ∙ c.loop-at.invariant
 
 pub returns : goal.returns
 returns g c =
@@ -24,5 +19,4 @@ returns g c =
     let test_is = c.loop-at-test.false in
     let end_is = c.len-at-end.ensures in
     let done : length c.args.schema.now.nodes - c.loop-at.at ≡ 0 = omega (arith, test_is, end_is) in
-    let of = lent_groups c.args.schema.now rows c.args.grouped.now c.as_slice-groups.result.now c.requires c.as_slice-groups.ensures.value in
-    all_lists c.args.schema.now rows c.as_slice-groups.result.now of c.loop-at.at c.loop-at.least done c.loop-at.invariant
+    all_lists c.args.schema.now rows c.args.grouped.now.groups.items c.requires.groups_are c.loop-at.at c.loop-at.least done c.loop-at.invariant

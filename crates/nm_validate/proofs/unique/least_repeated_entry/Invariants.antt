@@ -8,5 +8,5 @@ use Rattle.nm_validate.proofs.unique.least_repeated_entry.Given as goal
 
 abbrev pub invariant-loop-at : goal.invariant-loop-at
 invariant-loop-at g l =
-    least_with l.least (flat_map (λ x. repeated_at l.schema (g.M.RowMap.rows l.config) (in_group l.groups x) x) (range_with_len l.at (length l.schema.nodes - l.at)))
-    ≡ least_with None (flat_map (λ x. repeated_at l.schema (g.M.RowMap.rows l.config) (in_group l.groups x) x) (numbers l.schema.nodes))
+    least_with l.least (flat_map (λ x. repeated_at l.schema (g.M.RowMap.rows l.config) (in_group l.grouped.groups.items x) x) (range_with_len l.at (length l.schema.nodes - l.at)))
+    ≡ least_with None (flat_map (λ x. repeated_at l.schema (g.M.RowMap.rows l.config) (in_group l.grouped.groups.items x) x) (numbers l.schema.nodes))

@@ -33,4 +33,4 @@ holds_at-requires g t c κs h =
     let some = sym c.is_top.ensures ∙ c.if-is_top.false in
     let less = c.decreases in
     let more = some_steps c.args.count c.args.path.now c.requires.counted some in
-    (omega (arith, less, more), (search rules, front_less c.args.count c.args.path.now c.in_ok-above.above c.requires.counted some c.in_ok-above.ensures))
+    (omega (arith, less, more), (search rules, (c.requires.grouped, front_less c.args.count c.args.path.now c.in_ok-above.above c.requires.counted some c.in_ok-above.ensures)))

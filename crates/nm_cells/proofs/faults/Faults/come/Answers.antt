@@ -1,6 +1,6 @@
 use Rattle.std.proofs.Common.{◌≡◌, ◌+◌, ◌≤◌, sym, ap, ◌∙◌, arith}
 use Rattle.std.proofs.lemmas.Bool.Decides.{nat_tests}
-use Rattle.nm_cells.specs.Faults.{FaultsState, due, StandsAt}
+use Rattle.nm_cells.specs.Faults.{FaultsState, due}
 use Rattle.nm_cells.proofs.Cursor.{stands_next, few_came}
 use Rattle.nm_cells.proofs.faults.Faults.come.Goals as goal
 

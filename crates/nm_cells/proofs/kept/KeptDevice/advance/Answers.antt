@@ -1,8 +1,9 @@
-use Rattle.std.proofs.Common.{◌≡◌, ◌-◌, ◌^◌, ◌≤◌, ap, refl, sym, ◌∙◌, arith, vec_capacity, length}
+use Rattle.std.proofs.Common.{◌-◌, ◌^◌, ap, refl, ◌∙◌, arith, vec_capacity}
 use Rattle.nm_history.specs.declared.event.DeviceEvent.TheVariants.{Advanced}
 use Rattle.nm_history.specs.History.{advancing, noted}
-use Rattle.nm_cells.specs.Faults.{due, counted_if}
+use Rattle.nm_cells.specs.Faults.{due}
 use Rattle.nm_cells.specs.Kept.{KeptState, beside}
+use Rattle.nm_cells.proofs.Follows.{follows_advance}
 use Rattle.nm_cells.proofs.Keeps.{kept_at, rises, is_in_time, room_left, came_left, managers_same}
 use Rattle.nm_cells.proofs.kept.KeptDevice.advance.Goals as goal
 
@@ -30,6 +31,7 @@ invariant_of-self g c =
       room_left it.history.items c.advance.new.history.items (noted event h) it.spare (2 ^ 32 - 1) longer (omega (arith, some, spare)) c.self.invariant.2,
       came_left it.history.items c.advance.new.history.items (noted event h) it.faults faults longer came c.self.invariant.3,
       managers_same it.managers.items it.history.items c.advance.new.history.items (noted event h) longer refl c.self.invariant.4,
+      follows_advance it.faults faults it.history.items c.advance.new.history.items c.args.seconds h.undone longer came (ap (λ s. due s.faults) c.self.view_is ∙ c.requires.due) c.self.invariant.5,
     )
 
 pub advance-requires-clause-in_time : goal.advance-requires-clause-in_time

@@ -1,9 +1,12 @@
-use Rattle.std.proofs.Common.{◌≡◌, ◌-◌, ◌^◌, ◌≤◌, true, ap, refl, sym, ◌∙◌, arith, vec_capacity, length}
+use Rattle.std.proofs.Common.{◌-◌, ◌^◌, ap, refl, sym, ◌∙◌, arith, vec_capacity}
 use Rattle.nm_history.specs.declared.event.DeviceEvent.TheVariants.{Asked}
 use Rattle.nm_device.specs.Table.{device_step}
 use Rattle.nm_sessions.specs.Sessions.{is_open}
 use Rattle.nm_history.specs.History.{answered, noted}
-use Rattle.nm_cells.specs.Kept.{KeptState, beside}
+use Rattle.nm_cells.specs.Kept.{KeptState, beside, is_managers}
+use Rattle.nm_cells.specs.Faults.{due}
+use Rattle.nm_cells.specs.Follows.{clock_if}
+use Rattle.nm_cells.proofs.Follows.{follows_request}
 use Rattle.nm_cells.proofs.Keeps.{kept_at, asked_happens, rests, is_in_time, room_left, counted_left, managers_same}
 use Rattle.nm_cells.proofs.kept.KeptDevice.ask.Goals as goal
 
@@ -31,6 +34,8 @@ invariant_of-self-2 g c =
       room_left it.history.items c.ask.new.history.items (noted event h) it.spare (2 ^ 32 - 1) longer (omega (arith, some, spare)) c.self.invariant.2,
       counted_left it.history.items c.ask.new.history.items (noted event h) c.args.counts it.faults faults longer counted c.self.invariant.3,
       managers_same it.managers.items it.history.items c.ask.new.history.items (noted event h) longer refl c.self.invariant.4,
+      follows_request c.args.counts it.faults faults it.history.items c.ask.new.history.items (noted event h) longer counted (c.requires.counts ∙ sym (ap (λ s. is_managers c.args.session s.recorded.history) c.self.view_is)) refl refl refl
+          (ap (λ s. clock_if c.args.counts (due s.faults)) c.self.view_is ∙ c.requires.clock) c.self.invariant.5,
     )
 
 pub ask-requires-clause-in_time : goal.ask-requires-clause-in_time

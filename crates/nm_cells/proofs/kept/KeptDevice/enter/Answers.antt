@@ -1,9 +1,12 @@
-use Rattle.std.proofs.Common.{◌≡◌, ◌-◌, ◌^◌, ◌≤◌, false, ap, refl, sym, ◌∙◌, arith, vec_capacity, length}
+use Rattle.std.proofs.Common.{◌-◌, ◌^◌, false, ap, refl, ◌∙◌, arith, vec_capacity}
 use Rattle.nm_history.specs.declared.event.DeviceEvent.TheVariants.{Entered}
 use Rattle.nm_history.specs.History.{entering, noted}
 use Rattle.std.proofs.lemmas.Option.{same_Some}
 use Rattle.nm_device.specs.Table.{opened}
 use Rattle.nm_cells.specs.Kept.{KeptState, beside, with_opened}
+use Rattle.nm_cells.specs.Faults.{due}
+use Rattle.nm_cells.specs.Follows.{clock_if}
+use Rattle.nm_cells.proofs.Follows.{follows_request}
 use Rattle.nm_cells.proofs.Keeps.{kept_entered, rests, room_left, counted_left, managers_opened}
 use Rattle.nm_cells.proofs.kept.KeptDevice.enter.Goals as goal
 
@@ -35,4 +38,5 @@ invariant_of-self-2 g c =
       counted_left it.history.items c.enter.new.history.items (noted event h) c.args.counts it.faults faults longer counted c.self.invariant.3,
       managers_opened it.managers.items c.keep_opened.new.managers.items it.history.items c.enter.new.history.items c.args.user reply false manages longer c.is_manager-is_manager.ensures
           (c.keep_opened.ensures ∙ (ap (λ t. with_opened manages t.reply c.reserve.new.self.items) (same_Some _ _ told) ∙ ap (with_opened manages reply) c.reserve.ensures.items)) c.self.invariant.4,
+      follows_request c.args.counts it.faults faults it.history.items c.enter.new.history.items (noted event h) longer counted c.requires.counts refl refl refl (ap (λ s. clock_if c.args.counts (due s.faults)) c.self.view_is ∙ c.requires.clock) c.self.invariant.5,
     )

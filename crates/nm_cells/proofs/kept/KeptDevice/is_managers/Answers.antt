@@ -1,4 +1,4 @@
-use Rattle.std.proofs.Common.{◌≡◌, ◌==◌, ap, ◌∙◌}
+use Rattle.std.proofs.Common.{◌==◌, ap, ◌∙◌}
 use Rattle.std.specs.List.{list_any}
 use Rattle.nm_cells.specs.Kept.{is_managers}
 use Rattle.nm_cells.proofs.kept.KeptDevice.is_managers.Goals as goal

@@ -1,8 +1,11 @@
-use Rattle.std.proofs.Common.{◌≡◌, ◌-◌, ◌^◌, ◌≤◌, true, ap, refl, sym, ◌∙◌, arith, vec_capacity, length}
+use Rattle.std.proofs.Common.{◌-◌, ◌^◌, ap, refl, sym, ◌∙◌, arith, vec_capacity}
 use Rattle.nm_history.specs.declared.event.DeviceEvent.TheVariants.{Lost}
 use Rattle.nm_sessions.specs.Sessions.{is_open}
 use Rattle.nm_history.specs.History.{losing, noted}
-use Rattle.nm_cells.specs.Kept.{KeptState, beside}
+use Rattle.nm_cells.specs.Kept.{KeptState, beside, is_managers}
+use Rattle.nm_cells.specs.Faults.{due}
+use Rattle.nm_cells.specs.Follows.{clock_if, plans_breaks}
+use Rattle.nm_cells.proofs.Follows.{follows_break}
 use Rattle.nm_cells.proofs.Keeps.{kept_at, lost_happens, rests, room_left, counted_left, managers_same}
 use Rattle.nm_cells.proofs.kept.KeptDevice.lose.Goals as goal
 
@@ -30,4 +33,7 @@ invariant_of-self g c =
       room_left it.history.items c.lose.new.history.items (noted event h) it.spare (2 ^ 32 - 1) longer (omega (arith, some, spare)) c.self.invariant.2,
       counted_left it.history.items c.lose.new.history.items (noted event h) c.args.counts it.faults faults longer counted c.self.invariant.3,
       managers_same it.managers.items it.history.items c.lose.new.history.items (noted event h) longer refl c.self.invariant.4,
+      follows_break c.args.counts it.faults faults it.history.items c.lose.new.history.items (noted event h) longer counted refl refl
+          (λ e. ap (λ s. plans_breaks s.faults.plan) c.self.view_is ∙ c.requires.breaks (sym (ap (λ s. is_managers c.args.session s.recorded.history) c.self.view_is) ∙ e))
+          (sym (ap (λ s. clock_if c.args.counts (due s.faults)) c.self.view_is ∙ c.requires.clock)) c.self.invariant.5,
     )
