@@ -2,9 +2,9 @@
 use Rattle.std.proofs.Common.{Option, Some, None, is_some, ◌≡◌, ◌≢◌, ℕ, zero, suc, ◌+◌, ◌<◌, ◌≤◌, ◌==◌, Bool, true, false, List, [], ◌∷◌, refl, sym, ap, ◌∙◌, subst, slice_get, slice_index_or, length, arith, if◌then◌else◌}
 use Rattle.std.proofs.lemmas.Bool.Decides.{nat_tests}
 use Rattle.std.proofs.lemmas.Option.{same_Some, slice_get_read, slice_get_past}
-use Rattle.nm_plan.specs.declared.fault.PlanEntry.{PlanEntry}
-use Rattle.nm_plan.specs.declared.fault.PlanFault.{PlanFault}
-use Rattle.nm_plan.specs.Fault.{Ascend}
+use Rattle.nm_proto.specs.declared.fault.PlanEntry.{PlanEntry}
+use Rattle.nm_proto.specs.declared.fault.PlanFault.{PlanFault}
+use Rattle.nm_proto.specs.Fault.{Ascend}
 use Rattle.nm_cells.specs.Faults.{FaultsState, fault_at, due, StandsAt}
 
 apart : (n m : ℕ) → n ≢ m → (n == m) ≡ false

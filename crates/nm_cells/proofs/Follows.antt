@@ -11,10 +11,10 @@ use Rattle.std.proofs.lemmas.Option.{same_Some}
 use Rattle.nm_history.specs.declared.event.DeviceEvent.{DeviceEvent}
 use Rattle.nm_history.specs.declared.event.DeviceEvent.TheVariants.{Advanced}
 use Rattle.nm_history.specs.declared.event.Noted.{Noted}
-use Rattle.nm_plan.specs.declared.fault.PlanEntry.{PlanEntry}
-use Rattle.nm_plan.specs.declared.fault.PlanFault.{PlanFault}
-use Rattle.nm_plan.specs.declared.fault.PlanFault.TheVariants.{Advance}
-use Rattle.nm_plan.specs.Fault.{Ascend, IsPlan}
+use Rattle.nm_proto.specs.declared.fault.PlanEntry.{PlanEntry}
+use Rattle.nm_proto.specs.declared.fault.PlanFault.{PlanFault}
+use Rattle.nm_proto.specs.declared.fault.PlanFault.TheVariants.{Advance}
+use Rattle.nm_proto.specs.Fault.{Ascend, IsPlan}
 use Rattle.nm_cells.specs.Faults.{FaultsState, fault_at, due, come, one_more, counted_if, planned, StandsAt}
 use Rattle.nm_cells.specs.Follows.{count_along, is_asked_for_manager, is_break, breaks_manager, requests, breaks_in, clock_of_entry, clock_of_fault, clock_of_planned, clock_of_due, clock_if, FollowsPlan, Follows, IsPlaced, is_breaking, plans_breaks}
 use Rattle.nm_cells.specs.Kept.{opens, enters_as_manager, opens_for_manager, is_managers}

@@ -13,8 +13,8 @@ use Rattle.nm_history.specs.declared.event.DeviceEvent.{DeviceEvent}
 use Rattle.nm_history.specs.declared.event.DeviceEvent.TheVariants.{Entered, Asked, Lost, Restarted}
 use Rattle.nm_history.specs.declared.event.Noted.{Noted}
 use Rattle.nm_history.specs.History.{Happened, noted, entering, losing, restarting}
-use Rattle.nm_plan.specs.declared.fault.PlanFault.{PlanFault}
-use Rattle.nm_plan.specs.declared.fault.PlanFault.TheVariants.{Drop, Cut, Restart, Advance}
+use Rattle.nm_proto.specs.declared.fault.PlanFault.{PlanFault}
+use Rattle.nm_proto.specs.declared.fault.PlanFault.TheVariants.{Drop, Cut, Restart, Advance}
 use Rattle.nm_cells.specs.declared.asked.Asked.{Asked as Told}
 use Rattle.nm_cells.specs.declared.asked.Asked.TheVariants.{Answered, Broken}
 use Rattle.nm_cells.specs.declared.pass.PassOwner.{PassOwner}

@@ -1,9 +1,9 @@
 -- The faults of a device along the manager's requests (this project's own). The code keeps a place in the plan; here each
 -- fault is looked up by the request that it names.
 use Rattle.std.specs.Prelude.{◌≤◌, ℕ, ◌+◌, ◌==◌, zero, suc, Bool, true, false, List, [], ◌∷◌, Option, Some, None, is_some, if◌then◌else◌}
-use Rattle.nm_plan.specs.declared.fault.PlanEntry.{PlanEntry}
-use Rattle.nm_plan.specs.declared.fault.PlanFault.{PlanFault}
-use Rattle.nm_plan.specs.Fault.{Ascend}
+use Rattle.nm_proto.specs.declared.fault.PlanEntry.{PlanEntry}
+use Rattle.nm_proto.specs.declared.fault.PlanFault.{PlanFault}
+use Rattle.nm_proto.specs.Fault.{Ascend}
 
 -- the whole plan, how many of its faults came, how many requests were counted, and the last request whose fault came: that
 -- of the next request may have come already

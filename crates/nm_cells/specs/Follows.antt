@@ -7,9 +7,9 @@ use Rattle.nm_base.specs.Words.{manager}
 use Rattle.nm_history.specs.declared.event.DeviceEvent.{DeviceEvent}
 use Rattle.nm_history.specs.declared.event.DeviceEvent.TheVariants.{Entered, Asked, Lost, Advanced, Restarted}
 use Rattle.nm_history.specs.declared.event.Noted.{Noted}
-use Rattle.nm_plan.specs.declared.fault.PlanEntry.{PlanEntry}
-use Rattle.nm_plan.specs.declared.fault.PlanFault.{PlanFault}
-use Rattle.nm_plan.specs.declared.fault.PlanFault.TheVariants.{Drop, Cut, Restart, Advance}
+use Rattle.nm_proto.specs.declared.fault.PlanEntry.{PlanEntry}
+use Rattle.nm_proto.specs.declared.fault.PlanFault.{PlanFault}
+use Rattle.nm_proto.specs.declared.fault.PlanFault.TheVariants.{Drop, Cut, Restart, Advance}
 use Rattle.nm_cells.specs.Faults.{FaultsState, StandsAt}
 use Rattle.nm_cells.specs.Kept.{is_managers}
 

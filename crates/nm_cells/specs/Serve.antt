@@ -13,8 +13,8 @@ use Rattle.nm_device.specs.Table.{device_step, opening_user}
 use Rattle.nm_history.specs.declared.event.DeviceEvent.{DeviceEvent}
 use Rattle.nm_history.specs.declared.event.DeviceEvent.TheVariants.{Entered, Asked, Lost, Advanced, Restarted}
 use Rattle.nm_history.specs.History.{Happened, noted, entering, answered, losing, advancing, restarting, recorded_with}
-use Rattle.nm_plan.specs.declared.fault.PlanFault.{PlanFault}
-use Rattle.nm_plan.specs.declared.fault.PlanFault.TheVariants.{Drop, Cut, Restart, Advance}
+use Rattle.nm_proto.specs.declared.fault.PlanFault.{PlanFault}
+use Rattle.nm_proto.specs.declared.fault.PlanFault.TheVariants.{Drop, Cut, Restart, Advance}
 use Rattle.nm_cells.specs.declared.asked.Asked.{Asked as Told}
 use Rattle.nm_cells.specs.declared.asked.Asked.TheVariants.{Answered, Broken}
 use Rattle.nm_cells.specs.declared.pass.PassOwner.{PassOwner}

@@ -1,10 +1,10 @@
 //! The faults that are planned for a device, counted along the manager's requests.
 
 ghost use Rattle.std.specs.Prelude.{◌≡◌, ◌≤◌, ◌+◌, ◌<◌, ◌^◌, is_some, if◌then◌else◌};
-ghost use Rattle.nm_plan.specs.Fault.{IsPlan};
+ghost use Rattle.nm_proto.specs.Fault.{IsPlan};
 ghost use Rattle.nm_cells.specs.Faults.{due, planned, come, one_more, counted_if};
 
-use nm_plan::{PlanEntry, PlanFault};
+use nm_proto::{PlanEntry, PlanFault};
 use std::marker::Model;
 
 /// The faults that are planned for a device, and how many requests of the manager were counted there.

@@ -4,7 +4,7 @@ ghost use Rattle.std.specs.Prelude.{◌≡◌, ℕ, ◌==◌, ◌≤◌, ◌<◌
 ghost use Rattle.std.specs.List.{All, list_any};
 ghost use Rattle.std.specs.Str.{bytes_eq};
 ghost use Rattle.nm_base.specs.Words.{manager};
-ghost use Rattle.nm_plan.specs.Fault.{IsPlan};
+ghost use Rattle.nm_proto.specs.Fault.{IsPlan};
 ghost use Rattle.nm_cells.specs.Kept.{with_opened};
 ghost use Rattle.nm_cells.specs.Serve.{advance_of};
 ghost use Rattle.nm_cells.specs.Asking.{has_plain_tag};
@@ -15,8 +15,8 @@ use crate::faults::Faults;
 use nm_base::{DeviceNo, Label, MANAGER, NoMemory, SessionId};
 use nm_device::Device;
 use nm_history::{DeviceEvent, Noted, Told};
-use nm_plan::{PlanEntry, PlanFault, RunName};
-use nm_proto::{Content, Reply, Request, Tables};
+use nm_plan::RunName;
+use nm_proto::{Content, PlanEntry, PlanFault, Reply, Request, Tables};
 use std::alloc::Global;
 use std::marker::{Model, PhantomData};
 
@@ -205,7 +205,7 @@ impl<C: Content, N: RunName<C, C::Config, C::Edit>> KeptDevice<C, N> {
     ghost use Rattle.nm_sessions.specs.Sessions.{is_open};
     ghost use Rattle.nm_device.specs.Table.{device_step, is_opening};
     ghost use Rattle.nm_history.specs.History.{entering, answered, losing, advancing, restarting, recorded_with, Happened};
-    ghost use Rattle.nm_plan.specs.declared.fault.PlanFault.{PlanFault};
+    ghost use Rattle.nm_proto.specs.declared.fault.PlanFault.{PlanFault};
     ghost use Rattle.nm_cells.specs.Faults.{due, come};
     ghost use Rattle.nm_cells.specs.Kept.{kept_with, with_faults, is_managers, Tells, Marks};
 

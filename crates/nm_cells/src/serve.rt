@@ -20,8 +20,8 @@ use crate::kept::KeptDevice;
 use crate::pass::{Pass, PassEntry, PassOwner};
 use nm_base::{DeviceNo, Label, MANAGER, NoMemory, SessionId};
 use nm_history::{DeviceEvent, Noted, Told};
-use nm_plan::{PlanFault, RunName};
-use nm_proto::{Content, Reply, Request, Tables};
+use nm_plan::RunName;
+use nm_proto::{Content, PlanFault, Reply, Request, Tables};
 
 // A request that was done: the place of its entry, and its reply.
 #[derive(Drop)]
@@ -141,7 +141,7 @@ impl<C: Content, N: RunName<C, C::Config, C::Edit>> KeptDevice<C, N> {
 impl<C: Content, N: RunName<C, C::Config, C::Edit>> KeptDevice<C, N> {
     ghost use Rattle.nm_sessions.specs.Sessions.{is_open};
     ghost use Rattle.nm_history.specs.History.{losing};
-    ghost use Rattle.nm_plan.specs.declared.fault.PlanFault.{PlanFault};
+    ghost use Rattle.nm_proto.specs.declared.fault.PlanFault.{PlanFault};
     ghost use Rattle.nm_cells.specs.Faults.{due};
 
     // A request of the manager, by the fault that comes with it.
@@ -331,7 +331,7 @@ impl<C: Content, N: RunName<C, C::Config, C::Edit>> KeptDevice<C, N> {
 // Openings of sessions, and restarts.
 impl<C: Content, N: RunName<C, C::Config, C::Edit>> KeptDevice<C, N> {
     ghost use Rattle.nm_history.specs.History.{entering, restarting};
-    ghost use Rattle.nm_plan.specs.declared.fault.PlanFault.{PlanFault};
+    ghost use Rattle.nm_proto.specs.declared.fault.PlanFault.{PlanFault};
     ghost use Rattle.nm_cells.specs.Faults.{due};
 
     // Somebody asks for a session.

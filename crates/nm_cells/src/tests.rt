@@ -1,6 +1,6 @@
 ghost use Rattle.std.specs.Prelude.{◌≡◌, ◌≤◌, ◌+◌, Some, IfOk, ◌∷◌, [], length};
 ghost use Rattle.std.specs.List.{All};
-ghost use Rattle.nm_plan.specs.Fault.{IsPlan};
+ghost use Rattle.nm_proto.specs.Fault.{IsPlan};
 ghost use Rattle.nm_proto.specs.FlatContent.{flat_meaning};
 
 use super::*;
@@ -8,10 +8,10 @@ use nm_base::{ChangeNo, DeviceNo, EditNo, Label, SessionId};
 use nm_chronicle::{Chronicle, Shares, SlotShares};
 use nm_device::Device;
 use nm_history::{DeviceEvent, Noted};
-use nm_plan::{PlanEntry, PlanFault, RunName, RunPlans};
+use nm_plan::{RunName, RunPlans};
 use nm_proto::{
     ChangePlan, Content, DefaultOperation, FlatConfig, FlatContent, FlatEdit, Listed, NumberMap,
-    PlannedEdit, Reply, Request, Store, Tables,
+    PlanEntry, PlanFault, PlannedEdit, Reply, Request, Store, Tables,
 };
 use std::alloc::Global;
 use std::marker::Brand;

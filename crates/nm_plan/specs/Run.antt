@@ -1,7 +1,7 @@
 -- A run as a plain value (this project's own).
 use Rattle.std.specs.Prelude.{ℕ, List, [], Option, None}
 use Rattle.nm_proto.specs.Content.{TablesState}
-use Rattle.nm_plan.specs.declared.fault.PlanEntry.{PlanEntry}
+use Rattle.nm_proto.specs.declared.fault.PlanEntry.{PlanEntry}
 
 -- the content, what requests name by number, what each device runs at the beginning, the faults that are planned for
 -- each, and the disk's count of faults at the opening

@@ -1,13 +1,9 @@
-//! The name of a run, which all that its threads share is of, and the faults that are planned for its devices.
+//! The name of a run, which all that its threads share is of.
 //!
 //! Stands on `nm_proto`. The layers above rely on one run being named by one type, so that what is kept behind different
 //! locks is said of the same content, tables, devices and change sets.
 #![tactic(auto)]
 
-pub mod fault;
 pub mod name;
-#[cfg(test)]
-mod tests;
 
-pub use fault::{PLAN_LIMIT, PlanEntry, PlanFault};
 pub use name::{RunName, RunPlans};

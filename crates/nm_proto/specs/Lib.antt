@@ -6,3 +6,4 @@ pub mod Sameness
 pub mod NumberMap
 pub mod Flat
 pub mod FlatContent
+pub mod Fault

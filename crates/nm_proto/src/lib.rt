@@ -1,5 +1,5 @@
-//! What managers and devices say to each other, what a journal and a plan hold, what a content is, and the flat
-//! contents.
+//! What managers and devices say to each other, what a journal and a plan hold, what is planned to go wrong, what a
+//! content is, and the flat contents.
 //!
 //! Stands on `nm_base`. The layers above rely on copies and comparisons of messages as equations, on
 //! `Content` with its meaning and its laws, and on flat configurations as finite maps.
@@ -7,6 +7,7 @@
 
 pub mod ask;
 pub mod content;
+pub mod fault;
 pub mod flat;
 pub mod journal;
 pub mod kind;
@@ -20,6 +21,7 @@ mod tests;
 
 pub use ask::Ask;
 pub use content::{ApplyFault, CheckFault, Content, FindFault, Show, Tables};
+pub use fault::{PLAN_LIMIT, PlanEntry, PlanFault};
 pub use flat::{FlatConfig, FlatContent, FlatEdit, FlatNode};
 pub use journal::{AbortCause, Entry, Verdict};
 pub use kind::ScenarioKind;

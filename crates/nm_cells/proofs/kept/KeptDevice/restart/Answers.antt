@@ -2,7 +2,7 @@ use Rattle.std.proofs.Common.{◌-◌, ◌^◌, true, ap, refl, sym, ◌∙◌, 
 use Rattle.nm_history.specs.declared.event.DeviceEvent.TheVariants.{Restarted}
 use Rattle.nm_history.specs.History.{restarting, noted}
 use Rattle.nm_cells.specs.Kept.{KeptState, beside}
-use Rattle.nm_plan.specs.declared.fault.PlanFault.TheVariants.{Restart}
+use Rattle.nm_proto.specs.declared.fault.PlanFault.TheVariants.{Restart}
 use Rattle.nm_cells.specs.Faults.{due}
 use Rattle.nm_cells.specs.Follows.{clock_of_due}
 use Rattle.nm_cells.proofs.Follows.{follows_break, due_breaks}

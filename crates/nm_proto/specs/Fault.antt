@@ -1,7 +1,7 @@
 -- The faults that are planned for a device (this project's own).
 use Rattle.std.specs.Prelude.{◌≤◌, ◌<◌, ℕ, List, [], ◌∷◌, length}
 use Rattle.std.specs.List.{All}
-use Rattle.nm_plan.specs.declared.fault.PlanEntry.{PlanEntry}
+use Rattle.nm_proto.specs.declared.fault.PlanEntry.{PlanEntry}
 
 -- the faults ascend strictly by the requests at which they come, each above this number
 abbrev pub Ascend : ℕ → List PlanEntry → Type 0
