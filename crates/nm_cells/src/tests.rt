@@ -60,6 +60,10 @@ fn lock_running() -> Request {
     }
 }
 
+fn discard() -> Request {
+    Request::Discard
+}
+
 fn open(alloc: Global, user: &str) -> Result<Request, Fail> {
     Ok(Request::OpenSession {
         user: Label::new(alloc, user)?,
@@ -341,9 +345,10 @@ fn drop_story<N: RunName<FlatContent, FlatConfig, FlatEdit>, R: Wait>(
     let locked = cell.serve(
         rt, number, content, tables, &chronicle, &mut pass, ours, &ask,
     )?;
-    let ask = Request::Discard;
+    let ask = discard();
+    let still = Some(session);
     let discarded = cell.serve(
-        rt, number, content, tables, &chronicle, &mut pass, ours, &ask,
+        rt, number, content, tables, &chronicle, &mut pass, still, &ask,
     )?;
     let lost = match cell.history().last() {
         Some(entry) => entry.event.same(&DeviceEvent::Lost { session }),
