@@ -1,0 +1,10 @@
+pub mod Trail
+pub mod Wires
+pub mod Slots
+pub mod Refusals
+pub mod Stays
+pub mod Managed
+pub mod Noted
+pub mod Devices
+pub mod Deliver
+pub mod Runs
