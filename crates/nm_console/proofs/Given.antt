@@ -11,7 +11,7 @@ use Rattle.nm_events.specs.declared.arguments.Counts.{Counts}
 use Rattle.nm_events.specs.Kept.{EventKeeps, weight}
 use Rattle.nm_manager.specs.Requests.{IsWellFormed, ascend_above}
 use Rattle.nm_network.specs.Runs.{IsNumbered}
-use Rattle.nm_network.specs.Drain.{drain_limit}
+use Rattle.nm_network.specs.Drain.{drain_event, drain_limit}
 use Rattle.nm_network.specs.World.{IsFirst, Setting, start}
 use Rattle.nm_proto.specs.declared.message.Request.{Request}
 use Rattle.nm_proto.specs.declared.message.Request.TheVariants.{OpenSession, Lock, Unlock, PartialLock, PartialUnlock, Edit, Validate, Commit, CancelCommit, Discard, HasMark, GetConfig, Kill, CloseSession}
@@ -36,6 +36,19 @@ use Rattle.nm_safety.specs.Safe as safe
 use Rattle.nm_safety.proofs.Drained.{drained_safe}
 use Rattle.nm_safety.proofs.Safely.{run_is_safe}
 use Rattle.nm_safety.proofs.Tells.{safe_tells}
+use Rattle.nm_bringing.specs.Brings.{BringsAlone}
+use Rattle.nm_bringing.proofs.Alone.{run_brings}
+use Rattle.nm_bringing.proofs.Drained.{drained_brings}
+use Rattle.nm_leaving.specs.Leaves.{LeavesAlone}
+use Rattle.nm_leaving.proofs.Alone.{run_leaves}
+use Rattle.nm_leaving.proofs.Drained.{drained_leaves}
+use Rattle.nm_causes.specs.Causes.{HaveCauses}
+use Rattle.nm_causes.proofs.Runs.{run_has_causes, drained_has_causes}
+use Rattle.nm_calm.specs.Calm.{IsCalm, IsCommitted}
+use Rattle.nm_calm.proofs.Rests.{calm_commits}
+use Rattle.nm_ending.specs.Rest.{HasDevices, IsWithin}
+use Rattle.nm_ending.proofs.Limit.{run_ends}
+use Rattle.nm_console.proofs.Rests.{few_elementary, has_devices}
 use Rattle.nm_console.specs.Console.{CanRun, IsSafeRun, led_to, setting_of, world_of}
 
 -- ---- devices and change sets
@@ -177,7 +190,7 @@ strangers : (users : List (List ℕ)) (number : ℕ) → All UserKeeps users →
 strangers users number h = got (λ user. is_manager (Some user) ≡ false) users number (λ k d less. stranger (get_or users k d) (h k d less))
 
 module _ {Config TheEdit Node : Type 0} (m : Meaning Config TheEdit Node) (laws : Laws m) (s : Scenario) (devices : List Config) (edits : List TheEdit) (can : CanRun m (setting_of edits s) devices s.events)
-    (keeps : ScenarioKeeps s) where
+    (count : devices_in s.body ≡ length devices) (keeps : ScenarioKeeps s) where
   proper : IsProper m (setting_of edits s) devices s.events
   proper = record {
     first = λ place. got (IsFirst m) devices place can.first;
@@ -195,9 +208,48 @@ module _ {Config TheEdit Node : Type 0} (m : Meaning Config TheEdit Node) (laws 
   world_safe : IsSafe m (setting_of edits s) devices s.events (world_of m devices edits s)
   world_safe = safe_if s.drain
 
-  -- the run of a scenario that a world can run is safe
+  brings_if : (drain : Bool) → BringsAlone m (setting_of edits s) devices (led_to m (setting_of edits s) s.events drain (start (setting_of edits s) devices))
+  brings_if false = run_brings m laws (setting_of edits s) devices s.events proper
+  brings_if true = drained_brings m laws (setting_of edits s) devices s.events drain_limit proper
+
+  leaves_if : (drain : Bool) → LeavesAlone m (setting_of edits s) devices (led_to m (setting_of edits s) s.events drain (start (setting_of edits s) devices))
+  leaves_if false = run_leaves m laws (setting_of edits s) devices s.events proper
+  leaves_if true = drained_leaves m laws (setting_of edits s) devices s.events drain_limit proper
+
+  causes_if : (drain : Bool) → HaveCauses (led_to m (setting_of edits s) s.events drain (start (setting_of edits s) devices))
+  causes_if false = run_has_causes m laws (setting_of edits s) devices s.events proper
+  causes_if true = drained_has_causes m laws (setting_of edits s) devices s.events proper drain_limit
+
+  plans_there : HasDevices (setting_of edits s) (length devices)
+  plans_there place = got (λ plan. All (IsWithin (length devices)) plan.edits) s.changes place
+      (λ k d less. subst (λ n. All (IsWithin n) (get_or s.changes k d).edits) count (has_devices (devices_in s.body) (get_or s.changes k d) (keeps.changes k d less)))
+
+  rests_if : (drain : Bool) → drain ≡ true → drain_event (setting_of edits s) (led_to m (setting_of edits s) s.events drain (start (setting_of edits s) devices)) ≡ None
+  rests_if false is = absurd cc
+  rests_if true is = (run_ends m laws (setting_of edits s) devices s.events proper plans_there (few_elementary s.events 100000 keeps.event_count)).left_at_rest
+
+  -- what a calm run comes to, where a world began with these events
+  abbrev Commits : ChangePlan → Bool → List Event → Type 0
+  Commits plan drain all =
+      drain_event (setting_of edits s) (led_to m (setting_of edits s) all drain (start (setting_of edits s) devices)) ≡ None
+      → IsCommitted m (setting_of edits s) devices plan (led_to m (setting_of edits s) all drain (start (setting_of edits s) devices))
+
+  calm_if : (plan : ChangePlan) → IsCalm m (setting_of edits s) devices plan → (all : List Event) → all ≡ Submit 1 ∷ [] → (drain : Bool) → drain ≡ true → Commits plan drain all
+  calm_if plan calm all is false drained = absurd cc
+  calm_if plan calm all is true drained = subst (Commits plan true) (sym is) (calm_commits m (setting_of edits s) devices plan calm drain_limit)
+
+  -- the run of a scenario that a world can run is safe, and comes to rest where it is to
   pub safe_run : IsSafeRun m devices edits s
-  safe_run = record { valid = can.first; safe = world_safe; reports = safe_tells m (setting_of edits s) devices s.events (world_of m devices edits s) world_safe }
+  safe_run = record {
+    valid = can.first;
+    safe = world_safe;
+    reports = safe_tells m (setting_of edits s) devices s.events (world_of m devices edits s) world_safe;
+    brings = brings_if s.drain;
+    leaves = leaves_if s.drain;
+    causes = causes_if s.drain;
+    rests = rests_if s.drain;
+    calm = λ plan calm is drained. calm_if plan calm s.events is s.drain drained (rests_if s.drain drained);
+  }
 
 -- ---- the contents
 
@@ -210,7 +262,7 @@ module _ (s : Scenario) (devices : List FlatState) (edits : List FlatEdit) (is :
   flat_runs = runs flat_meaning s devices edits (λ k d less. record { belongs = tt; valid = (states k d less).valid }) (λ k d less. tt) (ap devices_in is) keeps
 
   pub flat_safe : IsSafeRun flat_meaning devices edits s
-  flat_safe = safe_run flat_meaning flat_laws s devices edits flat_runs keeps
+  flat_safe = safe_run flat_meaning flat_laws s devices edits flat_runs (ap devices_in is) keeps
 
 module _ (s : Scenario) (modules : List (List ℕ)) (tree : SchemaTree) (devices : List Rows) (edits : List (List EditNode)) (is : s.body ≡ Yang modules tree devices edits) (keeps : ScenarioKeeps s) where
   kept : DataAreKept modules tree devices edits
@@ -224,4 +276,4 @@ module _ (s : Scenario) (modules : List (List ℕ)) (tree : SchemaTree) (devices
       kept.edited (ap devices_in is) keeps
 
   pub yang_safe : IsSafeRun (yang_meaning tree) devices edits s
-  yang_safe = safe_run (yang_meaning tree) (yang_laws tree) s devices edits yang_runs keeps
+  yang_safe = safe_run (yang_meaning tree) (yang_laws tree) s devices edits yang_runs (ap devices_in is) keeps

@@ -4,7 +4,9 @@ use Rattle.std.specs.List.{All}
 use Rattle.std.specs.Io.KnownBytes.{append_known}
 use Rattle.nm_io.specs.Bytes.{Begins}
 use Rattle.nm_proto.specs.Content.{Meaning, TablesState}
+use Rattle.nm_proto.specs.declared.plan.ChangePlan.{ChangePlan}
 use Rattle.nm_proto.specs.declared.plan.Event.{Event}
+use Rattle.nm_proto.specs.declared.plan.Event.TheVariants.{Submit}
 use Rattle.nm_proto.specs.Flat.{flat_text}
 use Rattle.nm_proto.specs.FlatContent.{flat_meaning}
 use Rattle.nm_proto.specs.declared.flat.FlatNode.{FlatNode}
@@ -19,9 +21,13 @@ use Rattle.nm_refusals.specs.Told.{ToldOfBytes}
 use Rattle.nm_refusals.specs.Kept.{ScenarioKeeps}
 use Rattle.nm_manager.specs.Requests.{IsWellFormed}
 use Rattle.nm_network.specs.World.{AreCalm, IsFirst, Setting, WorldState, run, start}
-use Rattle.nm_network.specs.Drain.{drain_limit, drained}
+use Rattle.nm_network.specs.Drain.{drain_event, drain_limit, drained}
 use Rattle.nm_network.specs.Runs.{IsBetween, IsNumbered}
 use Rattle.nm_safety.specs.Safe.{IsSafe}
+use Rattle.nm_bringing.specs.Brings.{BringsAlone}
+use Rattle.nm_leaving.specs.Leaves.{LeavesAlone}
+use Rattle.nm_causes.specs.Causes.{HaveCauses}
+use Rattle.nm_calm.specs.Calm.{IsCalm, IsCommitted}
 use Rattle.nm_safety.specs.Reported.{TellsAll}
 use Rattle.nm_report.specs.Text.{world_text}
 use Rattle.nm_report.specs.Check.{check_text}
@@ -282,12 +288,22 @@ abbrev pub TellsUnopened : JournalFault → Status → List ℕ → Type 0
 TellsUnopened (NotEmpty size) status text = Tells (not_empty size) status text
 TellsUnopened _ status text = ⊥
 
--- the world that a scenario of these devices and edits leads to is safe, its devices begin with valid configurations, and what is
--- reported of it is so: all of a change set or none, but for the devices that are told to differ
+-- the world that a scenario of these devices and edits leads to is safe, its devices begin with valid configurations, what is
+-- reported of it is so (all of a change set or none, but for the devices that are told to differ), and what is brought to rest is there
 pub record IsSafeRun {Config TheEdit Node : Type 0} (m : Meaning Config TheEdit Node) (devices : List Config) (edits : List TheEdit) (s : Scenario) : Type 0 where
   pub valid : All (IsFirst m) devices
   pub safe : IsSafe m (setting_of edits s) devices s.events (world_of m devices edits s)
   pub reports : TellsAll (setting_of edits s) (world_of m devices edits s)
+  -- each commit of a change set brings its own edit alone, the manager's others leave running as it was, and each abort in the journal
+  -- has the cause that it names
+  pub brings : BringsAlone m (setting_of edits s) devices (world_of m devices edits s)
+  pub leaves : LeavesAlone m (setting_of edits s) devices (world_of m devices edits s)
+  pub causes : HaveCauses (world_of m devices edits s)
+  -- a run that is to be brought to rest is at rest
+  pub rests : s.drain ≡ true → drain_event (setting_of edits s) (world_of m devices edits s) ≡ None
+  -- one that is calm, whose one change set is submitted and brought to rest, commits it everywhere
+  pub calm : (plan : ChangePlan) → IsCalm m (setting_of edits s) devices plan → s.events ≡ Submit 1 ∷ [] → s.drain ≡ true
+      → IsCommitted m (setting_of edits s) devices plan (world_of m devices edits s)
 
 -- the same by the contents
 abbrev pub RunsSafelyBy : Body → Scenario → Type 0
