@@ -6,6 +6,8 @@
 #![tactic(auto)]
 
 pub mod phases;
+#[cfg(test)]
+mod tests;
 pub mod token;
 pub mod waiting;
 
