@@ -1,6 +1,6 @@
 -- How far each change set has come at a device, as the board tells it (this project's own, over RFC 6241 section 8.4). The
 -- code goes along the history and keeps a byte for each; what a phase means is read from the whole history.
-use Rattle.std.specs.Prelude.{◌≡◌, ◌≤◌, ℕ, ◌-◌, ◌==◌, ◌&&◌, nat_le, Bool, true, false, List, length, drop, replicate, slice_index_or, slice_set, Option, Some, None, if◌then◌else◌}
+use Rattle.std.specs.Prelude.{◌≡◌, ◌≤◌, ℕ, ◌-◌, ◌==◌, ◌&&◌, nat_le, Bool, true, false, List, [], ◌∷◌, length, drop, replicate, slice_index_or, slice_set, Option, Some, None, if◌then◌else◌}
 use Rattle.std.specs.List.{sum_by}
 use Rattle.nm_base.specs.Decimal.{number_of}
 use Rattle.nm_base.specs.Token.{token_of, is_reserved}
@@ -9,7 +9,7 @@ use Rattle.nm_history.specs.declared.outcome.Outcome.{Outcome}
 use Rattle.nm_history.specs.declared.outcome.Outcome.TheVariants.{Never, Pending, Confirmed, Undone}
 use Rattle.nm_history.specs.declared.outcome.Undoing.{Undoing}
 use Rattle.nm_history.specs.declared.outcome.Undoing.TheVariants.{Cancel, End, Timer, Restart}
-use Rattle.nm_history.specs.Effect.{Effect}
+use Rattle.nm_history.specs.Effect.{Effect, noted_effect}
 use Rattle.nm_history.specs.Effect.Effect.{Begins, Ends, Undoes, Neither}
 use Rattle.nm_history.specs.Outcome.{Standing, standing_from, is_pending}
 use Rattle.nm_chronicle.specs.declared.mark.Mark.{Mark}
@@ -174,6 +174,23 @@ called board (Some it) = noted board it.change it.mark
 pub record Goes (old new : PhasesState) (board after : ChronicleState) (device : ℕ) (effect : Effect) : Type 0 where
   pub phases_are : new ≡ went old effect
   pub board_is : after ≡ called board (call_of old device effect)
+
+-- ---- entries more, oldest first
+
+abbrev pub went_along : PhasesState → List Noted → PhasesState
+went_along s [] = s
+went_along s (entry ∷ later) = went_along (went s (noted_effect entry)) later
+
+-- the board after their calls
+abbrev pub called_along : PhasesState → ChronicleState → ℕ → List Noted → ChronicleState
+called_along s board device [] = board
+called_along s board device (entry ∷ later) =
+    called_along (went s (noted_effect entry)) (called board (call_of s device (noted_effect entry))) device later
+
+-- what going along entries keeps of the phases and the board
+pub record GoesAlong (old new : PhasesState) (board after : ChronicleState) (device : ℕ) (entries : List Noted) : Type 0 where
+  pub phases_are : new ≡ went_along old entries
+  pub board_is : after ≡ called_along old board device entries
 
 -- ---- what is true of all phases at a device
 

@@ -4,9 +4,11 @@ ghost use Rattle.std.specs.Prelude.{◌≡◌, ◌≤◌, ◌<◌, ◌+◌, ◌+
 ghost use Rattle.nm_history.specs.Effect.{noted_effect, effect_of, effect_if, effect_of_commit, is_done_reply};
 ghost use Rattle.nm_history.specs.Effect.Effect.{Begins, Ends, Undoes};
 ghost use Rattle.std.specs.List.{sum_by};
+ghost use Rattle.nm_base.specs.Token.{token_of};
+ghost use Rattle.nm_history.specs.Outcome.{outcome_of};
 ghost use Rattle.nm_chronicle.specs.Line.{phase_weight};
 ghost use Rattle.nm_chronicle.specs.Board.{noted};
-ghost use Rattle.nm_phases.specs.Phases.{Follow, Goes, fresh_phases, phase_at, begun_by, begun_by_call, called, come_to, finished_effect, finished_phase, finished_mark};
+ghost use Rattle.nm_phases.specs.Phases.{Follow, Goes, GoesAlong, fresh_phases, phase_at, begun_by, begun_by_call, called, come_to, outcome_phase, finished_effect, finished_phase, finished_mark};
 
 use crate::token::named_by;
 use crate::waiting::Waiting;
@@ -52,9 +54,10 @@ impl<N: RunPlans> Phases<N> {
     }
 
     /// The phase of a change set: 0 none, 1 applied, 2 confirmed, 3 undone by a timer, the end of a session or a restart,
-    /// 4 cancelled. It takes no memory.
+    /// 4 cancelled. It is that of the change set's outcome by the history that the phases follow. It takes no memory.
     pub fn phase(&self, change: ChangeNo) -> u8
-        ensures { result ≡ phase_at self.now change }
+        ensures phase { result ≡ phase_at self.now change }
+        ensures follows { (history : List Noted) → Follow self.now history → result ≡ outcome_phase (outcome_of (token_of change) history) }
     {
         self.phases[place_of(change)]
     }
@@ -76,6 +79,7 @@ impl<N: RunPlans> Phases<N> {
     /// no memory.
     pub fn tell(&mut self, board: &mut Chronicle<N>, device: DeviceNo, entries: &[Noted])
         requires room { length entries.now ≤ board.old.spare }
+        ensures goes { GoesAlong self.old self.new board.old board.new device entries.now }
         ensures follow { (history : List Noted) → Follow self.old history → Follow self.new (history ++ entries.now) }
         ensures room { board.old.spare ≤ board.new.spare + length entries.now }
     {
