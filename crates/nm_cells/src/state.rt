@@ -109,8 +109,6 @@ impl<C: Content, N: RunName<C, C::Config, C::Edit>> CellState<C, N> {
     pub fn phase(&self, change: ChangeNo) -> u8
         ensures { result ≡ outcome_phase (outcome_of (token_of change) self.now.kept.recorded.history) }
     {
-        let _ = &self.kept;
-        let _number = change.get();
         self.phases.phase(change)
     }
 
