@@ -42,6 +42,15 @@ use Rattle.nm_bringing.proofs.Drained.{drained_brings}
 use Rattle.nm_leaving.specs.Leaves.{LeavesAlone}
 use Rattle.nm_leaving.proofs.Alone.{run_leaves}
 use Rattle.nm_leaving.proofs.Drained.{drained_leaves}
+use Rattle.nm_marking.specs.Marks.{ArePlain, AreUnmarked, MarksTell}
+use Rattle.nm_marking.proofs.Alone.{run_tells}
+use Rattle.nm_marking.proofs.Drained.{drained_tells}
+use Rattle.nm_proto.specs.declared.flat.FlatNode.{FlatNode}
+use Rattle.nm_content.specs.declared.place.YangNode.{YangNode}
+use Rattle.nm_console.proofs.Unmarked.{flat_unmarked, data_unmarked}
+use Rattle.nm_safety.proofs.Lists.{some_is}
+use Rattle.nm_content.specs.Mark.{has_mark}
+use Rattle.nm_proto.specs.Flat.{flat_has_mark}
 use Rattle.nm_causes.specs.Causes.{HaveCauses}
 use Rattle.nm_causes.proofs.Runs.{run_has_causes, drained_has_causes}
 use Rattle.nm_calm.specs.Calm.{IsCalm, IsCommitted}
@@ -190,7 +199,7 @@ strangers : (users : List (List ℕ)) (number : ℕ) → All UserKeeps users →
 strangers users number h = got (λ user. is_manager (Some user) ≡ false) users number (λ k d less. stranger (get_or users k d) (h k d less))
 
 module _ {Config TheEdit Node : Type 0} (m : Meaning Config TheEdit Node) (laws : Laws m) (s : Scenario) (devices : List Config) (edits : List TheEdit) (can : CanRun m (setting_of edits s) devices s.events)
-    (count : devices_in s.body ≡ length devices) (keeps : ScenarioKeeps s) where
+    (count : devices_in s.body ≡ length devices) (unmarked : AreUnmarked m devices) (keeps : ScenarioKeeps s) where
   proper : IsProper m (setting_of edits s) devices s.events
   proper = record {
     first = λ place. got (IsFirst m) devices place can.first;
@@ -220,6 +229,10 @@ module _ {Config TheEdit Node : Type 0} (m : Meaning Config TheEdit Node) (laws 
   causes_if false = run_has_causes m laws (setting_of edits s) devices s.events proper
   causes_if true = drained_has_causes m laws (setting_of edits s) devices s.events proper drain_limit
 
+  marks_if : (drain : Bool) → ArePlain m (setting_of edits s) → MarksTell m (led_to m (setting_of edits s) s.events drain (start (setting_of edits s) devices))
+  marks_if false plain = run_tells m laws (setting_of edits s) devices s.events proper plain unmarked
+  marks_if true plain = drained_tells m laws (setting_of edits s) devices s.events drain_limit proper plain unmarked
+
   plans_there : HasDevices (setting_of edits s) (length devices)
   plans_there place = got (λ plan. All (IsWithin (length devices)) plan.edits) s.changes place
       (λ k d less. subst (λ n. All (IsWithin n) (get_or s.changes k d).edits) count (has_devices (devices_in s.body) (get_or s.changes k d) (keeps.changes k d less)))
@@ -247,6 +260,7 @@ module _ {Config TheEdit Node : Type 0} (m : Meaning Config TheEdit Node) (laws 
     brings = brings_if s.drain;
     leaves = leaves_if s.drain;
     causes = causes_if s.drain;
+    marks = marks_if s.drain;
     rests = rests_if s.drain;
     calm = λ plan calm is drained. calm_if plan calm s.events is s.drain drained (rests_if s.drain drained);
   }
@@ -261,8 +275,13 @@ module _ (s : Scenario) (devices : List FlatState) (edits : List FlatEdit) (is :
   pub flat_runs : CanRun flat_meaning (setting_of edits s) devices s.events
   flat_runs = runs flat_meaning s devices edits (λ k d less. record { belongs = tt; valid = (states k d less).valid }) (λ k d less. tt) (ap devices_in is) keeps
 
+  flat_bare : AreUnmarked {Edit = FlatEdit} {Node = FlatNode} flat_meaning devices
+  flat_bare place first there n =
+      some_is first (λ config. flat_has_mark config n ≡ false) (slice_get devices place) there
+      (got (λ config. flat_has_mark config n ≡ false) devices place (λ k d less. flat_unmarked (get_or devices k d) (states k d less).unmarked n))
+
   pub flat_safe : IsSafeRun flat_meaning devices edits s
-  flat_safe = safe_run flat_meaning flat_laws s devices edits flat_runs (ap devices_in is) keeps
+  flat_safe = safe_run flat_meaning flat_laws s devices edits flat_runs (ap devices_in is) flat_bare keeps
 
 module _ (s : Scenario) (modules : List (List ℕ)) (tree : SchemaTree) (devices : List Rows) (edits : List (List EditNode)) (is : s.body ≡ Yang modules tree devices edits) (keeps : ScenarioKeeps s) where
   kept : DataAreKept modules tree devices edits
@@ -275,5 +294,10 @@ module _ (s : Scenario) (modules : List (List ℕ)) (tree : SchemaTree) (devices
       (λ k d less. record { belongs = record { sound = kept.given.sound; marker = kept.given.marker; stands = (kept.running k d less).stands }; valid = (kept.running k d less).valid })
       kept.edited (ap devices_in is) keeps
 
+  yang_bare : AreUnmarked {Edit = List EditNode} {Node = YangNode} (yang_meaning tree) devices
+  yang_bare place first there n =
+      some_is first (λ rows. has_mark rows n ≡ false) (slice_get devices place) there
+      (got (λ rows. has_mark rows n ≡ false) devices place (λ k d less. data_unmarked (get_or devices k d) (kept.running k d less).unmarked n))
+
   pub yang_safe : IsSafeRun (yang_meaning tree) devices edits s
-  yang_safe = safe_run (yang_meaning tree) (yang_laws tree) s devices edits yang_runs (ap devices_in is) keeps
+  yang_safe = safe_run (yang_meaning tree) (yang_laws tree) s devices edits yang_runs (ap devices_in is) yang_bare keeps

@@ -1,0 +1,10 @@
+pub mod Outcomes
+pub mod Steps
+pub mod Along
+pub mod Waiting
+pub mod Ends
+pub mod Operators
+pub mod Deliver
+pub mod Runs
+pub mod Alone
+pub mod Drained
