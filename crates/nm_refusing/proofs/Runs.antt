@@ -1,0 +1,110 @@
+-- Every event keeps what every world keeps, and so does every run.
+use Rattle.std.proofs.Common.{◌≡◌, ℕ, zero, suc, ◌≤◌, false, List, [], ◌∷◌, length, Option, Some, None, IfSome, slice_get}
+use Rattle.std.specs.List.{All}
+use Rattle.nm_proto.specs.declared.plan.Event.{Event}
+use Rattle.nm_proto.specs.declared.plan.Event.TheVariants.{Submit, Turn, Deliver, Answer, Break, Lose, Advance, Restart, Forget, Crash, Renew, Foreign, Leave, Round}
+use Rattle.nm_proto.specs.Content.{Meaning, Laws}
+use Rattle.nm_device.specs.Device.{is_manager}
+use Rattle.nm_manager.specs.Manager.{wire_in, request_next}
+use Rattle.nm_network.specs.declared.happened.Sending.{Sending}
+use Rattle.nm_network.specs.World.{Setting, SceneState, WorldState, elementary, world_step, scene_of, manager_in, sending_of, replies_on, followed, round, rounds, event_step, run}
+use Rattle.nm_safety.specs.Safe.{IsGiven, AreGiven}
+use Rattle.nm_safety.specs.Support.{IsSupported}
+use Rattle.nm_safety.proofs.Runs.{one_supported}
+use Rattle.nm_safety.proofs.Sendings.{turn_goes}
+use Rattle.nm_leaving.specs.Support.{AreClean}
+use Rattle.nm_leaving.proofs.Deliver as clean
+use Rattle.nm_leaving.proofs.Ends as clean_end
+use Rattle.nm_leaving.proofs.Managed as clean_managed
+use Rattle.nm_leaving.proofs.Operators as clean_operators
+use Rattle.nm_refusing.specs.Support.{AreFit}
+use Rattle.nm_refusing.proofs.Deliver.{delivering_moves}
+use Rattle.nm_refusing.proofs.Ends.{anew_moves, losing_moves, passing_moves}
+use Rattle.nm_refusing.proofs.Managed.{broken_moves, crashed_moves, forgotten_moves, received_moves, renewed_moves, submitted_moves, turned_moves}
+use Rattle.nm_refusing.proofs.Operators.{asking_moves, leaving_moves}
+
+module _ {Config TheEdit Node : Type 0} (m : Meaning Config TheEdit Node) (laws : Laws m) (setting : Setting TheEdit)
+    (edits : All m.edit_belongs setting.tables.edits) (few : length setting.plans ≤ 64)
+    (strangers : (number : ℕ) → IfSome (slice_get setting.users number) (λ user. is_manager (Some user) ≡ false))
+    (running : List Config) where
+  abbrev Clean : SceneState Config Node → Type 0
+  Clean w = AreClean m setting running w.slots w.devices
+
+  abbrev Fit : SceneState Config Node → Type 0
+  Fit w = AreFit m setting running w.slots w.devices
+
+  came_clean : (w : SceneState Config Node) (event : Event) → IsGiven setting event → IsSupported m setting w → Clean w
+      → Clean (elementary m setting w event).after
+  came_clean w (Submit change) given s c = clean_managed.submitted_moves m setting running w s c change given
+  came_clean w (Turn change) given s c = clean_managed.turned_moves m setting running w s c change given
+  came_clean w (Deliver change device link) given s c = clean.delivering_moves m laws setting edits few running w s c change device link given
+  came_clean w (Answer change device link number) given s c = clean_managed.received_moves m setting running w s c change given.0 device link number
+  came_clean w (Break change device) given s c = clean_managed.broken_moves m setting running w s c change given.0 device
+  came_clean w (Lose change device link) given s c = clean_end.losing_moves m setting running w s c change device link
+  came_clean w (Advance device seconds) given s c = clean_end.passing_moves m setting running w s c device seconds
+  came_clean w (Restart device) given s c = clean_end.anew_moves m setting running w s c device
+  came_clean w (Forget change) given s c = clean_managed.forgotten_moves m setting running w s c change given
+  came_clean w Crash given s c = clean_managed.crashed_moves m setting running w s c
+  came_clean w (Renew change device) given s c = clean_managed.renewed_moves m setting running w s c change given.0 device
+  came_clean w (Foreign operator device request) given s c = clean_operators.asking_moves m setting running w s c operator device request
+  came_clean w (Leave operator device) given s c = clean_operators.leaving_moves m setting running w s c operator device
+  came_clean w (Round change turns) given s c = c
+
+  came_fit : (w : SceneState Config Node) (event : Event) → IsGiven setting event → IsSupported m setting w → Clean w → Fit w
+      → Fit (elementary m setting w event).after
+  came_fit w (Submit change) given s c f = submitted_moves m setting running w s c f change given
+  came_fit w (Turn change) given s c f = turned_moves m setting running w s c f change given
+  came_fit w (Deliver change device link) given s c f = delivering_moves m laws setting edits few running w s c f change device link given
+  came_fit w (Answer change device link number) given s c f = received_moves m setting running w s c f change given.0 device link number
+  came_fit w (Break change device) given s c f = broken_moves m setting running w s c f change given.0 device
+  came_fit w (Lose change device link) given s c f = losing_moves m setting running w s f change device link
+  came_fit w (Advance device seconds) given s c f = passing_moves m setting running w s f device seconds
+  came_fit w (Restart device) given s c f = anew_moves m setting running w s f device
+  came_fit w (Forget change) given s c f = forgotten_moves m setting running w s c f change given
+  came_fit w Crash given s c f = crashed_moves m setting running w s c f
+  came_fit w (Renew change device) given s c f = renewed_moves m setting running w s c f change given.0 device
+  came_fit w (Foreign operator device request) given s c f = asking_moves m setting running w s f operator device request
+  came_fit w (Leave operator device) given s c f = leaving_moves m setting running w s f operator device
+  came_fit w (Round change turns) given s c f = f
+
+  -- a world that is supported, in which candidate stands so, and what waits too
+  pub record IsRefusing (w : WorldState Config Node) : Type 0 where
+    pub supported : IsSupported m setting (scene_of w)
+    pub clean : AreClean m setting running w.slots w.devices
+    pub fits : AreFit m setting running w.slots w.devices
+
+  one_refusing : (w : WorldState Config Node) (event : Event) → IsGiven setting event → IsRefusing w
+      → IsRefusing (world_step m setting w event)
+  one_refusing w event given k = record {
+    supported = one_supported m laws setting edits few strangers w event given k.supported;
+    clean = came_clean (scene_of w) event given k.supported k.clean;
+    fits = came_fit (scene_of w) event given k.supported k.clean k.fits;
+  }
+
+  followed_refusing : (w : WorldState Config Node) (change : ℕ) → 1 ≤ change → (sending : Option Sending)
+      → IfSome sending (λ (one : Sending). 1 ≤ one.device) → IsRefusing w → IsRefusing (followed m setting w change sending)
+  followed_refusing w change numbered None sent k = k
+  followed_refusing w change numbered (Some sending) sent k =
+      let v = world_step m setting w (Deliver change sending.device sending.link) in
+      one_refusing v (Answer change sending.device sending.link
+      (replies_on (wire_in (manager_in (scene_of v)) change sending.device) sending.link)) (numbered, sent)
+      (one_refusing w (Deliver change sending.device sending.link) numbered k)
+
+  rounds_refusing : (n : ℕ) (w : WorldState Config Node) (change : ℕ) → 1 ≤ change → IsRefusing w → IsRefusing (rounds m setting n w change)
+  rounds_refusing zero w change numbered k = k
+  rounds_refusing (suc n) w change numbered k =
+      rounds_refusing n (round m setting w change) change numbered
+      (followed_refusing (world_step m setting w (Turn change)) change numbered
+      (sending_of (elementary m setting (scene_of w) (Turn change)).happened)
+      (turn_goes setting.plans (manager_in (scene_of w)) change (request_next setting.plans (manager_in (scene_of w)) change))
+      (one_refusing w (Turn change) numbered k))
+
+  step_refusing : (w : WorldState Config Node) (event : Event) → IsGiven setting event → IsRefusing w
+      → IsRefusing (event_step m setting w event)
+  step_refusing w (Round change turns) given k = rounds_refusing turns w change given k
+  step_refusing w event given k = one_refusing w event given k
+
+  pub run_refusing : (w : WorldState Config Node) (events : List Event) → AreGiven setting events → IsRefusing w
+      → IsRefusing (run m setting w events)
+  run_refusing w [] given k = k
+  run_refusing w (event ∷ events) given k = run_refusing (event_step m setting w event) events given.1 (step_refusing w event given.0 k)
