@@ -51,6 +51,9 @@ use Rattle.nm_console.proofs.Unmarked.{flat_unmarked, data_unmarked}
 use Rattle.nm_safety.proofs.Lists.{some_is}
 use Rattle.nm_content.specs.Mark.{has_mark}
 use Rattle.nm_proto.specs.Flat.{flat_has_mark}
+use Rattle.nm_refusing.specs.Refuses.{RefusesGone}
+use Rattle.nm_refusing.proofs.Alone.{run_refuses}
+use Rattle.nm_refusing.proofs.Drained.{drained_refuses}
 use Rattle.nm_causes.specs.Causes.{HaveCauses}
 use Rattle.nm_causes.proofs.Runs.{run_has_causes, drained_has_causes}
 use Rattle.nm_calm.specs.Calm.{IsCalm, IsCommitted}
@@ -225,6 +228,10 @@ module _ {Config TheEdit Node : Type 0} (m : Meaning Config TheEdit Node) (laws 
   leaves_if false = run_leaves m laws (setting_of edits s) devices s.events proper
   leaves_if true = drained_leaves m laws (setting_of edits s) devices s.events drain_limit proper
 
+  refuses_if : (drain : Bool) → RefusesGone m (setting_of edits s) devices (led_to m (setting_of edits s) s.events drain (start (setting_of edits s) devices))
+  refuses_if false = run_refuses m laws (setting_of edits s) devices s.events proper
+  refuses_if true = drained_refuses m laws (setting_of edits s) devices s.events drain_limit proper
+
   causes_if : (drain : Bool) → HaveCauses (led_to m (setting_of edits s) s.events drain (start (setting_of edits s) devices))
   causes_if false = run_has_causes m laws (setting_of edits s) devices s.events proper
   causes_if true = drained_has_causes m laws (setting_of edits s) devices s.events proper drain_limit
@@ -259,6 +266,7 @@ module _ {Config TheEdit Node : Type 0} (m : Meaning Config TheEdit Node) (laws 
     reports = safe_tells m (setting_of edits s) devices s.events (world_of m devices edits s) world_safe;
     brings = brings_if s.drain;
     leaves = leaves_if s.drain;
+    refuses = refuses_if s.drain;
     causes = causes_if s.drain;
     marks = marks_if s.drain;
     rests = rests_if s.drain;

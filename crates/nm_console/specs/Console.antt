@@ -26,6 +26,7 @@ use Rattle.nm_network.specs.Runs.{IsBetween, IsNumbered}
 use Rattle.nm_safety.specs.Safe.{IsSafe}
 use Rattle.nm_bringing.specs.Brings.{BringsAlone}
 use Rattle.nm_leaving.specs.Leaves.{LeavesAlone}
+use Rattle.nm_refusing.specs.Refuses.{RefusesGone}
 use Rattle.nm_causes.specs.Causes.{HaveCauses}
 use Rattle.nm_marking.specs.Marks.{ArePlain, MarksTell}
 use Rattle.nm_calm.specs.Calm.{IsCalm, IsCommitted}
@@ -295,10 +296,11 @@ pub record IsSafeRun {Config TheEdit Node : Type 0} (m : Meaning Config TheEdit 
   pub valid : All (IsFirst m) devices
   pub safe : IsSafe m (setting_of edits s) devices s.events (world_of m devices edits s)
   pub reports : TellsAll (setting_of edits s) (world_of m devices edits s)
-  -- each commit of a change set brings its own edit alone, the manager's others leave running as it was, and each abort in the journal
-  -- has the cause that it names
+  -- each commit of a change set brings its own edit alone, the manager's others leave running as it was, what is refused to the manager
+  -- isn't pending, and each abort in the journal has the cause that it names
   pub brings : BringsAlone m (setting_of edits s) devices (world_of m devices edits s)
   pub leaves : LeavesAlone m (setting_of edits s) devices (world_of m devices edits s)
+  pub refuses : RefusesGone m (setting_of edits s) devices (world_of m devices edits s)
   pub causes : HaveCauses (world_of m devices edits s)
   -- where no edit of a change set names a mark, marks tell which change sets are at a device
   pub marks : ArePlain m (setting_of edits s) → MarksTell m (world_of m devices edits s)
