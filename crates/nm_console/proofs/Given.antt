@@ -43,8 +43,10 @@ use Rattle.nm_leaving.specs.Leaves.{LeavesAlone}
 use Rattle.nm_leaving.proofs.Alone.{run_leaves}
 use Rattle.nm_leaving.proofs.Drained.{drained_leaves}
 use Rattle.nm_marking.specs.Marks.{ArePlain, AreUnmarked, MarksTell}
+use Rattle.nm_marking.specs.Stays.{MarksStay}
 use Rattle.nm_marking.proofs.Alone.{run_tells}
 use Rattle.nm_marking.proofs.Drained.{drained_tells}
+use Rattle.nm_marking.proofs.Remains.{run_stays, drained_stays}
 use Rattle.nm_proto.specs.declared.flat.FlatNode.{FlatNode}
 use Rattle.nm_content.specs.declared.place.YangNode.{YangNode}
 use Rattle.nm_console.proofs.Unmarked.{flat_unmarked, data_unmarked}
@@ -240,6 +242,10 @@ module _ {Config TheEdit Node : Type 0} (m : Meaning Config TheEdit Node) (laws 
   marks_if false plain = run_tells m laws (setting_of edits s) devices s.events proper plain unmarked
   marks_if true plain = drained_tells m laws (setting_of edits s) devices s.events drain_limit proper plain unmarked
 
+  stays_if : (drain : Bool) → MarksStay m (led_to m (setting_of edits s) s.events drain (start (setting_of edits s) devices))
+  stays_if false = run_stays m laws (setting_of edits s) devices s.events proper
+  stays_if true = drained_stays m laws (setting_of edits s) devices s.events drain_limit proper
+
   plans_there : HasDevices (setting_of edits s) (length devices)
   plans_there place = got (λ plan. All (IsWithin (length devices)) plan.edits) s.changes place
       (λ k d less. subst (λ n. All (IsWithin n) (get_or s.changes k d).edits) count (has_devices (devices_in s.body) (get_or s.changes k d) (keeps.changes k d less)))
@@ -269,6 +275,7 @@ module _ {Config TheEdit Node : Type 0} (m : Meaning Config TheEdit Node) (laws 
     refuses = refuses_if s.drain;
     causes = causes_if s.drain;
     marks = marks_if s.drain;
+    stays = stays_if s.drain;
     rests = rests_if s.drain;
     calm = λ plan calm is drained. calm_if plan calm s.events is s.drain drained (rests_if s.drain drained);
   }

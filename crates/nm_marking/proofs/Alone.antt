@@ -8,16 +8,14 @@ use Rattle.nm_safety.specs.Safe.{IsProper}
 use Rattle.nm_safety.proofs.Devices.{run_keeps}
 use Rattle.nm_safety.proofs.Lists.{some_is}
 use Rattle.nm_safety.proofs.Sound.{first_at, run_sound}
-use Rattle.nm_safety.proofs.Start.{begin_supported}
 use Rattle.nm_bringing.proofs.Alone.{run_brings}
 use Rattle.nm_leaving.proofs.Alone.{run_leaves}
 use Rattle.nm_marking.specs.Marks.{ArePlain, AreUnmarked, MarksTell, TellsMarks}
 use Rattle.nm_marking.specs.Waits.{AllWait, EachWaits}
 use Rattle.nm_marking.proofs.Along.{marks_along}
-use Rattle.nm_marking.proofs.Runs.{run_wait}
-use Rattle.nm_marking.proofs.Waiting.{none_wait}
+use Rattle.nm_marking.proofs.Runs.{run_single}
 
-there : {A : Type 0} (x : A) (found : Option A) → found ≡ Some x → is_some found ≡ true
+pub there : {A : Type 0} (x : A) (found : Option A) → found ≡ Some x → is_some found ≡ true
 there x None e = absurd (let g : None ≡ Some x = e in cc)
 there x (Some one) e = refl
 
@@ -27,9 +25,7 @@ module _ {Config TheEdit Node : Type 0} (m : Meaning Config TheEdit Node) (laws 
   ran = run m setting (start setting running) events
 
   waiting : AllWait ran.devices
-  waiting =
-      (run_wait m laws setting proper.edits proper.few proper.strangers (start setting running) events proper.given
-      (record { supported = begin_supported m setting running proper.first; waits = none_wait Node running })).waits
+  waiting = (run_single m laws setting running events proper).waits
 
   module _ (plain : ArePlain m setting) (unmarked : AreUnmarked m running) (place : ℕ) (r : RecordedState Config Node)
       (here : slice_get ran.devices place ≡ Some r) where

@@ -19,7 +19,7 @@ use Rattle.nm_history.specs.Effect.{is_done_reply}
 use Rattle.nm_history.specs.Outcome.{outcome_of}
 use Rattle.nm_history.specs.History.{Happened, RecordedState, Served, event_by, noted, recorded_with, served}
 use Rattle.nm_history.proofs.Histories.{IsServed, is_served}
-use Rattle.nm_recovery.specs.Recovery.{verdict_in}
+use Rattle.nm_recovery.specs.Recovery.{is_ended_in, verdict_in}
 use Rattle.nm_standing.specs.Moment.{Happens}
 use Rattle.nm_standing.specs.Token.{commits_done, gives_token, is_commit_done}
 use Rattle.nm_standing.proofs.Events.{is_asked}
@@ -43,8 +43,12 @@ use Rattle.nm_safety.proofs.Managed.{kept_here, planned_by}
 use Rattle.nm_network.specs.World.{Setting, SceneState, delivering, delivering_at, does, is_session_open, manager_in, met, told_by, undelivered, with_device}
 use Rattle.nm_bringing.proofs.Histories.{left_undone}
 use Rattle.nm_bringing.proofs.Others.{first_found, first_same, owned_at, pair_here}
+use Rattle.nm_marking.specs.Marks.{is_there}
+use Rattle.nm_marking.specs.Stays.{FindsEnded}
 use Rattle.nm_marking.specs.Waits.{AllWait, Waits}
-use Rattle.nm_marking.proofs.Waiting.{wait_next, wait_still}
+use Rattle.nm_marking.proofs.Asks.{AllAsk, IsAlone, IsAsking, asked_link}
+use Rattle.nm_marking.proofs.Known.{IsKnown}
+use Rattle.nm_marking.proofs.Waiting.{AllFind, Stepped, step_same, wait_next, wait_still}
 
 same_nat : (a b : ℕ) → (a == b) ≡ true → a ≡ b
 same_nat a b e = grind (arith, nat_tests)
@@ -93,7 +97,8 @@ none_done : (done way sent : ℕ) → done + way ≤ sent → sent ≤ 1 → way
 none_done done way sent a b c = omega (arith, a, b, c)
 
 module _ {Config TheEdit Node : Type 0} (m : Meaning Config TheEdit Node) (setting : Setting TheEdit) (few : length setting.plans ≤ 64)
-    (w : SceneState Config Node) (s : IsSupported m setting w) (all : AllWait w.devices) (change device link : ℕ) (numbered : 1 ≤ change) where
+    (w : SceneState Config Node) (s : IsSupported m setting w) (waits : AllWait w.devices) (finds : AllFind w.entries w.devices)
+    (asks : AllAsk setting.plans w.entries w.devices w.slots) (change device link : ℕ) (numbered : 1 ≤ change) where
   abbrev d : ℕ
   d = device - 1
 
@@ -196,14 +201,60 @@ module _ {Config TheEdit Node : Type 0} (m : Meaning Config TheEdit Node) (setti
               (subst (λ n. is_commit_done (token_of n) (noted (Asked u request) h) ≡ true) is done) in
               subst (λ n. outcome_of (token_of n) (r.history ++ noted (Asked u request) h ∷ []) ≡ Pending) (sym is) (begun two.0 two.1)
 
-      asked_waits : AllWait (slice_set w.devices d (recorded_with r (Asked u request) h))
-      asked_waits = wait_next w.devices all d r here (Asked u request) h new_waits
+      -- the commit comes to a device where all others that are there are ended
+      module _ (commits_now : ask_of request ≡ ask.CommitConfirmed) where
+        asking : IsAsking setting.plans w.entries change d (slice_get w.devices d) l
+        asking =
+            asked_link setting.plans w.entries w.devices w.slots asks change device numbered slot there side at_side (link - 1) l at_place.1
+            (ap (λ y. option_map ask_of (asked_on y)) way_is ∙ ap Some commits_now)
+
+        alone_now : (n : ℕ) → n < 2 ^ 32 → (n == change) ≡ false → is_there (outcome_of (token_of n) r.history) ≡ true
+            → is_ended_in n w.entries ≡ true
+        alone_now =
+            some_is r (IsAlone w.entries change l) (slice_get w.devices d) here asking.alone u session asker_open
+
+      is_change_by : (c : ℕ) → c < 2 ^ 32 → is_commit_done (token_of c) (noted (Asked u request) h) ≡ true → (same : Bool)
+          → (c == change) ≡ same → c ≡ change
+      is_change_by c c_small done false e =
+          absurd (let g : false ≡ true = sym
+          (left_undone m setting r (Asked u request) h happens (token_of c)
+          (no_name_leaves (token_of c) r u request (names_no_other c change c_small change_small e request ours.names))) ∙ done in cc)
+      is_change_by c c_small done true e = same_nat c change e
+
+      is_change : (c : ℕ) → c < 2 ^ 32 → is_commit_done (token_of c) (noted (Asked u request) h) ≡ true → c ≡ change
+      is_change c c_small done = is_change_by c c_small done (c == change) refl
+
+      asks_commit : (c : ℕ) → c < 2 ^ 32 → is_commit_done (token_of c) (noted (Asked u request) h) ≡ true
+          → ask_of request ≡ ask.CommitConfirmed
+      asks_commit c c_small done =
+          (bringer (token_of c) request
+          (both (gives_token (token_of c) request) (is_done_reply h.reply) done).0 ours.known
+          (subst (λ n. NamesOurs (token_of n) request) (sym (is_change c c_small done)) ours.names)).asks
+
+      new_finds : (n : ℕ) → n < 2 ^ 32 → FindsEnded w.entries n r.history (noted (Asked u request) h)
+      new_finds n small c c_small done other is =
+          alone_now (asks_commit c c_small done) n small (by_same (n == change) refl) is
+        where
+          by_same : (same : Bool) → (n == change) ≡ same → same ≡ false
+          by_same false e = refl
+          by_same true e =
+              let one : n ≡ c = same_nat n change e ∙ sym (is_change c c_small done) in
+              absurd (let g : true ≡ false = sym done
+              ∙ ap (λ k. is_commit_done (token_of k) (noted (Asked u request) h)) (sym one) ∙ other in cc)
+
+      new_known : (n : ℕ) → n < 2 ^ 32 → is_commit_done (token_of n) (noted (Asked u request) h) ≡ true
+          → IsKnown setting.plans w.entries n d
+      new_known n small done =
+          subst (λ c. IsKnown setting.plans w.entries c d) (sym (is_change n small done)) (asking (asks_commit n small done)).known
+
+      asked_waits : Stepped setting.plans w.entries w.devices (slice_set w.devices d (recorded_with r (Asked u request) h))
+      asked_waits = wait_next m setting w s waits finds d r here (Asked u request) h happens new_waits new_finds new_known
 
     -- ---- whichever it is
 
     module _ (sv : Served Config Node) (is : IsServed m setting.tables r (session_at side.wire link) request sv) where
       abbrev Now : RecordedState Config Node → Type 0
-      Now after = AllWait (slice_set w.devices d after)
+      Now after = Stepped setting.plans w.entries w.devices (slice_set w.devices d after)
 
       event_is : (event : DeviceEvent) → Some event ≡ Some is.event → Now (recorded_with r event is.h) → Now sv.after
       event_is event e now = subst Now (ap (λ one. recorded_with r one is.h) (same_Some event is.event e) ∙ sym is.after_is) now
@@ -220,7 +271,7 @@ module _ {Config TheEdit Node : Type 0} (m : Meaning Config TheEdit Node) (setti
       by_opening : (user : Option (List ℕ)) → event_by (session_at side.wire link) request user ≡ Some is.event → Now sv.after
       by_opening (Some user) e =
           event_is (Entered user) e
-          (wait_still w.devices all d r here (Entered user) is.h m setting (happens_as (Entered user) e) (λ other. refl))
+          (wait_still m setting w s waits finds d r here (Entered user) is.h (happens_as (Entered user) e) (λ other. refl))
       by_opening None e = by_session (session_at side.wire link) refl e
 
       pub served_waits : Now sv.after
@@ -229,7 +280,10 @@ module _ {Config TheEdit Node : Type 0} (m : Meaning Config TheEdit Node) (setti
   -- ---- the world
 
   abbrev In : SceneState Config Node → Type 0
-  In now = AllWait now.devices
+  In now = Stepped setting.plans w.entries w.devices now.devices
+
+  all : In w
+  all = step_same m setting w s waits finds
 
   no_outstanding : (absent : Bool) → option_and_then outstanding (cond absent None (slice_get {X = LinkState} [] (link - 1))) ≡ None
   no_outstanding true = refl

@@ -94,13 +94,13 @@ module _ {Config TheEdit Node : Type 0} (m : Meaning Config TheEdit Node) (laws 
   abbrev ran : WorldState Config Node
   ran = run m setting (start setting running) events
 
-  abbrev all_events : List Event
+  abbrev pub all_events : List Event
   all_events = events ++ steps_of m setting steps ran
 
-  drained_is : run m setting (start setting running) all_events ≡ drained m setting steps ran
+  pub drained_is : run m setting (start setting running) all_events ≡ drained m setting steps ran
   drained_is = run_then m setting (start setting running) events (steps_of m setting steps ran) ∙ steps_run m setting steps ran
 
-  all_proper : IsProper {Node = Node} m setting running events → IsProper {Node = Node} m setting running all_events
+  pub all_proper : IsProper {Node = Node} m setting running events → IsProper {Node = Node} m setting running all_events
   all_proper proper = record {
     first = proper.first;
     edits = proper.edits;

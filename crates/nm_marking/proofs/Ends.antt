@@ -8,14 +8,18 @@ use Rattle.nm_wire.specs.Wire.{session_at}
 use Rattle.nm_manager.specs.Manager.{wire_in}
 use Rattle.nm_pair.proofs.Places.{set_same}
 use Rattle.nm_network.specs.World.{Setting, SceneState, Meeting, anew_at, going_anew, is_side_open, later_at, loses, losing, losing_at, lost_by, manager_in, met, moved, passing}
+use Rattle.nm_safety.specs.Support.{IsSupported}
 use Rattle.nm_safety.proofs.Devices.{IsLost, is_lost}
 use Rattle.nm_marking.specs.Waits.{AllWait}
-use Rattle.nm_marking.proofs.Waiting.{wait_still}
+use Rattle.nm_marking.proofs.Waiting.{AllFind, Stepped, step_same, wait_still}
 
 module _ {Config TheEdit Node : Type 0} (m : Meaning Config TheEdit Node) (setting : Setting TheEdit) (w : SceneState Config Node)
-    (all : AllWait w.devices) where
+    (s : IsSupported m setting w) (waits : AllWait w.devices) (finds : AllFind w.entries w.devices) where
   abbrev In : SceneState Config Node → Type 0
-  In now = AllWait now.devices
+  In now = Stepped setting.plans w.entries w.devices now.devices
+
+  all : In w
+  all = step_same m setting w s waits finds
 
   -- ---- what nobody asks for
 
@@ -23,7 +27,7 @@ module _ {Config TheEdit Node : Type 0} (m : Meaning Config TheEdit Node) (setti
       → In (moved w device (later_at m seconds found)).after
   passing_by device seconds None here = all
   passing_by device seconds (Some r) here =
-      wait_still w.devices all (device - 1) r here (Advanced seconds) (advancing m r.device seconds) m setting refl (λ change. refl)
+      wait_still m setting w s waits finds (device - 1) r here (Advanced seconds) (advancing m r.device seconds) refl (λ change. refl)
 
   pub passing_waits : (device seconds : ℕ) → In (passing m w device seconds).after
   passing_waits device seconds = passing_by device seconds (slice_get w.devices (device - 1)) refl
@@ -32,7 +36,7 @@ module _ {Config TheEdit Node : Type 0} (m : Meaning Config TheEdit Node) (setti
       → In (met w device (anew_at m (manager_in w) device found)).after
   anew_by device None here = all
   anew_by device (Some r) here =
-      wait_still w.devices all (device - 1) r here Restarted (restarting m r.device) m setting refl (λ change. refl)
+      wait_still m setting w s waits finds (device - 1) r here Restarted (restarting m r.device) refl (λ change. refl)
 
   pub anew_waits : (device : ℕ) → In (going_anew m w device).after
   anew_waits device = anew_by device (slice_get w.devices (device - 1)) refl
@@ -40,11 +44,11 @@ module _ {Config TheEdit Node : Type 0} (m : Meaning Config TheEdit Node) (setti
   -- ---- a session is lost
 
   pub parted_waits : (d : ℕ) (r : RecordedState Config Node) (session : ℕ) (parted : Parted Config Node) → slice_get w.devices d ≡ Some r
-      → lost m r session ≡ Some parted → AllWait (slice_set w.devices d parted.after)
+      → lost m r session ≡ Some parted → Stepped setting.plans w.entries w.devices (slice_set w.devices d parted.after)
   parted_waits d r session parted here e =
       let is : IsLost m setting.tables r session parted = is_lost m setting.tables r session parted e in
-      subst (λ now. AllWait (slice_set w.devices d now)) (sym is.after_is)
-      (wait_still w.devices all d r here (Lost session) is.h m setting is.happens (λ change. refl))
+      subst (λ now. Stepped setting.plans w.entries w.devices (slice_set w.devices d now)) (sym is.after_is)
+      (wait_still m setting w s waits finds d r here (Lost session) is.h is.happens (λ change. refl))
 
   module _ (change device link : ℕ) where
     lost_by_waits : (r : RecordedState Config Node) (session : ℕ) (parted : Option (Parted Config Node))
@@ -55,7 +59,7 @@ module _ {Config TheEdit Node : Type 0} (m : Meaning Config TheEdit Node) (setti
 
     loses_waits : (r : RecordedState Config Node) (session : Option ℕ) → slice_get w.devices (device - 1) ≡ Some r
         → In (met w device (loses m r (manager_in w) change device link session)).after
-    loses_waits r None here = subst AllWait (sym (set_same w.devices (device - 1) r here)) all
+    loses_waits r None here = subst (Stepped setting.plans w.entries w.devices) (sym (set_same w.devices (device - 1) r here)) all
     loses_waits r (Some session) here = lost_by_waits r session (lost m r session) here refl
 
     losing_by : (found : Option (RecordedState Config Node)) → slice_get w.devices (device - 1) ≡ found

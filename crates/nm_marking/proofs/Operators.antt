@@ -20,7 +20,7 @@ use Rattle.nm_safety.specs.Support.{IsDevice, IsOperator, IsSupported}
 use Rattle.nm_safety.proofs.Lists.{some_is}
 use Rattle.nm_marking.specs.Waits.{AllWait}
 use Rattle.nm_marking.proofs.Ends.{parted_waits}
-use Rattle.nm_marking.proofs.Waiting.{wait_still}
+use Rattle.nm_marking.proofs.Waiting.{AllFind, Stepped, step_same, wait_still}
 
 reserved : (c : ℕ) → is_reserved (token_of c) ≡ true
 reserved c = refl
@@ -52,9 +52,13 @@ operator_there operators number operator e = by_zero (number == 0) e
     by_zero false e = e
 
 module _ {Config TheEdit Node : Type 0} (m : Meaning Config TheEdit Node) (setting : Setting TheEdit)
-    (w : SceneState Config Node) (s : IsSupported m setting w) (b : AllWait w.devices) where
+    (w : SceneState Config Node) (s : IsSupported m setting w) (waits : AllWait w.devices)
+    (finds : AllFind w.entries w.devices) where
   abbrev Now : SceneState Config Node → Type 0
-  Now now = AllWait now.devices
+  Now now = Stepped setting.plans w.entries w.devices now.devices
+
+  b : Now w
+  b = step_same m setting w s waits finds
 
   module _ (number device : ℕ) (operator : List (Option ℕ)) (there : slice_get w.operators (number - 1) ≡ Some operator)
       (r : RecordedState Config Node) (here : slice_get w.devices (device - 1) ≡ Some r) where
@@ -62,7 +66,7 @@ module _ {Config TheEdit Node : Type 0} (m : Meaning Config TheEdit Node) (setti
     d = device - 1
 
     abbrev At : RecordedState Config Node → Type 0
-    At now = AllWait (slice_set w.devices d now)
+    At now = Stepped setting.plans w.entries w.devices (slice_set w.devices d now)
 
     device_here : IsDevice m (s.owners d) r
     device_here = some_is r (IsDevice m (s.owners d)) (slice_get w.devices d) here (s.devices d)
@@ -81,7 +85,7 @@ module _ {Config TheEdit Node : Type 0} (m : Meaning Config TheEdit Node) (setti
         (h : Happened Config Node) (happens : Happens m setting.tables r.device (Asked u request) h) where
       asked_waits : At (recorded_with r (Asked u request) h)
       asked_waits =
-          wait_still w.devices b d r here (Asked u request) h m setting happens
+          wait_still m setting w s waits finds d r here (Asked u request) h happens
           (λ change.
           kept_out (names_token (token_of change) request) (is_reserved (token_of change)) (is_manager (user_of r.device.sessions u))
           (reserved change) (device_here.users u is_there ∙ ap is_some (given_is u given)))
@@ -90,7 +94,7 @@ module _ {Config TheEdit Node : Type 0} (m : Meaning Config TheEdit Node) (setti
 
     entered_waits : (user : List ℕ) (h : Happened Config Node) → Happens m setting.tables r.device (Entered user) h
         → At (recorded_with r (Entered user) h)
-    entered_waits user h happens = wait_still w.devices b d r here (Entered user) h m setting happens (λ change. refl)
+    entered_waits user h happens = wait_still m setting w s waits finds d r here (Entered user) h happens (λ change. refl)
 
     -- ---- whichever it is
 
@@ -133,7 +137,7 @@ module _ {Config TheEdit Node : Type 0} (m : Meaning Config TheEdit Node) (setti
     parted_by_waits : (session : ℕ) (parted : Option (Parted Config Node)) → lost m r session ≡ parted
         → Now (moved w device (parted_by parted)).after
     parted_by_waits session None e = b
-    parted_by_waits session (Some parted) e = parted_waits m setting w b d r session parted here e
+    parted_by_waits session (Some parted) e = parted_waits m setting w s waits finds d r session parted here e
 
     left_waits : (session : Option ℕ) → Now (moved w device (left_with m r session)).after
     left_waits None = b

@@ -1,78 +1,111 @@
--- Every event leaves change sets waiting, and so does every run.
-use Rattle.std.proofs.Common.{◌≡◌, ℕ, zero, suc, ◌≤◌, false, List, [], ◌∷◌, length, Option, Some, None, IfSome, slice_get}
-use Rattle.std.specs.List.{All}
+-- Every event leaves change sets waiting, and coming one after another, and so does every run.
+use Rattle.std.proofs.Common.{◌≡◌, ℕ, zero, suc, ◌≤◌, ◌<◌, ◌^◌, false, true, List, [], ◌∷◌, length, map, replicate, IfSome, slice_get}
+use Rattle.nm_base.specs.Token.{token_of}
+use Rattle.nm_proto.specs.declared.plan.ChangePlan.{ChangePlan}
 use Rattle.nm_proto.specs.declared.plan.Event.{Event}
 use Rattle.nm_proto.specs.declared.plan.Event.TheVariants.{Submit, Turn, Deliver, Answer, Break, Lose, Advance, Restart, Forget, Crash, Renew, Foreign, Leave, Round}
 use Rattle.nm_proto.specs.Content.{Meaning, Laws}
-use Rattle.nm_device.specs.Device.{is_manager}
-use Rattle.nm_manager.specs.Manager.{wire_in, request_next}
-use Rattle.nm_network.specs.declared.happened.Sending.{Sending}
-use Rattle.nm_network.specs.World.{Setting, SceneState, WorldState, elementary, world_step, scene_of, manager_in, sending_of, replies_on, followed, round, rounds, event_step, run}
-use Rattle.nm_safety.specs.Safe.{IsGiven, AreGiven}
+use Rattle.nm_proto.specs.Plan.{devices_in}
+use Rattle.nm_history.specs.Outcome.{outcome_of}
+use Rattle.nm_history.specs.History.{RecordedState, recorded}
+use Rattle.nm_decider.specs.Course.{seat_count}
+use Rattle.nm_manager.specs.Slot.{fresh_side, fresh_slot}
+use Rattle.nm_manager.specs.Manager.{slots_from}
+use Rattle.nm_network.specs.World.{Setting, SceneState, WorldState, elementary, run, scene_of, start, world_step}
+use Rattle.nm_safety.specs.Safe.{IsGiven, IsProper}
 use Rattle.nm_safety.specs.Support.{IsSupported}
-use Rattle.nm_safety.proofs.Runs.{one_supported}
-use Rattle.nm_safety.proofs.Sendings.{turn_goes}
-use Rattle.nm_marking.specs.Waits.{AllWait}
+use Rattle.nm_safety.proofs.Sound.{first_at}
+use Rattle.nm_ending.proofs.Lasting.{Lasts, one_lasts}
+use Rattle.nm_ending.proofs.Running.{start_lasts}
+use Rattle.nm_ending.proofs.Runs.{run_keeps}
+use Rattle.nm_marking.specs.Marks.{is_there}
+use Rattle.nm_marking.proofs.Asks.{AskLinks}
 use Rattle.nm_marking.proofs.Deliver.{delivering_waits}
 use Rattle.nm_marking.proofs.Ends.{anew_waits, losing_waits, passing_waits}
+use Rattle.nm_marking.proofs.Events.{came_asks}
+use Rattle.nm_marking.proofs.Known.{IsKnown}
 use Rattle.nm_marking.proofs.Operators.{asking_waits, leaving_waits}
+use Rattle.nm_marking.proofs.Single.{IsSingle, next_single}
+use Rattle.nm_marking.proofs.Waiting.{Stepped, none_find, none_wait, step_same}
 
-module _ {Config TheEdit Node : Type 0} (m : Meaning Config TheEdit Node) (laws : Laws m) (setting : Setting TheEdit)
-    (edits : All m.edit_belongs setting.tables.edits) (few : length setting.plans ≤ 64)
-    (strangers : (number : ℕ) → IfSome (slice_get setting.users number) (λ user. is_manager (Some user) ≡ false)) where
-  came_waits : (w : SceneState Config Node) (event : Event) → IsGiven setting event → IsSupported m setting w → AllWait w.devices
-      → AllWait (elementary m setting w event).after.devices
-  came_waits w (Submit change) given s all = all
-  came_waits w (Turn change) given s all = all
-  came_waits w (Deliver change device link) given s all = delivering_waits m setting few w s all change device link given
-  came_waits w (Answer change device link number) given s all = all
-  came_waits w (Break change device) given s all = all
-  came_waits w (Lose change device link) given s all = losing_waits m setting w all change device link
-  came_waits w (Advance device seconds) given s all = passing_waits m setting w all device seconds
-  came_waits w (Restart device) given s all = anew_waits m setting w all device
-  came_waits w (Forget change) given s all = all
-  came_waits w Crash given s all = all
-  came_waits w (Renew change device) given s all = all
-  came_waits w (Foreign operator device request) given s all = asking_waits m setting w s all operator device request
-  came_waits w (Leave operator device) given s all = leaving_waits m setting w s all operator device
-  came_waits w (Round change turns) given s all = all
+-- ---- one event
 
-  -- a world that is supported, in which change sets wait
-  pub record IsWaiting (w : WorldState Config Node) : Type 0 where
-    pub supported : IsSupported m setting (scene_of w)
-    pub waits : AllWait w.devices
+module _ {Config TheEdit Node : Type 0} (m : Meaning Config TheEdit Node) (setting : Setting TheEdit) (few : length setting.plans ≤ 64)
+    (w : SceneState Config Node) (s : IsSupported m setting w) (k : IsSingle m setting w) where
+  abbrev Next : SceneState Config Node → Type 0
+  Next now = Stepped setting.plans w.entries w.devices now.devices
 
-  one_wait : (w : WorldState Config Node) (event : Event) → IsGiven setting event → IsWaiting w
-      → IsWaiting (world_step m setting w event)
-  one_wait w event given k = record {
-    supported = one_supported m laws setting edits few strangers w event given k.supported;
-    waits = came_waits (scene_of w) event given k.supported k.waits;
+  same : Next w
+  same = step_same m setting w s k.waits k.finds
+
+  came_steps : (event : Event) → IsGiven setting event → Next (elementary m setting w event).after
+  came_steps (Submit change) given = same
+  came_steps (Turn change) given = same
+  came_steps (Deliver change device link) given = delivering_waits m setting few w s k.waits k.finds k.asks change device link given
+  came_steps (Answer change device link number) given = same
+  came_steps (Break change device) given = same
+  came_steps (Lose change device link) given = losing_waits m setting w s k.waits k.finds change device link
+  came_steps (Advance device seconds) given = passing_waits m setting w s k.waits k.finds device seconds
+  came_steps (Restart device) given = anew_waits m setting w s k.waits k.finds device
+  came_steps (Forget change) given = same
+  came_steps Crash given = same
+  came_steps (Renew change device) given = same
+  came_steps (Foreign operator device request) given = asking_waits m setting w s k.waits k.finds operator device request
+  came_steps (Leave operator device) given = leaving_waits m setting w s k.waits k.finds operator device
+  came_steps (Round change turns) given = same
+
+-- ---- the beginning
+
+each_same : {A : Type 0} (Q : ℕ → A → Type 0) (n : ℕ) (x : A) → ((j : ℕ) → Q j x) → (j : ℕ) → IfSome (slice_get (replicate n x) j) (Q j)
+each_same Q zero x all j = tt
+each_same Q (suc n) x all zero = all 0
+each_same Q (suc n) x all (suc j) = each_same (λ i. Q (suc i)) n x (λ i. all (suc i)) j
+
+module _ {Config TheEdit Node : Type 0} (m : Meaning Config TheEdit Node) (setting : Setting TheEdit) (running : List Config) where
+  abbrev devices : List (RecordedState Config Node)
+  devices = map recorded running
+
+  fresh_asks : (change number members : ℕ) → AskLinks setting.plans [] devices change (fresh_slot number members)
+  fresh_asks change number members = each_same (λ d side. (j : ℕ) → IfSome (slice_get side.wire.links j) _) seat_count fresh_side (λ d j. tt)
+
+  slots_ask : (change : ℕ → ℕ) (plans : List ChangePlan) (base place : ℕ)
+      → IfSome (slice_get (slots_from base plans) place) (AskLinks setting.plans [] devices (change place))
+  slots_ask change [] base place = tt
+  slots_ask change (plan ∷ plans) base zero = fresh_asks (change 0) base (devices_in plan.edits)
+  slots_ask change (plan ∷ plans) base (suc place) = slots_ask (λ j. change (suc j)) plans (suc base) place
+
+  start_single : IsSingle {Node = Node} m setting (scene_of (start setting running))
+  start_single = record {
+    waits = none_wait Node running;
+    finds = none_find Node running;
+    known = first_at
+        (λ d r. (n : ℕ) → n < 2 ^ 32 → is_there (outcome_of (token_of n) r.history) ≡ true → IsKnown setting.plans [] n d) running
+        (λ place first begins n small is. absurd (let g : false ≡ true = is in cc));
+    asks = slots_ask suc setting.plans 1;
   }
 
-  followed_wait : (w : WorldState Config Node) (change : ℕ) → 1 ≤ change → (sending : Option Sending)
-      → IfSome sending (λ (one : Sending). 1 ≤ one.device) → IsWaiting w → IsWaiting (followed m setting w change sending)
-  followed_wait w change numbered None sent k = k
-  followed_wait w change numbered (Some sending) sent k =
-      let v = world_step m setting w (Deliver change sending.device sending.link) in
-      one_wait v (Answer change sending.device sending.link
-      (replies_on (wire_in (manager_in (scene_of v)) change sending.device) sending.link)) (numbered, sent)
-      (one_wait w (Deliver change sending.device sending.link) numbered k)
+-- ---- every run
 
-  rounds_wait : (n : ℕ) (w : WorldState Config Node) (change : ℕ) → 1 ≤ change → IsWaiting w → IsWaiting (rounds m setting n w change)
-  rounds_wait zero w change numbered k = k
-  rounds_wait (suc n) w change numbered k =
-      rounds_wait n (round m setting w change) change numbered
-      (followed_wait (world_step m setting w (Turn change)) change numbered
-      (sending_of (elementary m setting (scene_of w) (Turn change)).happened)
-      (turn_goes setting.plans (manager_in (scene_of w)) change (request_next setting.plans (manager_in (scene_of w)) change))
-      (one_wait w (Turn change) numbered k))
+module _ {Config TheEdit Node : Type 0} (m : Meaning Config TheEdit Node) (laws : Laws m) (setting : Setting TheEdit)
+    (running : List Config) (events : List Event) (proper : IsProper {Node = Node} m setting running events) where
+  -- a world in which change sets wait, and come one after another
+  record IsWaiting (w : WorldState Config Node) : Type 0 where
+    lasts : Lasts m laws setting proper.edits proper.few proper.strangers w
+    single : IsSingle m setting (scene_of w)
 
-  step_wait : (w : WorldState Config Node) (event : Event) → IsGiven setting event → IsWaiting w
-      → IsWaiting (event_step m setting w event)
-  step_wait w (Round change turns) given k = rounds_wait turns w change given k
-  step_wait w event given k = one_wait w event given k
+  one_wait : (w : WorldState Config Node) (event : Event) → IsGiven setting event → IsWaiting w → IsWaiting (world_step m setting w event)
+  one_wait w event given k =
+      let now : Lasts m laws setting proper.edits proper.few proper.strangers (world_step m setting w event) =
+      one_lasts m laws setting proper.edits proper.few proper.strangers w event given k.lasts in
+      let came = came_asks m setting (scene_of w) k.lasts.supported k.single.asks k.single.known k.lasts.going.tickets event given in
+      record {
+        lasts = now;
+        single =
+            next_single m setting (scene_of w) k.single (elementary m setting (scene_of w) event).after now.supported
+            (came_steps m setting proper.few (scene_of w) k.lasts.supported k.single event given) came.0 came.1;
+      }
 
-  pub run_wait : (w : WorldState Config Node) (events : List Event) → AreGiven setting events → IsWaiting w
-      → IsWaiting (run m setting w events)
-  run_wait w [] given k = k
-  run_wait w (event ∷ events) given k = run_wait (event_step m setting w event) events given.1 (step_wait w event given.0 k)
+  pub run_single : IsSingle m setting (scene_of (run m setting (start setting running) events))
+  run_single =
+      (run_keeps m setting IsWaiting one_wait (start setting running) events proper.given
+      (record { lasts = start_lasts m laws setting running events proper; single = start_single m setting running })).single
