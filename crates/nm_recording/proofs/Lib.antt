@@ -1,0 +1,11 @@
+pub mod Entries
+pub mod Aborts
+pub mod Tables
+pub mod Course
+pub mod Slots
+pub mod Keeping
+pub mod Managed
+pub mod Ends
+pub mod Later
+pub mod Replies
+pub mod Finishing
