@@ -25,7 +25,8 @@ use std::alloc::Global;
 use std::test::Fail;
 
 /// A name, a part of a scenario, and the line that tells its fault, or what is written of it where it has none.
-struct Row(&'static str, &'static str, &'static str);
+#[derive(Clone, Copy)]
+struct Row<'a>(&'a str, &'a str, &'a str);
 
 /// What stands around the part of a scenario, and around what is written of it where there is no fault.
 struct Frame {
@@ -77,8 +78,8 @@ fn replays_so(
 }
 
 // Fails where something else is written for a row. A fault has status 3.
-fn answers(alloc: Global, frame: &Frame, row: &Row) -> Result<(), Fail> {
-    let Row(name, part, line) = *row;
+fn answers(alloc: Global, frame: &Frame, row: Row<'_>) -> Result<(), Fail> {
+    let Row(name, part, line) = row;
     let text = format!(in alloc; "{}{part}{}", frame.open, frame.close)?;
     let (status, found) = written(alloc, frame.command, text.as_bytes())?;
     let (fitting, wanted) = if line.starts_with("scenario ") {
@@ -93,9 +94,24 @@ fn answers(alloc: Global, frame: &Frame, row: &Row) -> Result<(), Fail> {
 }
 
 // Fails where something else is written for one of the rows.
-fn all_answer(alloc: Global, frame: &Frame, rows: &[Row]) -> Result<(), Fail> {
+fn each_answers(alloc: Global, frame: &Frame, rows: &[Row<'_>]) -> Result<(), Fail> {
     for row in rows {
-        answers(alloc, frame, row)?;
+        answers(alloc, frame, *row)?;
+    }
+    Ok(())
+}
+
+// The row of a line: its name, its part and its line, parted by ` => `. A last one that is empty is left out.
+fn row_of(line: &str) -> Result<Row<'_>, Fail> {
+    let (name, rest) = line.split_once(" => ").ok_or("no row")?;
+    let (part, told) = rest.split_once(" => ").unwrap_or((rest, ""));
+    Ok(Row(name, part, told))
+}
+
+// The same of a table, which has a row in each line after the first. As one text it is cheap to prove.
+fn all_answer(alloc: Global, frame: &Frame, table: &str) -> Result<(), Fail> {
+    for line in table.lines().skip(1) {
+        answers(alloc, frame, row_of(line)?)?;
     }
     Ok(())
 }

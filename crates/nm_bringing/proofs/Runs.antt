@@ -5,13 +5,11 @@ use Rattle.nm_proto.specs.declared.plan.Event.{Event}
 use Rattle.nm_proto.specs.declared.plan.Event.TheVariants.{Submit, Turn, Deliver, Answer, Break, Lose, Advance, Restart, Forget, Crash, Renew, Foreign, Leave, Round}
 use Rattle.nm_proto.specs.Content.{Meaning, Laws}
 use Rattle.nm_device.specs.Device.{is_manager}
-use Rattle.nm_manager.specs.Manager.{wire_in, request_next}
-use Rattle.nm_network.specs.declared.happened.Sending.{Sending}
-use Rattle.nm_network.specs.World.{Setting, SceneState, WorldState, elementary, world_step, scene_of, manager_in, sending_of, replies_on, followed, round, rounds, event_step, run}
+use Rattle.nm_network.specs.World.{Setting, SceneState, WorldState, elementary, world_step, scene_of, run}
 use Rattle.nm_safety.specs.Safe.{IsGiven, AreGiven}
 use Rattle.nm_safety.specs.Support.{IsSupported}
 use Rattle.nm_safety.proofs.Runs.{one_supported}
-use Rattle.nm_safety.proofs.Sendings.{turn_goes}
+use Rattle.nm_safety.proofs.Steps.{run_keeps}
 use Rattle.nm_bringing.specs.Support.{AreBrought}
 use Rattle.nm_bringing.proofs.Deliver.{delivering_moves}
 use Rattle.nm_bringing.proofs.Ends.{anew_moves, losing_moves, passing_moves}
@@ -54,30 +52,6 @@ module _ {Config TheEdit Node : Type 0} (m : Meaning Config TheEdit Node) (laws 
     brought = came_brought (scene_of w) event given k.supported k.brought;
   }
 
-  followed_brought : (w : WorldState Config Node) (change : ℕ) → 1 ≤ change → (sending : Option Sending)
-      → IfSome sending (λ (one : Sending). 1 ≤ one.device) → IsBringing w → IsBringing (followed m setting w change sending)
-  followed_brought w change numbered None sent k = k
-  followed_brought w change numbered (Some sending) sent k =
-      let v = world_step m setting w (Deliver change sending.device sending.link) in
-      one_brought v (Answer change sending.device sending.link
-      (replies_on (wire_in (manager_in (scene_of v)) change sending.device) sending.link)) (numbered, sent)
-      (one_brought w (Deliver change sending.device sending.link) numbered k)
-
-  rounds_brought : (n : ℕ) (w : WorldState Config Node) (change : ℕ) → 1 ≤ change → IsBringing w → IsBringing (rounds m setting n w change)
-  rounds_brought zero w change numbered k = k
-  rounds_brought (suc n) w change numbered k =
-      rounds_brought n (round m setting w change) change numbered
-      (followed_brought (world_step m setting w (Turn change)) change numbered
-      (sending_of (elementary m setting (scene_of w) (Turn change)).happened)
-      (turn_goes setting.plans (manager_in (scene_of w)) change (request_next setting.plans (manager_in (scene_of w)) change))
-      (one_brought w (Turn change) numbered k))
-
-  step_brought : (w : WorldState Config Node) (event : Event) → IsGiven setting event → IsBringing w
-      → IsBringing (event_step m setting w event)
-  step_brought w (Round change turns) given k = rounds_brought turns w change given k
-  step_brought w event given k = one_brought w event given k
-
   pub run_brought : (w : WorldState Config Node) (events : List Event) → AreGiven setting events → IsBringing w
       → IsBringing (run m setting w events)
-  run_brought w [] given k = k
-  run_brought w (event ∷ events) given k = run_brought (event_step m setting w event) events given.1 (step_brought w event given.0 k)
+  run_brought w events given k = run_keeps m setting IsBringing one_brought w events given k

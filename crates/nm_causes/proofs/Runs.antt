@@ -14,17 +14,14 @@ use Rattle.nm_proto.specs.Content.{Meaning, Laws}
 use Rattle.nm_device.specs.Device.{is_manager}
 use Rattle.nm_manager.specs.Slot.{fresh_side, wire_of_side}
 use Rattle.nm_decider.specs.Course.{seat_count}
-use Rattle.nm_manager.specs.Manager.{slots_from, wire_in, wire_of, request_next, request_to}
-use Rattle.nm_network.specs.declared.happened.Sending.{Sending}
-use Rattle.nm_network.specs.World.{Setting, WorldState, elementary, world_step, scene_of, manager_in, sending_of, replies_on, followed, round, rounds}
-use Rattle.nm_network.specs.World.{event_step, run, start}
-use Rattle.nm_network.specs.Drain.{drain_event, drain_by, drain_step, drained}
-use Rattle.nm_network.proofs.ToRest.{IsStep, drain_event_is_step}
-use Rattle.nm_safety.specs.Safe.{IsGiven, AreGiven, IsProper}
+use Rattle.nm_manager.specs.Manager.{slots_from, wire_of, request_next, request_to}
+use Rattle.nm_network.specs.World.{Setting, WorldState, world_step, scene_of, manager_in, run, start}
+use Rattle.nm_network.specs.Drain.{drained}
+use Rattle.nm_safety.specs.Safe.{IsGiven, IsProper}
 use Rattle.nm_safety.specs.Support.{IsSupported}
-use Rattle.nm_safety.proofs.Lists.{to_some}
-use Rattle.nm_safety.proofs.Sendings.{turn_goes}
+use Rattle.nm_safety.proofs.Drained.{all_events, all_proper, drained_is}
 use Rattle.nm_safety.proofs.Runs.{one_supported}
+use Rattle.nm_safety.proofs.Steps.{run_keeps}
 use Rattle.nm_safety.proofs.Start.{begin_supported}
 use Rattle.nm_causes.specs.Causes.{exchanges_at, exchanges_on, HasCause, HaveCauses}
 use Rattle.nm_causes.proofs.Stays.{trouble_of, IsCaused, has_causes}
@@ -73,23 +70,6 @@ module _ {Config TheEdit Node : Type 0} (setting : Setting TheEdit) (running : L
 
 -- ---- every event
 
--- a step of a drain is an event that a scenario may have
-step_given : {TheEdit : Type 0} (setting : Setting TheEdit) (event : Event) → IsStep event → IsGiven setting event
-step_given setting (Submit change) step = absurd step
-step_given setting (Turn change) step = step
-step_given setting (Deliver change device link) step = step
-step_given setting (Answer change device link number) step = step
-step_given setting (Break change device) step = step
-step_given setting (Lose change device link) step = step
-step_given setting (Advance device seconds) step = absurd step
-step_given setting (Restart device) step = absurd step
-step_given setting (Forget change) step = absurd step
-step_given setting Crash step = absurd step
-step_given setting (Renew change device) step = absurd step
-step_given setting (Foreign operator device request) step = absurd step
-step_given setting (Leave operator device) step = step
-step_given setting (Round change turns) step = absurd step
-
 module _ {Config TheEdit Node : Type 0} (m : Meaning Config TheEdit Node) (laws : Laws m) (setting : Setting TheEdit)
     (edits : All m.edit_belongs setting.tables.edits) (few : length setting.plans ≤ 64)
     (strangers : (number : ℕ) → IfSome (slice_get setting.users number) (λ user. is_manager (Some user) ≡ false)) where
@@ -119,55 +99,23 @@ module _ {Config TheEdit Node : Type 0} (m : Meaning Config TheEdit Node) (laws 
   one_holds w event given h =
       record { supported = one_supported m laws setting edits few strangers w event given h.supported; caused = came_caused w event given h }
 
-  followed_holds : (w : WorldState Config Node) (change : ℕ) → 1 ≤ change → (sending : Option Sending)
-      → IfSome sending (λ (one : Sending). 1 ≤ one.device) → Holds w → Holds (followed m setting w change sending)
-  followed_holds w change numbered None sent h = h
-  followed_holds w change numbered (Some sending) sent h =
-      let v = world_step m setting w (Deliver change sending.device sending.link) in
-      one_holds v (Answer change sending.device sending.link (replies_on (wire_in (manager_in (scene_of v)) change sending.device) sending.link))
-      (numbered, sent)
-      (one_holds w (Deliver change sending.device sending.link) numbered h)
-
-  rounds_hold : (n : ℕ) (w : WorldState Config Node) (change : ℕ) → 1 ≤ change → Holds w → Holds (rounds m setting n w change)
-  rounds_hold zero w change numbered h = h
-  rounds_hold (suc n) w change numbered h =
-      rounds_hold n (round m setting w change) change numbered
-      (followed_holds (world_step m setting w (Turn change)) change numbered (sending_of (elementary m setting (scene_of w) (Turn change)).happened)
-      (turn_goes setting.plans (manager_in (scene_of w)) change (request_next setting.plans (manager_in (scene_of w)) change))
-      (one_holds w (Turn change) numbered h))
-
-  step_holds : (w : WorldState Config Node) (event : Event) → IsGiven setting event → Holds w → Holds (event_step m setting w event)
-  step_holds w (Round change turns) given h = rounds_hold turns w change given h
-  step_holds w event given h = one_holds w event given h
-
-  run_holds : (w : WorldState Config Node) (events : List Event) → AreGiven setting events → Holds w → Holds (run m setting w events)
-  run_holds w [] given h = h
-  run_holds w (event ∷ events) given h = run_holds (event_step m setting w event) events given.1 (step_holds w event given.0 h)
-
-  drain_by_holds : (w : WorldState Config Node) (event : Option Event) → IfSome event (IsGiven setting) → Holds w → Holds (drain_by m setting w event)
-  drain_by_holds w None given h = h
-  drain_by_holds w (Some event) given h = one_holds w event given h
-
-  drained_holds : (n : ℕ) (w : WorldState Config Node) → Holds w → Holds (drained m setting n w)
-  drained_holds zero w h = h
-  drained_holds (suc n) w h =
-      drained_holds n (drain_step m setting w)
-      (drain_by_holds w (drain_event setting w)
-      (to_some (IsGiven setting) (drain_event setting w) (λ x is. step_given setting x (drain_event_is_step setting w x is))) h)
-
 -- ---- the whole
 
 module _ {Config TheEdit Node : Type 0} (m : Meaning Config TheEdit Node) (laws : Laws m) (setting : Setting TheEdit) (running : List Config)
     (events : List Event) (proper : IsProper {Node = Node} m setting running events) where
   ran_holds : Holds m laws setting proper.edits proper.few proper.strangers (run m setting (start {Node = Node} setting running) events)
   ran_holds =
-      run_holds m laws setting proper.edits proper.few proper.strangers (start {Node = Node} setting running) events proper.given
+      run_keeps m setting (Holds m laws setting proper.edits proper.few proper.strangers)
+      (one_holds m laws setting proper.edits proper.few proper.strangers) (start {Node = Node} setting running) events proper.given
       (record { supported = begin_supported m setting running proper.first; caused = begin_caused setting running })
 
   pub run_has_causes : HaveCauses (run m setting (start {Node = Node} setting running) events)
   run_has_causes = has_causes (run m setting (start {Node = Node} setting running) events) ran_holds.caused
 
+module _ {Config TheEdit Node : Type 0} (m : Meaning Config TheEdit Node) (laws : Laws m) (setting : Setting TheEdit) (running : List Config)
+    (events : List Event) (proper : IsProper {Node = Node} m setting running events) where
   pub drained_has_causes : (steps : ℕ) → HaveCauses (drained m setting steps (run m setting (start {Node = Node} setting running) events))
   drained_has_causes steps =
-      let w = run m setting (start {Node = Node} setting running) events in
-      has_causes (drained m setting steps w) (drained_holds m laws setting proper.edits proper.few proper.strangers steps w ran_holds).caused
+      subst HaveCauses (drained_is m laws setting running events steps)
+      (run_has_causes m laws setting running (all_events m laws setting running events steps)
+      (all_proper m laws setting running events steps proper))

@@ -1,12 +1,12 @@
 //! Whether a configuration is valid: the violation that is told of it, of the first rule that is violated, at the least path.
 //!
-//! Stands on `nm_validate` and `nm_reached`, which answer for eight of the nine rules, and on `nm_rules`, whose
+//! Stands on `nm_validate`, `nm_reached` and `nm_unique`, which answer for eight of the nine rules, and on `nm_rules`, whose
 //! definitions say when a rule is violated. The layers above rely on nothing being told exactly of what is valid, and on
 //! what is told being the least violation.
 #![tactic(auto)]
 
 mod checked;
-mod child;
+pub mod child;
 pub mod laws;
 mod one_case;
 mod places;
@@ -15,8 +15,3 @@ pub mod violation;
 pub use checked::check_rows;
 pub use one_case::least_other_case;
 pub use violation::{Violation, violation_of};
-
-#[cfg(test)]
-mod tests;
-#[cfg(test)]
-mod told_tests;

@@ -13,10 +13,11 @@ use nm_reached::least_unreached;
 use nm_rules::Rule;
 use nm_tree::Schema;
 use nm_types::Path;
+use nm_unique::least_repeated_entry;
 use nm_validate::areas::{Grouped, group_rows};
 use nm_validate::{
-    least_bad_key, least_bad_value, least_missing_choice, least_missing_leaf, least_repeated_entry,
-    least_too_few, least_too_many,
+    least_bad_key, least_bad_value, least_missing_choice, least_missing_leaf, least_too_few,
+    least_too_many,
 };
 use std::alloc::Global;
 use std::marker::Model;

@@ -45,104 +45,42 @@ fn first_clash(alloc: Global, clashes: &Clashes<'_>, count: usize) -> Result<Str
 }
 
 // A module's text; the nodes in it, and the first clash, by the number of its row (RFC 7950 sections 6.2.1, 7.9 and 7.13).
-const CLASHES: [(&str, &str); 28] = [
-    ("module m { leaf a; leaf b; }", "none"),
-    ("module m { leaf a; leaf b; container a; }", "duplicate a 3"),
-    (
-        "module m { grouping g { leaf a; leaf b; leaf c; } leaf b; leaf c; uses g; }",
-        "duplicate b 7",
-    ),
-    (
-        "module m { grouping g { leaf a; } uses g; uses g; }",
-        "duplicate a 4",
-    ),
-    (
-        "module m { grouping g { leaf a; } uses g; container c { uses g; } }",
-        "none",
-    ),
-    (
-        "module m { grouping g { uses h; } grouping h { leaf a; } uses g; leaf a; }",
-        "duplicate a 6",
-    ),
-    (
-        "module m { grouping g { leaf a; leaf b; leaf c; leaf d; leaf e; leaf f; leaf g; leaf h; leaf i; } leaf i; uses g; }",
-        "duplicate i 12",
-    ),
-    (
-        "module m { grouping g { leaf a; leaf b; leaf c; leaf d; leaf e; leaf f; leaf g; leaf h; leaf i; } uses g; leaf i; }",
-        "duplicate i 12",
-    ),
-    (
-        "module m { grouping g { leaf a; leaf b; leaf c; leaf d; leaf e; leaf f; leaf g; leaf h; leaf i; } grouping o { leaf j; leaf k; leaf l; leaf m; leaf n; leaf h; leaf i; leaf o; leaf p; leaf q; } uses g; uses o; }",
-        "duplicate h 23",
-    ),
-    (
-        "module m { grouping g { leaf a; leaf b; leaf c; leaf d; leaf e; leaf f; leaf g; leaf h; leaf i; } leaf j; uses g; leaf k; container z { uses g; leaf j; } }",
-        "none",
-    ),
-    (
-        "module m { leaf a; uses nowhere; leaf a; }",
-        "duplicate a 3",
-    ),
-    (
-        "module m { leaf c; container c { uses nowhere; } }",
-        "duplicate c 2",
-    ),
-    (
-        "module m { grouping g { leaf a; container c { uses g; } } uses g; leaf a; }",
-        "duplicate a 6",
-    ),
-    (
-        "module m { choice c { case c { leaf a; } case a { leaf b; } case e; } leaf e; }",
-        "none",
-    ),
-    ("module m { choice c { leaf a; } leaf a; }", "duplicate a 3"),
-    ("module m { leaf c; choice c; }", "duplicate c 2"),
-    ("module m { choice c { leaf c; } }", "duplicate c 2"),
-    (
-        "module m { choice c { case d { choice e { case f { leaf c; } } } } }",
-        "duplicate c 5",
-    ),
-    (
-        "module m { choice c { case d { leaf a; } case e { leaf a; } } }",
-        "duplicate a 5",
-    ),
-    ("module m { choice c { case d; case d; } }", "duplicate d 3"),
-    ("module m { choice c { case d; leaf d; } }", "duplicate d 3"),
-    (
-        "module m { choice c { case d; choice d; } }",
-        "duplicate d 3",
-    ),
-    (
-        "module m { choice c { case d; } choice e { case d; } }",
-        "none",
-    ),
-    (
-        "module m { choice c { case d { choice e { case d; } } } }",
-        "none",
-    ),
-    (
-        "module m { grouping g { choice c { case a { leaf b; } } } leaf b; uses g; }",
-        "duplicate b 6",
-    ),
-    (
-        "module m { grouping g { choice c { case a { leaf b; } } } leaf a; choice d { case e { uses g; } } leaf c; }",
-        "duplicate c 9",
-    ),
-    (
-        "module m { grouping g { choice c { case a { uses h; } } } grouping h { leaf c; } }",
-        "duplicate c 4",
-    ),
-    (
-        "module m { container c { choice d { config false; leaf e; } leaf e; } }",
-        "duplicate e 5",
-    ),
-];
+const CLASHES: &str = r#"
+module m { leaf a; leaf b; } => none
+module m { leaf a; leaf b; container a; } => duplicate a 3
+module m { grouping g { leaf a; leaf b; leaf c; } leaf b; leaf c; uses g; } => duplicate b 7
+module m { grouping g { leaf a; } uses g; uses g; } => duplicate a 4
+module m { grouping g { leaf a; } uses g; container c { uses g; } } => none
+module m { grouping g { uses h; } grouping h { leaf a; } uses g; leaf a; } => duplicate a 6
+module m { grouping g { leaf a; leaf b; leaf c; leaf d; leaf e; leaf f; leaf g; leaf h; leaf i; } leaf i; uses g; } => duplicate i 12
+module m { grouping g { leaf a; leaf b; leaf c; leaf d; leaf e; leaf f; leaf g; leaf h; leaf i; } uses g; leaf i; } => duplicate i 12
+module m { grouping g { leaf a; leaf b; leaf c; leaf d; leaf e; leaf f; leaf g; leaf h; leaf i; } grouping o { leaf j; leaf k; leaf l; leaf m; leaf n; leaf h; leaf i; leaf o; leaf p; leaf q; } uses g; uses o; } => duplicate h 23
+module m { grouping g { leaf a; leaf b; leaf c; leaf d; leaf e; leaf f; leaf g; leaf h; leaf i; } leaf j; uses g; leaf k; container z { uses g; leaf j; } } => none
+module m { leaf a; uses nowhere; leaf a; } => duplicate a 3
+module m { leaf c; container c { uses nowhere; } } => duplicate c 2
+module m { grouping g { leaf a; container c { uses g; } } uses g; leaf a; } => duplicate a 6
+module m { choice c { case c { leaf a; } case a { leaf b; } case e; } leaf e; } => none
+module m { choice c { leaf a; } leaf a; } => duplicate a 3
+module m { leaf c; choice c; } => duplicate c 2
+module m { choice c { leaf c; } } => duplicate c 2
+module m { choice c { case d { choice e { case f { leaf c; } } } } } => duplicate c 5
+module m { choice c { case d { leaf a; } case e { leaf a; } } } => duplicate a 5
+module m { choice c { case d; case d; } } => duplicate d 3
+module m { choice c { case d; leaf d; } } => duplicate d 3
+module m { choice c { case d; choice d; } } => duplicate d 3
+module m { choice c { case d; } choice e { case d; } } => none
+module m { choice c { case d { choice e { case d; } } } } => none
+module m { grouping g { choice c { case a { leaf b; } } } leaf b; uses g; } => duplicate b 6
+module m { grouping g { choice c { case a { leaf b; } } } leaf a; choice d { case e { uses g; } } leaf c; } => duplicate c 9
+module m { grouping g { choice c { case a { uses h; } } } grouping h { leaf c; } } => duplicate c 4
+module m { container c { choice d { config false; leaf e; } leaf e; } } => duplicate e 5
+"#;
 
 #[test]
 fn finds_clashes(rt: HostRuntime) -> Result<(), Fail> {
     let alloc = rt.alloc();
-    for (text, expected) in &CLASHES {
+    for row in CLASHES.lines().skip(1) {
+        let (text, expected) = row.split_once(" => ").ok_or("no row")?;
         let modules = [read_module(alloc, text.as_bytes())?];
         let rows = rows_of(alloc, &modules)?;
         let groupings = groupings_of(alloc, &rows)?;
@@ -150,7 +88,7 @@ fn finds_clashes(rt: HostRuntime) -> Result<(), Fail> {
             let clashes = clashes_of(alloc, &rows, &groupings)?;
             assert_eq!(rt;
                 first_clash(alloc, &clashes, rows.len())?.as_str(),
-                *expected,
+                expected,
                 "{text}"
             );
         } else {

@@ -3,3 +3,4 @@ pub mod Contiguous
 pub mod Meaning
 pub mod Maps
 pub mod Ranges
+pub mod Sorted

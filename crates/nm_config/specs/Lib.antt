@@ -1,2 +1,3 @@
+pub mod Rough
 pub mod Rows
 pub mod Under

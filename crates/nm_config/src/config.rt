@@ -8,6 +8,7 @@ ghost use Rattle.nm_types.specs.declared.value.Value.{Value as LeafValue};
 ghost use Rattle.nm_config.specs.Rows.{next_path, with_entries};
 ghost use Rattle.nm_config.specs.Under.{is_under as under_node, rows_under, rows_outside, has_under, under, without_rows, without_under};
 
+use crate::rough::of_row;
 use crate::under::is_under;
 use nm_base::NoMemory;
 use nm_types::{Path, Value};
@@ -52,10 +53,8 @@ impl Config {
     pub fn of_rows(alloc: Global, rows: Vec<(Path, Value)>) -> Result<Config, NoMemory>
         ensures { IfOk result (λ config. config ≡ with_entries map.empty rows.items) }
     {
-        if falls(&rows) {
-            return put_all(alloc, rows);
-        }
-        let tree = BTreeMap::from_iter(alloc, rows)?;
+        let near = in_rough_order(rows)?;
+        let tree = BTreeMap::from_iter(alloc, near)?;
         Ok(Config { alloc, tree })
     }
 
@@ -160,23 +159,28 @@ impl Config {
     }
 }
 
-// Whether the last of some rows stands before the first.
+// How many places are looked at for rows in disorder.
+const LOOKS: usize = 64;
+
+// Whether some rows are in disorder at one of a few places.
 fn falls(rows: &[(Path, Value)]) -> bool {
-    match (rows.first(), rows.last()) {
-        (Some((first, _)), Some((last, _))) => last < first,
-        _ => false,
-    }
+    let step = rows.len() / LOOKS + 1;
+    rows.iter()
+        .zip(rows.iter().skip(1))
+        .step_by(step)
+        .any(|(before, after)| after.0 < before.0)
 }
 
-// The configuration of some rows, which are put into it one after another.
-fn put_all(alloc: Global, rows: Vec<(Path, Value)>) -> Result<Config, NoMemory>
-    ensures { IfOk result (λ config. config ≡ with_entries map.empty rows.items) }
+// Some rows near path order. Rows with one path keep their order.
+fn in_rough_order(rows: Vec<(Path, Value)>) -> Result<Vec<(Path, Value)>, NoMemory>
+    ensures { IfOk result (λ near. with_entries (map.empty {R = path_cmp}) near.items ≡ with_entries map.empty rows.items) }
 {
-    let mut config = Config::new(alloc);
-    for (path, value) in rows {
-        config.put(path, value)?;
+    if !falls(&rows) {
+        return Ok(rows);
     }
-    Ok(config)
+    let mut near = rows;
+    near.sort_by_cached_key(of_row)?;
+    Ok(near)
 }
 
 // Whether a row is at or below a node: the first at or after it would be.

@@ -8,6 +8,7 @@
 mod calls;
 pub mod config;
 pub mod laws;
+mod rough;
 pub mod row_map;
 mod under;
 
@@ -15,6 +16,3 @@ pub use calls::{copy, get, insert, remove_under};
 pub use config::Config;
 pub use row_map::RowMap;
 pub use under::is_under;
-
-#[cfg(test)]
-mod tests;

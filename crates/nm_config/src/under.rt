@@ -43,7 +43,7 @@ fn takes_in(chosen: &Chosen, other: &Chosen) -> bool
     is_whole(chosen) || chosen.same(other)
 }
 
-fn is_whole(chosen: &Chosen) -> bool
+pub fn is_whole(chosen: &Chosen) -> bool
     ensures { result ≡ under.is_whole (choice_of chosen.now) }
 {
     match chosen {

@@ -56,8 +56,12 @@ use Rattle.nm_proto.specs.Flat.{flat_has_mark}
 use Rattle.nm_refusing.specs.Refuses.{RefusesGone}
 use Rattle.nm_refusing.proofs.Alone.{run_refuses}
 use Rattle.nm_refusing.proofs.Drained.{drained_refuses}
+use Rattle.nm_recording.specs.Records.{EndsAsRecorded}
+use Rattle.nm_recording.proofs.Whole.{run_ends_so, drained_ends_so}
 use Rattle.nm_causes.specs.Causes.{HaveCauses}
 use Rattle.nm_causes.proofs.Runs.{run_has_causes, drained_has_causes}
+use Rattle.nm_lapsing.specs.Lapses.{LapsesAreUndone}
+use Rattle.nm_lapsing.proofs.Runs.{run_lapses, drained_lapses}
 use Rattle.nm_calm.specs.Calm.{IsCalm, IsCommitted}
 use Rattle.nm_calm.proofs.Rests.{calm_commits}
 use Rattle.nm_ending.specs.Rest.{HasDevices, IsWithin}
@@ -238,6 +242,10 @@ module _ {Config TheEdit Node : Type 0} (m : Meaning Config TheEdit Node) (laws 
   causes_if false = run_has_causes m laws (setting_of edits s) devices s.events proper
   causes_if true = drained_has_causes m laws (setting_of edits s) devices s.events proper drain_limit
 
+  lapses_if : (drain : Bool) → LapsesAreUndone (led_to m (setting_of edits s) s.events drain (start (setting_of edits s) devices))
+  lapses_if false = run_lapses m laws (setting_of edits s) devices s.events proper
+  lapses_if true = drained_lapses m laws (setting_of edits s) devices s.events drain_limit proper
+
   marks_if : (drain : Bool) → ArePlain m (setting_of edits s) → MarksTell m (led_to m (setting_of edits s) s.events drain (start (setting_of edits s) devices))
   marks_if false plain = run_tells m laws (setting_of edits s) devices s.events proper plain unmarked
   marks_if true plain = drained_tells m laws (setting_of edits s) devices s.events drain_limit proper plain unmarked
@@ -245,6 +253,11 @@ module _ {Config TheEdit Node : Type 0} (m : Meaning Config TheEdit Node) (laws 
   stays_if : (drain : Bool) → MarksStay m (led_to m (setting_of edits s) s.events drain (start (setting_of edits s) devices))
   stays_if false = run_stays m laws (setting_of edits s) devices s.events proper
   stays_if true = drained_stays m laws (setting_of edits s) devices s.events drain_limit proper
+
+  ends_if : (drain : Bool) → ArePlain m (setting_of edits s)
+      → EndsAsRecorded (setting_of edits s) (led_to m (setting_of edits s) s.events drain (start (setting_of edits s) devices))
+  ends_if false plain = run_ends_so m laws (setting_of edits s) devices s.events proper plain unmarked
+  ends_if true plain = drained_ends_so m laws (setting_of edits s) devices s.events drain_limit proper plain unmarked
 
   plans_there : HasDevices (setting_of edits s) (length devices)
   plans_there place = got (λ plan. All (IsWithin (length devices)) plan.edits) s.changes place
@@ -274,8 +287,10 @@ module _ {Config TheEdit Node : Type 0} (m : Meaning Config TheEdit Node) (laws 
     leaves = leaves_if s.drain;
     refuses = refuses_if s.drain;
     causes = causes_if s.drain;
+    lapses = lapses_if s.drain;
     marks = marks_if s.drain;
     stays = stays_if s.drain;
+    ends = ends_if s.drain;
     rests = rests_if s.drain;
     calm = λ plan calm is drained. calm_if plan calm s.events is s.drain drained (rests_if s.drain drained);
   }

@@ -27,7 +27,9 @@ use Rattle.nm_safety.specs.Safe.{IsSafe}
 use Rattle.nm_bringing.specs.Brings.{BringsAlone}
 use Rattle.nm_leaving.specs.Leaves.{LeavesAlone}
 use Rattle.nm_refusing.specs.Refuses.{RefusesGone}
+use Rattle.nm_recording.specs.Records.{EndsAsRecorded}
 use Rattle.nm_causes.specs.Causes.{HaveCauses}
+use Rattle.nm_lapsing.specs.Lapses.{LapsesAreUndone}
 use Rattle.nm_marking.specs.Marks.{ArePlain, MarksTell}
 use Rattle.nm_marking.specs.Stays.{MarksStay}
 use Rattle.nm_calm.specs.Calm.{IsCalm, IsCommitted}
@@ -303,10 +305,14 @@ pub record IsSafeRun {Config TheEdit Node : Type 0} (m : Meaning Config TheEdit 
   pub leaves : LeavesAlone m (setting_of edits s) devices (world_of m devices edits s)
   pub refuses : RefusesGone m (setting_of edits s) devices (world_of m devices edits s)
   pub causes : HaveCauses (world_of m devices edits s)
+  -- where that is a lapse of a renewal, the change set was undone there
+  pub lapses : LapsesAreUndone (world_of m devices edits s)
   -- where no edit of a change set names a mark, marks tell which change sets are at a device
   pub marks : ArePlain m (setting_of edits s) → MarksTell m (world_of m devices edits s)
   -- change sets come to a device one after another, and the mark of one that isn't ended stays where that is
   pub stays : MarksStay m (world_of m devices edits s)
+  -- and what the journal records at the end of a change set is so: nothing of it is pending, and who kept it are those where it is confirmed
+  pub ends : ArePlain m (setting_of edits s) → EndsAsRecorded (setting_of edits s) (world_of m devices edits s)
   -- a run that is to be brought to rest is at rest
   pub rests : s.drain ≡ true → drain_event (setting_of edits s) (world_of m devices edits s) ≡ None
   -- one that is calm, whose one change set is submitted and brought to rest, commits it everywhere

@@ -25,6 +25,3 @@ pub use members::{ListFault, ListFlaw, Listed, Member, Numbering};
 pub use names::{BuiltIn, built_in};
 pub use parts::read_parts;
 pub use restrictions::{Restrictions, step};
-
-#[cfg(test)]
-mod tests;

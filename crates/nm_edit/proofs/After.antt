@@ -19,7 +19,7 @@ use Rattle.nm_edit.specs.declared.edit.EditNode.{EditNode}
 use Rattle.nm_edit.specs.declared.act.Act.{Act}
 use Rattle.nm_edit.specs.Acts.{acts, coming}
 use Rattle.nm_edit.specs.Refusals.{first_refusal}
-use Rattle.nm_edit.specs.Edited.{all_without, gone, ousted, held, base_of, brought, limited, unless, edited_rows}
+use Rattle.nm_edit.specs.Edited.{all_without, gone, ousted, held, base_of, moves_by, moved, brought, limited, unless, edited_rows}
 use Rattle.nm_edit.specs.Laws.{last_at, goes, value_by, value_after}
 
 -- ---- what goes
@@ -72,6 +72,12 @@ get_brought t old base done path =
     ∙ ap (option_or (last_at (held t old new) path)) (
     ap (λ (m : Rows). get m path) (sym (fold-append without_under base (gone done) (ousted t new)))
     ∙ get_all_without base (gone done ++ ousted t new) path))
+
+-- what goes by one list and by another goes by both
+pub moved_brought : (t : SchemaTree) (old base : Rows) (done : List Act) → moved base (moves_by t old done) ≡ brought t old base done
+moved_brought t old base done =
+    let new = coming done in
+    ap (λ (m : Rows). with_entries (with_entries m (held t old new)) new) (fold-append without_under base (gone done) (ousted t new))
 
 under_limit : (b : Bool) (r : Refusal) (made rows : Rows) → (if b then Err r else Ok made) ≡ Ok rows → made ≡ rows
 under_limit true r made rows e = absurd (cc)

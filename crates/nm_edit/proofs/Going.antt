@@ -1,25 +1,21 @@
 -- What goes, one node after another.
-use Rattle.std.proofs.Common.{◌≡◌, ℕ, suc, ◌+◌, ◌-◌, ◌<◌, List, [], ◌∷◌, ◌++◌, length, Bool, true, false, ◌&&◌, None, if◌then◌else◌, refl, sym, ap, ◌∙◌, arith}
+use Rattle.std.proofs.Common.{◌≡◌, ℕ, suc, ◌+◌, ◌-◌, ◌<◌, List, [], ◌∷◌, ◌++◌, length, Bool, true, false, ◌&&◌, None, if◌then◌else◌, refl, sym, ap, ◌∙◌, append_assoc, arith}
 use Rattle.std.specs.List.{flat_map, list_any, range_with_len}
-use Rattle.std.proofs.lemmas.Grind.{fold-append}
 use Rattle.nm_types.specs.Path.{PathStep}
 use Rattle.nm_tree.specs.Nodes.{SchemaTree, same_parent, parent_of, case_at}
-use Rattle.nm_config.specs.Rows.{Rows}
-use Rattle.nm_config.specs.Under.{without_under}
 use Rattle.nm_rules.specs.Cases.{bare, numbers, outwards, cases_over}
-use Rattle.nm_edit.specs.Edited.{all_without}
 use Rattle.nm_edit.specs.Rivals.{is_in_other, are_rivals, rival_at, rivals_of}
 
 -- one number more is looked at
 range_step : (i n : ℕ) → i < n → range_with_len i (n - i) ≡ i ∷ range_with_len (i + 1) (n - (i + 1))
 range_step i n lt = let e : n - i ≡ suc (n - (i + 1)) = omega (arith, lt) in ap (range_with_len i) e
 
--- what a number more takes away and what those that are left take
-pub one_more : (f : ℕ → List (List PathStep)) (i n : ℕ) (rows after : Rows) → i < n → after ≡ all_without rows (f i)
-    → all_without after (flat_map f (range_with_len (i + 1) (n - (i + 1)))) ≡ all_without rows (flat_map f (range_with_len i (n - i)))
-one_more f i n rows after lt e =
+-- what a number more says goes, and what those that are left say
+pub one_more : (f : ℕ → List (List PathStep)) (i n : ℕ) (nodes after : List (List PathStep)) → i < n → after ≡ nodes ++ f i
+    → after ++ flat_map f (range_with_len (i + 1) (n - (i + 1))) ≡ nodes ++ flat_map f (range_with_len i (n - i))
+one_more f i n nodes after lt e =
     let rest = flat_map f (range_with_len (i + 1) (n - (i + 1))) in
-    ap (λ (m : Rows). all_without m rest) e ∙ sym (fold-append without_under rows (f i) rest) ∙ ap (λ ns. all_without rows (flat_map f ns)) (sym (range_step i n lt))
+    ap (λ (ns : List (List PathStep)). ns ++ rest) e ∙ append_assoc nodes (f i) rest ∙ ap (λ ns. nodes ++ flat_map f ns) (sym (range_step i n lt))
 
 false_second : (b c : Bool) → c ≡ false → (b && c) ≡ false
 false_second true c e = e
@@ -34,5 +30,5 @@ none_gone : (t : SchemaTree) (above : List PathStep) (x : ℕ) → case_at t.nod
 none_gone t above x e [] = refl
 none_gone t above x e (y ∷ ys) = ap (λ b. (if b then (above ++ bare t.nodes y ∷ []) ∷ [] else []) ++ flat_map (rival_at t above x) ys) (no_rivals t x y e) ∙ none_gone t above x e ys
 
-pub none_goes : (t : SchemaTree) (above : List PathStep) (x : ℕ) (rows : Rows) → case_at t.nodes x ≡ None → rows ≡ all_without rows (rivals_of t above x)
-none_goes t above x rows e = ap (all_without rows) (sym (none_gone t above x e (numbers t.nodes)))
+pub none_goes : (t : SchemaTree) (above : List PathStep) (x : ℕ) → case_at t.nodes x ≡ None → rivals_of t above x ≡ []
+none_goes t above x e = none_gone t above x e (numbers t.nodes)

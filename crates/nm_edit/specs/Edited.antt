@@ -81,6 +81,20 @@ brought_by t old base goes rows = with_entries (with_entries (all_without (all_w
 abbrev pub brought : SchemaTree → Rows → Rows → List Act → Rows
 brought t old base done = brought_by t old base (gone done) (coming done)
 
+-- what is done to rows: the nodes that go, the rows that are held, and the rows that come
+pub record RowMoves : Type 0 where
+  pub goes : List (List PathStep)
+  pub held : List (List PathStep × Value)
+  pub comes : List (List PathStep × Value)
+
+-- what an edit does to the rows that it begins with, by what is there
+abbrev pub moves_by : SchemaTree → Rows → List Act → RowMoves
+moves_by t old done = record { goes = gone done ++ ousted t (coming done); held = held t old (coming done); comes = coming done }
+
+-- rows once nodes go, and then what is held and what comes is put
+abbrev pub moved : Rows → RowMoves → Rows
+moved rows moves = with_entries (with_entries (all_without rows moves.goes) moves.held) moves.comes
+
 -- a configuration has at most 20,000 rows (this project's own)
 abbrev pub limited : Rows → Result Rows Refusal
 limited rows = if nat_lt row_limit (len rows) then Err (record { tag = ResourceDenied; path = [] }) else Ok rows

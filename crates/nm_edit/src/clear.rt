@@ -1,6 +1,6 @@
-//! What an edit takes away before its rows come.
+//! The nodes that go before the rows of an edit come.
 
-ghost use Rattle.std.specs.Prelude.{◌≡◌, ◌++◌, ◌∷◌, [], IfOk, OnOk};
+ghost use Rattle.std.specs.Prelude.{◌≡◌, ◌++◌, IfOk, OnOk};
 ghost use Rattle.nm_rules.specs.Cases as cases;
 ghost use Rattle.nm_edit.specs.Edited as spec;
 ghost use Rattle.nm_edit.specs.Rivals as rival_spec;
@@ -8,16 +8,14 @@ ghost use Rattle.nm_edit.specs.Rivals as rival_spec;
 use crate::act::Act;
 use crate::rivals::are_rivals;
 use nm_base::{Label, NoMemory};
-use nm_config::RowMap;
 use nm_path::node_of;
 use nm_tree::Schema;
 use nm_types::{Chosen, Path, Step, Value};
 use std::alloc::Global;
 
-// Takes away what is at or below a node of which the edit says that it goes.
-fn clear_act<M: RowMap>(config: &mut M, act: &Act) -> Result<(), NoMemory>
-    ensures cleared { OnOk result (M.rows config.new ≡ spec.all_without (M.rows config.old) (spec.gone_at act.now)) }
-    ensures base { M.base config.new ≡ M.base config.old }
+// Puts the path of a node behind the others, where the edit says that it goes.
+fn put_gone(alloc: Global, act: &Act, nodes: &mut Vec<Path>) -> Result<(), NoMemory>
+    ensures { OnOk result (nodes.new.items ≡ nodes.old.items ++ spec.gone_at act.now) }
 {
     if !act.is_explicit {
         return Ok(());
@@ -25,18 +23,19 @@ fn clear_act<M: RowMap>(config: &mut M, act: &Act) -> Result<(), NoMemory>
     if !act.operation.clears() {
         return Ok(());
     }
-    config.take_under(&act.path)
+    nodes.push(act.path.copy(alloc)?)?;
+    Ok(())
 }
 
-/// Takes away what is at or below the nodes of which the edit says that they go.
-pub fn clear_acts<M: RowMap>(config: &mut M, acts: &[Act]) -> Result<(), NoMemory>
-    ensures cleared { OnOk result (M.rows config.new ≡ spec.all_without (M.rows config.old) (spec.gone acts.now)) }
-    ensures base { M.base config.new ≡ M.base config.old }
+/// The nodes of which the edit says that they go.
+pub fn gone_of(alloc: Global, acts: &[Act]) -> Result<Vec<Path>, NoMemory>
+    ensures { IfOk result (λ nodes. nodes.items ≡ spec.gone acts.now) }
 {
+    let mut nodes = Vec::new(alloc);
     for act in acts {
-        clear_act(config, act)?;
+        put_gone(alloc, act, &mut nodes)?;
     }
-    Ok(())
+    Ok(nodes)
 }
 
 // The step to a node that chooses no entry.
@@ -57,53 +56,50 @@ fn bare(alloc: Global, schema: &Schema, at: usize) -> Result<Step, NoMemory>
     })
 }
 
-// Takes away what is at or below a node at a place, where it is a rival of a node that comes there.
-fn clear_rival<M: RowMap>(
+// Puts the path of a node at a place behind the others, where it is a rival of a node that comes there.
+fn put_rival(
     alloc: Global,
     schema: &Schema,
-    config: &mut M,
     above: &Path,
     at: usize,
     other: usize,
+    nodes: &mut Vec<Path>,
 ) -> Result<(), NoMemory>
-    ensures cleared { OnOk result (M.rows config.new ≡ spec.all_without (M.rows config.old) (rival_spec.rival_at schema.now above.now at other)) }
-    ensures base { M.base config.new ≡ M.base config.old }
+    ensures { OnOk result (nodes.new.items ≡ nodes.old.items ++ rival_spec.rival_at schema.now above.now at other) }
 {
     if !are_rivals(schema, at, other) {
         return Ok(());
     }
     let step = bare(alloc, schema, other)?;
-    let path = above.with_step(alloc, step)?;
-    config.take_under(&path)
+    nodes.push(above.with_step(alloc, step)?)?;
+    Ok(())
 }
 
-// Takes away what is at or below all rivals of a node that stands in a case.
-fn clear_all_rivals<M: RowMap>(
+// Puts the paths of all rivals of a node that stands in a case behind the others.
+fn put_all_rivals(
     alloc: Global,
     schema: &Schema,
-    config: &mut M,
     above: &Path,
     at: usize,
+    nodes: &mut Vec<Path>,
 ) -> Result<(), NoMemory>
-    ensures cleared { OnOk result (M.rows config.new ≡ spec.all_without (M.rows config.old) (rival_spec.rivals_of schema.now above.now at)) }
-    ensures base { M.base config.new ≡ M.base config.old }
+    ensures { OnOk result (nodes.new.items ≡ nodes.old.items ++ rival_spec.rivals_of schema.now above.now at) }
 {
     for other in 0..schema.len() {
-        clear_rival(alloc, schema, config, above, at, other)?;
+        put_rival(alloc, schema, above, at, other, nodes)?;
     }
     Ok(())
 }
 
-// Takes away what is at or below the rivals of a node that comes at a place.
-fn clear_rivals<M: RowMap>(
+// Puts the paths of the rivals of a node that comes at a place behind the others.
+fn put_rivals(
     alloc: Global,
     schema: &Schema,
-    config: &mut M,
     above: &Path,
     at: Option<usize>,
+    nodes: &mut Vec<Path>,
 ) -> Result<(), NoMemory>
-    ensures cleared { OnOk result (M.rows config.new ≡ spec.all_without (M.rows config.old) (rival_spec.rivals_at schema.now above.now at)) }
-    ensures base { M.base config.new ≡ M.base config.old }
+    ensures { OnOk result (nodes.new.items ≡ nodes.old.items ++ rival_spec.rivals_at schema.now above.now at) }
 {
     let Some(at) = at else {
         return Ok(());
@@ -111,18 +107,17 @@ fn clear_rivals<M: RowMap>(
     if schema.case_in(at).is_none() {
         return Ok(());
     }
-    clear_all_rivals(alloc, schema, config, above, at)
+    put_all_rivals(alloc, schema, above, at, nodes)
 }
 
-// Takes away what is at or below the rivals of each node on the way to a row that comes.
-fn clear_along<M: RowMap>(
+// Puts the paths of the rivals of each node on the way to a row that comes behind the others.
+fn put_along(
     alloc: Global,
     schema: &Schema,
-    config: &mut M,
     path: &Path,
+    nodes: &mut Vec<Path>,
 ) -> Result<(), NoMemory>
-    ensures cleared { OnOk result (M.rows config.new ≡ spec.all_without (M.rows config.old) (rival_spec.ousted_by schema.now path.now)) }
-    ensures base { M.base config.new ≡ M.base config.old }
+    ensures { OnOk result (nodes.new.items ≡ nodes.old.items ++ rival_spec.ousted_by schema.now path.now) }
 {
     let mut above = Path {
         steps: Vec::new(alloc),
@@ -130,24 +125,23 @@ fn clear_along<M: RowMap>(
     for step in &path.steps {
         let front = above.with_step(alloc, step.copy(alloc)?)?;
         let at = node_of(schema, &front);
-        clear_rivals(alloc, schema, config, &above, at)?;
+        put_rivals(alloc, schema, &above, at, nodes)?;
         above = front;
     }
     Ok(())
 }
 
-/// Takes away what is of another case than the rows that come.
-pub fn clear_cases<M: RowMap>(
+/// Puts the paths of the nodes that are of another case than the rows that come behind the others.
+pub fn put_ousted(
     alloc: Global,
     schema: &Schema,
-    config: &mut M,
     rows: &[(Path, Value)],
+    nodes: &mut Vec<Path>,
 ) -> Result<(), NoMemory>
-    ensures cleared { OnOk result (M.rows config.new ≡ spec.all_without (M.rows config.old) (spec.ousted schema.now rows.now)) }
-    ensures base { M.base config.new ≡ M.base config.old }
+    ensures { OnOk result (nodes.new.items ≡ nodes.old.items ++ spec.ousted schema.now rows.now) }
 {
     for (path, _) in rows {
-        clear_along(alloc, schema, config, path)?;
+        put_along(alloc, schema, path, nodes)?;
     }
     Ok(())
 }

@@ -5,11 +5,9 @@ ghost use Rattle.nm_edit.specs.Acts as act_spec;
 ghost use Rattle.nm_edit.specs.Edited as spec;
 
 use crate::act::{Act, acts_of};
-use crate::bring::{coming_of, put_rows};
-use crate::clear::{clear_acts, clear_cases};
 use crate::edit::Edit;
 use crate::fault::EditFault;
-use crate::hold::held_of;
+use crate::moves::{make_moves, moves_of};
 use crate::refuse::refuse_first;
 use nm_base::{Label, NoMemory, Tag};
 use nm_config::{Config, RowMap};
@@ -44,12 +42,9 @@ fn bring<M: RowMap>(
     ensures brought { OnOk result (M.rows config.new ≡ spec.brought schema.now old.now (M.rows config.old) acts.items) }
     ensures base { M.base config.new ≡ M.base config.old }
 {
-    clear_acts(config, &acts)?;
-    let rows = coming_of(alloc, acts)?;
-    clear_cases(alloc, schema, config, &rows)?;
-    let held = held_of(alloc, schema, old, &rows)?;
-    put_rows(config, held)?;
-    put_rows(config, rows)
+    let moves = moves_of(alloc, schema, old, acts)?;
+    make_moves(config, moves)?;
+    Ok(())
 }
 
 // The configuration, unless it has too many rows.

@@ -12,8 +12,9 @@ pub mod edited;
 pub mod fault;
 mod hold;
 pub mod laws;
+pub mod moves;
 pub mod operation;
-mod refuse;
+pub mod refuse;
 mod rivals;
 mod said;
 pub mod standing;
@@ -22,6 +23,3 @@ pub use edit::{Edit, EditNode};
 pub use edited::apply;
 pub use fault::EditFault;
 pub use operation::{Effective, Operation};
-
-#[cfg(test)]
-mod tests;

@@ -20,6 +20,3 @@ mod walk;
 
 pub use read::{NODE_LIMIT, read_edit};
 pub use said::Said;
-
-#[cfg(test)]
-mod tests;

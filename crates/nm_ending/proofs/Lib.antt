@@ -36,7 +36,6 @@ pub mod Plain
 pub mod Counting
 pub mod Idle
 pub mod Lengths
-pub mod Runs
 pub mod Ending
 pub mod Rested
 pub mod Making

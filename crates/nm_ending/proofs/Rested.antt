@@ -17,7 +17,7 @@ use Rattle.nm_ending.specs.Rest.{HasDevices, IsMoving, RestsWithin, ComesToRest}
 use Rattle.nm_ending.proofs.Closes.{leave_found, lose_found}
 use Rattle.nm_ending.proofs.Calm.{IsCalm, calm_if}
 use Rattle.nm_ending.proofs.Running.{start_lasts}
-use Rattle.nm_ending.proofs.Runs.{run_keeps}
+use Rattle.nm_safety.proofs.Steps.{run_keeps}
 use Rattle.nm_ending.proofs.Turns.{step_given, length_one, next_is}
 use Rattle.nm_ending.proofs.Plain.{is_turn, leaves_plain, loses_plain}
 use Rattle.nm_ending.proofs.Idle.{idle_stays}

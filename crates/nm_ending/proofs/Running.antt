@@ -18,7 +18,7 @@ use Rattle.nm_ending.proofs.Able.{seats_each}
 use Rattle.nm_ending.proofs.Calm.{alone}
 use Rattle.nm_ending.proofs.Holding.{AllHeld}
 use Rattle.nm_ending.proofs.Lasting.{Lasts, one_lasts, no_steady, IsWide}
-use Rattle.nm_ending.proofs.Runs.{run_keeps}
+use Rattle.nm_safety.proofs.Steps.{run_keeps}
 
 all_equal : {A : Type 0} (P : A → Type 0) (n : ℕ) (x : A) → P x → (j : ℕ) → IfSome (slice_get (replicate n x) j) P
 all_equal P zero x p j = tt

@@ -6,3 +6,4 @@ pub mod Defining
 pub mod Listing
 pub mod Grounding
 pub mod Single
+pub mod Cycling

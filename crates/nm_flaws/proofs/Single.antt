@@ -3,9 +3,6 @@ use Rattle.std.proofs.Common.{◌≡◌, ◌↔◌, ℕ, zero, suc, ◌<◌, ◌
 use Rattle.std.proofs.lemmas.Bool.Decides.{nat_tests}
 use Rattle.std.proofs.lemmas.List.{ext_get_or}
 use Rattle.nm_grammar.specs.declared.row.Row.{Row}
-use Rattle.nm_graph.specs.Graph.{Graph, successors_of, Leads, one, further}
-use Rattle.nm_graph.specs.Order.{IsLeastCycle, IsAcyclic}
-use Rattle.nm_names.specs.Graph.{IsGraphOf}
 use Rattle.nm_shape.specs.Config.{Marks}
 use Rattle.nm_keys.specs.Keys.{IsKey}
 use Rattle.nm_expansion.specs.Expansion.{expanded}
@@ -16,24 +13,6 @@ use Rattle.nm_flaws.specs.Facts.{Facts, AreFacts, IsCycle, definitions, is_marke
 
 -- ---- cycles
 
--- a node past the end of a graph leads nowhere
-past : (g : Graph) (i : ℕ) → length g ≤ i → successors_of g i ≡ []
-unfolding successors_of
-past [] i h = refl
-past (row ∷ rows) zero h = absurd (omega (arith, h))
-past (row ∷ rows) (suc i) h = past rows i (omega (arith, h))
-
--- two graphs of the same rows lead alike
-alike : (rows : List Row) (g h : Graph) → IsGraphOf rows g → IsGraphOf rows h → (i : ℕ) (b : Bool) → nat_lt i (length rows) ≡ b → successors_of g i ≡ successors_of h i
-alike rows g h a c i true e = a.leads i (grind (arith, nat_tests, e)) ∙ sym (c.leads i (grind (arith, nat_tests, e)))
-alike rows g h a c i false e =
-    let from : length rows ≤ i = grind (arith, nat_tests, e) in
-    past g i (omega (arith, a.size, from)) ∙ sym (past h i (omega (arith, c.size, from)))
-
-leads_alike : (g h : Graph) → ((i : ℕ) → successors_of g i ≡ successors_of h i) → {i j : ℕ} → Leads g i j → Leads h i j
-leads_alike g h same (one {i} {j} c) = one (subst (λ ns. Contains ns j) (same i) c)
-leads_alike g h same (further {i} {j} k c l) = further k (subst (λ ns. Contains ns k) (same i) c) (leads_alike g h same l)
-
 between_by : (x y : ℕ) (a b : Bool) → nat_lt x y ≡ a → nat_lt y x ≡ b → (x < y → ⊥) → (y < x → ⊥) → x ≡ y
 between_by x y true b e f never nor = absurd (never (grind (arith, nat_tests, e)))
 between_by x y false true e f never nor = absurd (nor (grind (arith, nat_tests, f)))
@@ -43,17 +22,11 @@ between_by x y false false e f never nor = grind (arith, nat_tests, e, f)
 between : (x y : ℕ) → (x < y → ⊥) → (y < x → ⊥) → x ≡ y
 between x y never nor = between_by x y _ _ refl refl never nor
 
-one_least : (g h : Graph) → ((i : ℕ) → successors_of g i ≡ successors_of h i) → (x y : Option ℕ) → IfSome x (IsLeastCycle g) → IfNone x (IsAcyclic g) → IfSome y (IsLeastCycle h) → IfNone y (IsAcyclic h) → x ≡ y
-one_least g h same None None a b c d = refl
-one_least g h same (Some x) None a b c d = absurd (d x (leads_alike g h same a.leads))
-one_least g h same None (Some y) a b c d = absurd (b y (leads_alike h g (λ i. sym (same i)) c.leads))
-one_least g h same (Some x) (Some y) a b c d =
-    let never : x < y → ⊥ = λ before. c.least x before (leads_alike g h same a.leads) in
-    let nor : y < x → ⊥ = λ before. a.least y before (leads_alike h g (λ i. sym (same i)) c.leads) in
-    ap Some (between x y never nor)
-
 one_cycle : (rows : List Row) (x y : Option ℕ) → IsCycle rows x → IsCycle rows y → x ≡ y
-one_cycle rows x y a b = one_least a.graph b.graph (λ i. alike rows a.graph b.graph a.graph_is b.graph_is i _ refl) x y a.least a.none b.least b.none
+one_cycle rows None None a b = refl
+one_cycle rows (Some x) None a b = absurd (b.none x a.least.leads)
+one_cycle rows None (Some y) a b = absurd (a.none y b.least.leads)
+one_cycle rows (Some x) (Some y) a b = ap Some (between x y (λ before. b.least.least x before a.least.leads) (λ before. a.least.least y before b.least.leads))
 
 -- ---- marks
 

@@ -2,11 +2,9 @@
 use Rattle.std.specs.Prelude.{◌≡◌, ℕ, ◌<◌, List, length, map, Bool, false, Option, None, IfSome, IfNone, slice_index_or}
 use Rattle.std.specs.List.{range_with_len}
 use Rattle.nm_grammar.specs.declared.row.Row.{Row}
-use Rattle.nm_graph.specs.Graph.{Graph}
-use Rattle.nm_graph.specs.Order.{IsLeastCycle, IsAcyclic}
 use Rattle.nm_names.specs.Leads.{leads_to}
-use Rattle.nm_names.specs.Graph.{IsGraphOf}
-use Rattle.nm_shape.specs.Config.{Marks, IsConfiguration, IsInState}
+use Rattle.nm_names.specs.Graph.{leading}
+use Rattle.nm_shape.specs.Config.{LeadsBy, Marks, IsConfiguration, IsInState}
 use Rattle.nm_keys.specs.Standing.{Standing}
 use Rattle.nm_keys.specs.Keys.{IsKey}
 use Rattle.nm_expansion.specs.declared.instance.Instance.{Instance}
@@ -44,12 +42,19 @@ standing facts = record { configured = is_marked facts.configured; in_state = is
 abbrev pub tree : List Row → Facts → Expanded
 tree rows facts = expanded rows (definitions rows) facts.nodes
 
+-- a row leads to itself through types, parts, typedefs and groupings, and no earlier one does
+pub record IsLeastCycle (rows : List Row) (i : ℕ) : Type 0 where
+  pub leads : LeadsBy (leading rows) i i
+  pub least : (j : ℕ) → j < i → ¬ (LeadsBy (leading rows) j j)
+
+-- no row leads to itself
+abbrev pub IsAcyclic : List Row → Type 0
+IsAcyclic rows = (i : ℕ) → ¬ (LeadsBy (leading rows) i i)
+
 -- the least row that leads to itself, if there is one (RFC 7950 sections 7.3, 7.12 and 7.13)
 pub record IsCycle (rows : List Row) (cycle : Option ℕ) : Type 0 where
-  pub graph : Graph
-  pub graph_is : IsGraphOf rows graph
-  pub least : IfSome cycle (IsLeastCycle graph)
-  pub none : IfNone cycle (IsAcyclic graph)
+  pub least : IfSome cycle (IsLeastCycle rows)
+  pub none : IfNone cycle (IsAcyclic rows)
 
 -- these are so, and each list has as many items as there are rows
 pub record AreFacts (rows : List Row) (facts : Facts) : Type 0 where

@@ -18,6 +18,3 @@ mod names;
 pub use fault::Fault;
 pub use grounds::Grounds;
 pub use names::definitions;
-
-#[cfg(test)]
-mod tests;

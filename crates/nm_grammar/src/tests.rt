@@ -15,48 +15,49 @@ fn kind_name(word: Word) -> &'static str {
 }
 
 // The statements that RFC 7950 section 14 lists, and keywords that it doesn't.
-const KEYWORDS: [(&str, &str); 35] = [
-    ("module", "module"),
-    ("yang-version", "yang-version"),
-    ("namespace", "namespace"),
-    ("prefix", "prefix"),
-    ("import", "import"),
-    ("container", "container"),
-    ("presence", "presence"),
-    ("leaf", "leaf"),
-    ("leaf-list", "leaf-list"),
-    ("list", "list"),
-    ("fraction-digits", "fraction-digits"),
-    ("typedef", "typedef"),
-    ("grouping", "grouping"),
-    ("uses", "uses"),
-    ("min-elements", "min-elements"),
-    ("ordered-by", "ordered-by"),
-    ("organization", "skipped"),
-    ("description", "skipped"),
-    ("revision-date", "skipped"),
-    ("units", "skipped"),
-    ("error-app-tag", "skipped"),
-    ("notification", "skipped"),
-    ("extension", "skipped"),
-    ("x:leaf", "skipped"),
-    ("must", "unsupported"),
-    ("when", "unsupported"),
-    ("pattern", "unsupported"),
-    ("choice", "choice"),
-    ("case", "case"),
-    ("include", "unsupported"),
-    ("if-feature", "unsupported"),
-    ("require-instance", "unknown"),
-    ("input", "unknown"),
-    ("Leaf", "unknown"),
-    ("", "unknown"),
-];
+const KEYWORDS: &str = r#"
+module => module
+yang-version => yang-version
+namespace => namespace
+prefix => prefix
+import => import
+container => container
+presence => presence
+leaf => leaf
+leaf-list => leaf-list
+list => list
+fraction-digits => fraction-digits
+typedef => typedef
+grouping => grouping
+uses => uses
+min-elements => min-elements
+ordered-by => ordered-by
+organization => skipped
+description => skipped
+revision-date => skipped
+units => skipped
+error-app-tag => skipped
+notification => skipped
+extension => skipped
+x:leaf => skipped
+must => unsupported
+when => unsupported
+pattern => unsupported
+choice => choice
+case => case
+include => unsupported
+if-feature => unsupported
+require-instance => unknown
+input => unknown
+Leaf => unknown
+ => unknown
+"#;
 
 #[test]
 fn knows_keywords(rt: HostRuntime) -> Result<(), Fail> {
-    for (keyword, expected) in &KEYWORDS {
-        assert_eq!(rt; kind_name(word_of(keyword)), *expected, "{keyword}");
+    for row in KEYWORDS.lines().skip(1) {
+        let (keyword, expected) = row.split_once(" => ").ok_or("no row")?;
+        assert_eq!(rt; kind_name(word_of(keyword)), expected, "{keyword}");
     }
     assert_eq!(rt; Word::Leaf.same(Word::Leaf), true);
     assert_eq!(rt; Word::Leaf.same(Word::LeafList), false);
@@ -211,203 +212,108 @@ fn first_flaw(alloc: Global, rows: &Rows, before: u32) -> Result<String, AllocEr
 }
 
 // Each is what stands within a module `m`, behind its namespace and prefix. Places count from there.
-const WITHIN: [(&str, &str); 88] = [
-    ("", "none"),
-    ("leaf a { type int8; }", "none"),
-    ("leaf a;", "bad-argument type 0"),
-    ("leaf a { type int8; type int8; }", "duplicate type 20"),
-    (
-        "leaf a { type int8; mandatory true; config false; default 1; }",
-        "none",
-    ),
-    (
-        "leaf a { type int8; mandatory yes; }",
-        "bad-argument mandatory 20",
-    ),
-    (
-        "leaf a { type int8; config \"\"; }",
-        "bad-argument config 20",
-    ),
-    ("leaf a { type int8; config; }", "bad-argument config 20"),
-    ("leaf a { type int8; key a; }", "unknown key 20"),
-    ("leaf a { type int8; must x; }", "unsupported must 20"),
-    ("leaf a { type int8; foo; }", "unknown foo 20"),
-    ("leaf a { type int8; description; x:y; }", "none"),
-    ("leaf a { type int8; description { foo; } }", "none"),
-    ("leaf 9 { type int8; }", "bad-argument leaf 0"),
-    ("leaf { type int8; }", "bad-argument leaf 0"),
-    ("leaf { }", "bad-argument type 0"),
-    ("leaf a { type p:t; }", "none"),
-    ("leaf a { type p:; }", "bad-argument type 9"),
-    ("leaf a { type union; }", "unsupported union 9"),
-    ("leaf a { type identityref; }", "unsupported identityref 9"),
-    ("leaf a { type binary; }", "unsupported binary 9"),
-    (
-        "leaf a { type instance-identifier; }",
-        "unsupported instance-identifier 9",
-    ),
-    ("leaf a { type p:union; }", "none"),
-    (
-        "leaf a { type t { range x; length y; path z; fraction-digits 18; } }",
-        "none",
-    ),
-    (
-        "leaf a { type t { fraction-digits 0; } }",
-        "bad-argument fraction-digits 18",
-    ),
-    (
-        "leaf a { type t { fraction-digits 19; } }",
-        "bad-argument fraction-digits 18",
-    ),
-    (
-        "leaf a { type t { fraction-digits 01; } }",
-        "bad-argument fraction-digits 18",
-    ),
-    (
-        "leaf a { type t { enum \"a b\" { value 1; } enum b; bit c { position 0; } } }",
-        "none",
-    ),
-    ("leaf a { type t { enum \"\"; } }", "bad-argument enum 18"),
-    ("leaf a { type t { enum \" a\"; } }", "bad-argument enum 18"),
-    (
-        "leaf a { type t { enum \"a\\n\"; } }",
-        "bad-argument enum 18",
-    ),
-    ("leaf a { type t { bit 9; } }", "bad-argument bit 18"),
-    ("leaf a { type t { pattern p; } }", "unsupported pattern 18"),
-    (
-        "leaf a { type t { require-instance true; } }",
-        "unknown require-instance 18",
-    ),
-    (
-        "leaf-list a { type int8; min-elements 0; max-elements 1; ordered-by system; }",
-        "none",
-    ),
-    ("leaf-list a { type int8; max-elements unbounded; }", "none"),
-    (
-        "leaf-list a { type int8; max-elements 0; }",
-        "bad-argument max-elements 25",
-    ),
-    (
-        "leaf-list a { type int8; min-elements 4294967295; }",
-        "none",
-    ),
-    (
-        "leaf-list a { type int8; min-elements 4294967296; }",
-        "bad-argument min-elements 25",
-    ),
-    (
-        "leaf-list a { type int8; min-elements 01; }",
-        "bad-argument min-elements 25",
-    ),
-    (
-        "leaf-list a { type int8; ordered-by user; }",
-        "unsupported ordered-by 25",
-    ),
-    (
-        "leaf-list a { type int8; ordered-by me; }",
-        "bad-argument ordered-by 25",
-    ),
-    (
-        "leaf-list a { type int8; default 1; default 2; }",
-        "unsupported default 25",
-    ),
-    (
-        "leaf-list a { type int8; default; }",
-        "bad-argument default 25",
-    ),
-    (
-        "list a { key k; unique u; unique v; leaf k { type int8; } uses p:g; }",
-        "none",
-    ),
-    ("list a { key k; key k; }", "duplicate key 16"),
-    ("list a { mandatory true; }", "unknown mandatory 9"),
-    (
-        "container a { presence x; presence y; }",
-        "duplicate presence 26",
-    ),
-    (
-        "container a { presence x; config true; typedef t { type t; } grouping g; }",
-        "none",
-    ),
-    ("typedef t { type int8; default 1; }", "none"),
-    ("typedef t;", "bad-argument type 0"),
-    ("typedef string { type int8; }", "bad-argument typedef 0"),
-    ("typedef union { type int8; }", "bad-argument typedef 0"),
-    ("grouping g { config true; }", "unknown config 13"),
-    ("uses g { leaf a; }", "unknown leaf 9"),
-    ("choice c;", "none"),
-    ("choice c { case a; }", "none"),
-    ("choice 9;", "bad-argument choice 0"),
-    ("choice;", "bad-argument choice 0"),
-    ("case c;", "unknown case 0"),
-    ("choice c { case 9; }", "bad-argument case 11"),
-    ("choice c { leaf a; }", "bad-argument type 11"),
-    (
-        "choice c { leaf a { type t; } leaf-list b { type t; } container d; list e; }",
-        "none",
-    ),
-    (
-        "choice c { choice d { choice e; } case f { choice g; } }",
-        "none",
-    ),
-    ("choice c { mandatory true; config false; }", "none"),
-    ("choice c { mandatory; }", "bad-argument mandatory 11"),
-    (
-        "choice c { mandatory true; mandatory true; }",
-        "duplicate mandatory 27",
-    ),
-    (
-        "choice c { config true; config true; }",
-        "duplicate config 24",
-    ),
-    ("choice c { default a; }", "unsupported default 11"),
-    ("choice c { case a { default b; } }", "unknown default 20"),
-    ("choice c { description d; reference r; status s; }", "none"),
-    ("choice c { when w; }", "unsupported when 11"),
-    ("choice c { if-feature f; }", "unsupported if-feature 11"),
-    ("choice c { uses g; }", "unknown uses 11"),
-    ("choice c { typedef t { type u; } }", "unknown typedef 11"),
-    ("choice c { grouping g; }", "unknown grouping 11"),
-    ("choice c { key k; }", "unknown key 11"),
-    (
-        "choice c { case a { uses g; container d; list e; } }",
-        "none",
-    ),
-    ("choice c { case a { case b; } }", "unknown case 20"),
-    (
-        "choice c { case a { mandatory true; } }",
-        "unknown mandatory 20",
-    ),
-    ("choice c { case a { config true; } }", "unknown config 20"),
-    (
-        "choice c { case a { typedef t { type u; } } }",
-        "unknown typedef 20",
-    ),
-    (
-        "grouping g { choice c { case a { leaf b { type t; } } } }",
-        "none",
-    ),
-    (
-        "list l { choice c; } container d { choice e { anydata f; } }",
-        "unsupported anydata 46",
-    ),
-    ("import x { prefix x; }", "none"),
-    ("import x;", "bad-argument prefix 0"),
-    ("prefix q;", "duplicate prefix 0"),
-    ("module n { namespace n; prefix n; }", "unknown module 0"),
-];
+const WITHIN: &str = r#"
+ => none
+leaf a { type int8; } => none
+leaf a; => bad-argument type 0
+leaf a { type int8; type int8; } => duplicate type 20
+leaf a { type int8; mandatory true; config false; default 1; } => none
+leaf a { type int8; mandatory yes; } => bad-argument mandatory 20
+leaf a { type int8; config ""; } => bad-argument config 20
+leaf a { type int8; config; } => bad-argument config 20
+leaf a { type int8; key a; } => unknown key 20
+leaf a { type int8; must x; } => unsupported must 20
+leaf a { type int8; foo; } => unknown foo 20
+leaf a { type int8; description; x:y; } => none
+leaf a { type int8; description { foo; } } => none
+leaf 9 { type int8; } => bad-argument leaf 0
+leaf { type int8; } => bad-argument leaf 0
+leaf { } => bad-argument type 0
+leaf a { type p:t; } => none
+leaf a { type p:; } => bad-argument type 9
+leaf a { type union; } => unsupported union 9
+leaf a { type identityref; } => unsupported identityref 9
+leaf a { type binary; } => unsupported binary 9
+leaf a { type instance-identifier; } => unsupported instance-identifier 9
+leaf a { type p:union; } => none
+leaf a { type t { range x; length y; path z; fraction-digits 18; } } => none
+leaf a { type t { fraction-digits 0; } } => bad-argument fraction-digits 18
+leaf a { type t { fraction-digits 19; } } => bad-argument fraction-digits 18
+leaf a { type t { fraction-digits 01; } } => bad-argument fraction-digits 18
+leaf a { type t { enum "a b" { value 1; } enum b; bit c { position 0; } } } => none
+leaf a { type t { enum ""; } } => bad-argument enum 18
+leaf a { type t { enum " a"; } } => bad-argument enum 18
+leaf a { type t { enum "a\n"; } } => bad-argument enum 18
+leaf a { type t { bit 9; } } => bad-argument bit 18
+leaf a { type t { pattern p; } } => unsupported pattern 18
+leaf a { type t { require-instance true; } } => unknown require-instance 18
+leaf-list a { type int8; min-elements 0; max-elements 1; ordered-by system; } => none
+leaf-list a { type int8; max-elements unbounded; } => none
+leaf-list a { type int8; max-elements 0; } => bad-argument max-elements 25
+leaf-list a { type int8; min-elements 4294967295; } => none
+leaf-list a { type int8; min-elements 4294967296; } => bad-argument min-elements 25
+leaf-list a { type int8; min-elements 01; } => bad-argument min-elements 25
+leaf-list a { type int8; ordered-by user; } => unsupported ordered-by 25
+leaf-list a { type int8; ordered-by me; } => bad-argument ordered-by 25
+leaf-list a { type int8; default 1; default 2; } => unsupported default 25
+leaf-list a { type int8; default; } => bad-argument default 25
+list a { key k; unique u; unique v; leaf k { type int8; } uses p:g; } => none
+list a { key k; key k; } => duplicate key 16
+list a { mandatory true; } => unknown mandatory 9
+container a { presence x; presence y; } => duplicate presence 26
+container a { presence x; config true; typedef t { type t; } grouping g; } => none
+typedef t { type int8; default 1; } => none
+typedef t; => bad-argument type 0
+typedef string { type int8; } => bad-argument typedef 0
+typedef union { type int8; } => bad-argument typedef 0
+grouping g { config true; } => unknown config 13
+uses g { leaf a; } => unknown leaf 9
+choice c; => none
+choice c { case a; } => none
+choice 9; => bad-argument choice 0
+choice; => bad-argument choice 0
+case c; => unknown case 0
+choice c { case 9; } => bad-argument case 11
+choice c { leaf a; } => bad-argument type 11
+choice c { leaf a { type t; } leaf-list b { type t; } container d; list e; } => none
+choice c { choice d { choice e; } case f { choice g; } } => none
+choice c { mandatory true; config false; } => none
+choice c { mandatory; } => bad-argument mandatory 11
+choice c { mandatory true; mandatory true; } => duplicate mandatory 27
+choice c { config true; config true; } => duplicate config 24
+choice c { default a; } => unsupported default 11
+choice c { case a { default b; } } => unknown default 20
+choice c { description d; reference r; status s; } => none
+choice c { when w; } => unsupported when 11
+choice c { if-feature f; } => unsupported if-feature 11
+choice c { uses g; } => unknown uses 11
+choice c { typedef t { type u; } } => unknown typedef 11
+choice c { grouping g; } => unknown grouping 11
+choice c { key k; } => unknown key 11
+choice c { case a { uses g; container d; list e; } } => none
+choice c { case a { case b; } } => unknown case 20
+choice c { case a { mandatory true; } } => unknown mandatory 20
+choice c { case a { config true; } } => unknown config 20
+choice c { case a { typedef t { type u; } } } => unknown typedef 20
+grouping g { choice c { case a { leaf b { type t; } } } } => none
+list l { choice c; } container d { choice e { anydata f; } } => unsupported anydata 46
+import x { prefix x; } => none
+import x; => bad-argument prefix 0
+prefix q; => duplicate prefix 0
+module n { namespace n; prefix n; } => unknown module 0
+"#;
 
 #[test]
 fn finds_flaws_within_modules(rt: HostRuntime) -> Result<(), Fail> {
     let alloc = rt.alloc();
     let start = "module m{namespace n;prefix m;";
-    for (text, expected) in &WITHIN {
+    for row in WITHIN.lines().skip(1) {
+        let (text, expected) = row.split_once(" => ").ok_or("no row")?;
         let whole = format!(in alloc; "{start}{text}}}")?;
         let modules = [read_module(alloc, whole.as_str().as_bytes())?];
         let rows = rows_of(alloc, &modules)?;
         let found = first_flaw(alloc, &rows, 30)?;
-        assert_eq!(rt; found.as_str(), *expected, "{text}");
+        assert_eq!(rt; found.as_str(), expected, "{text}");
     }
     Ok(())
 }

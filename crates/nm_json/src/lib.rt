@@ -22,6 +22,3 @@ pub mod write;
 pub use config::{ROW_LIMIT, config_of, read_config};
 pub use fault::{JsonFault, JsonKind};
 pub use write::{config_value, write_config};
-
-#[cfg(test)]
-mod tests;

@@ -115,157 +115,60 @@ fn told_of(alloc: Global, text: &str) -> Result<String, Fail> {
 }
 
 // A module's text, and what is told of it: a flaw has the number of its row (RFC 7950 sections 7.8.2, 7.8.3 and 14).
-const LISTS: [(&str, &str); 36] = [
-    (
-        "module m { prefix p; list l { key a; choice c { leaf a; } } }",
-        "bad-reference a 3; none; ",
-    ),
-    (
-        "module m { prefix p; list l { key a; uses g; } grouping g { choice c { case d { leaf a; } } } }",
-        "bad-reference a 3; none; ",
-    ),
-    (
-        "module m { prefix p; list l { key a; leaf a; unique b; choice c { case d { leaf b; } } } }",
-        "none; [4]; ([8])",
-    ),
-    (
-        "module m { prefix p; list l { key a; leaf a; unique c/b; choice c { case d { leaf b; } } } }",
-        "bad-reference c/b 5; [4]; none",
-    ),
-    (
-        "module m { prefix p; list l { key a; leaf a; unique b; choice c { config false; leaf b; } } }",
-        "bad-reference b 5; [4]; none",
-    ),
-    (
-        "module m { prefix p; list l { config false; unique b; choice c { config false; leaf b; } } }",
-        "none; none; ([7])",
-    ),
-    (
-        "module m { prefix p; list l { key a; leaf a; unique d/e; choice c { container d { choice f { leaf e; } } } } }",
-        "none; [4]; ([7, 9])",
-    ),
-    (
-        "module m { prefix p; list l { key \"a b\"; leaf a; leaf b; } }",
-        "none; [4, 5]; ",
-    ),
-    (
-        "module m { prefix p; list l { key \"  b\n\ta \"; leaf a; leaf b; } }",
-        "none; [5, 4]; ",
-    ),
-    (
-        "module m { prefix p; list l { key \"p:a\"; leaf a; } }",
-        "none; [4]; ",
-    ),
-    (
-        "module m { prefix p; list l { key \"x:a\"; leaf a; } }",
-        "bad-reference x:a 3; none; ",
-    ),
-    (
-        "module m { prefix p; list l { key \"a p:a\"; leaf a; } }",
-        "duplicate a 3; none; ",
-    ),
-    (
-        "module m { prefix p; list l { key \" \"; leaf a; } }",
-        "bad-argument key 3; none; ",
-    ),
-    (
-        "module m { prefix p; list l { key \"a c b\"; leaf a; leaf b; } }",
-        "bad-reference c 3; none; ",
-    ),
-    (
-        "module m { prefix p; list l { key \"a/b\"; container a { leaf b; } } }",
-        "bad-reference a/b 3; none; ",
-    ),
-    (
-        "module m { prefix p; list l { key \"c\"; container c { leaf a; } } }",
-        "bad-reference c 3; none; ",
-    ),
-    (
-        "module m { prefix p; list l { key \"a\"; leaf-list a; } }",
-        "bad-reference a 3; none; ",
-    ),
-    (
-        "module m { prefix p; list l { key \"a\"; leaf a { config false; } } }",
-        "bad-reference a 3; none; ",
-    ),
-    (
-        "module m { prefix p; list l { config false; key \"a\"; leaf a { config false; } } }",
-        "none; [5]; ",
-    ),
-    (
-        "module m { prefix p; grouping g { leaf a; } list l { key \"a\"; uses g; } }",
-        "none; [3]; ",
-    ),
-    (
-        "module m { prefix p; list l { key \"a\"; uses nowhere; } }",
-        "none; none; ",
-    ),
-    (
-        "module m { prefix p; list l { key \"x:a\"; uses nowhere; } }",
-        "bad-reference x:a 3; none; ",
-    ),
-    ("module m { prefix p; list l { leaf a; } }", "none; none; "),
-    (
-        "module m { prefix p; container c { key \"a\"; } list l { key \"a\"; leaf a; } }",
-        "none; [6]; ",
-    ),
-    (
-        "module m { prefix p; list l { key \"a\"; leaf a; unique \"c/d a\"; container c { leaf d; } } }",
-        "none; [4]; ([6, 7][4])",
-    ),
-    (
-        "module m { prefix p; list l { unique \"p:c/d\"; unique \"a a\"; leaf a; container c { leaf d; } } }",
-        "none; none; ([6, 7])([5][5])",
-    ),
-    (
-        "module m { prefix p; list l { unique \"\"; leaf a; } }",
-        "bad-argument unique 3; none; none",
-    ),
-    (
-        "module m { prefix p; list l { unique \"k/x a\"; leaf a; list k { leaf x; } } }",
-        "bad-reference k/x 3; none; none",
-    ),
-    (
-        "module m { prefix p; list l { unique \"c\"; container c { leaf a; } } }",
-        "bad-reference c 3; none; none",
-    ),
-    (
-        "module m { prefix p; list l { unique \"a\"; leaf-list a; } }",
-        "bad-reference a 3; none; none",
-    ),
-    (
-        "module m { prefix p; list l { unique \"c//d\"; container c { leaf d; } } }",
-        "bad-reference c//d 3; none; none",
-    ),
-    (
-        "module m { prefix p; list l { unique \"/a\"; leaf a; } }",
-        "bad-reference /a 3; none; none",
-    ),
-    (
-        "module m { prefix p; list l { unique \"a c/x:d b\"; leaf a; leaf b; container c { leaf d; } } }",
-        "bad-reference c/x:d 3; none; none",
-    ),
-    (
-        "module m { prefix p; list l { unique \"c/d\"; container c { config false; leaf d; } } }",
-        "bad-reference c/d 3; none; none",
-    ),
-    (
-        "module m { prefix p; list l { unique \"c/d\"; container c { uses nowhere; } } }",
-        "none; none; none",
-    ),
-    (
-        "module m { prefix p; grouping g { container c { leaf d; } } list l { unique \"c/d\"; uses g; } }",
-        "none; none; ([3, 4])",
-    ),
-];
+const LISTS: &str = r#"
+module m { prefix p; list l { key a; choice c { leaf a; } } } => bad-reference a 3; none; 
+module m { prefix p; list l { key a; uses g; } grouping g { choice c { case d { leaf a; } } } } => bad-reference a 3; none; 
+module m { prefix p; list l { key a; leaf a; unique b; choice c { case d { leaf b; } } } } => none; [4]; ([8])
+module m { prefix p; list l { key a; leaf a; unique c/b; choice c { case d { leaf b; } } } } => bad-reference c/b 5; [4]; none
+module m { prefix p; list l { key a; leaf a; unique b; choice c { config false; leaf b; } } } => bad-reference b 5; [4]; none
+module m { prefix p; list l { config false; unique b; choice c { config false; leaf b; } } } => none; none; ([7])
+module m { prefix p; list l { key a; leaf a; unique d/e; choice c { container d { choice f { leaf e; } } } } } => none; [4]; ([7, 9])
+module m { prefix p; list l { key "a b"; leaf a; leaf b; } } => none; [4, 5]; 
+module m { prefix p; list l { key "p:a"; leaf a; } } => none; [4]; 
+module m { prefix p; list l { key "x:a"; leaf a; } } => bad-reference x:a 3; none; 
+module m { prefix p; list l { key "a p:a"; leaf a; } } => duplicate a 3; none; 
+module m { prefix p; list l { key " "; leaf a; } } => bad-argument key 3; none; 
+module m { prefix p; list l { key "a c b"; leaf a; leaf b; } } => bad-reference c 3; none; 
+module m { prefix p; list l { key "a/b"; container a { leaf b; } } } => bad-reference a/b 3; none; 
+module m { prefix p; list l { key "c"; container c { leaf a; } } } => bad-reference c 3; none; 
+module m { prefix p; list l { key "a"; leaf-list a; } } => bad-reference a 3; none; 
+module m { prefix p; list l { key "a"; leaf a { config false; } } } => bad-reference a 3; none; 
+module m { prefix p; list l { config false; key "a"; leaf a { config false; } } } => none; [5]; 
+module m { prefix p; grouping g { leaf a; } list l { key "a"; uses g; } } => none; [3]; 
+module m { prefix p; list l { key "a"; uses nowhere; } } => none; none; 
+module m { prefix p; list l { key "x:a"; uses nowhere; } } => bad-reference x:a 3; none; 
+module m { prefix p; list l { leaf a; } } => none; none; 
+module m { prefix p; container c { key "a"; } list l { key "a"; leaf a; } } => none; [6]; 
+module m { prefix p; list l { key "a"; leaf a; unique "c/d a"; container c { leaf d; } } } => none; [4]; ([6, 7][4])
+module m { prefix p; list l { unique "p:c/d"; unique "a a"; leaf a; container c { leaf d; } } } => none; none; ([6, 7])([5][5])
+module m { prefix p; list l { unique ""; leaf a; } } => bad-argument unique 3; none; none
+module m { prefix p; list l { unique "k/x a"; leaf a; list k { leaf x; } } } => bad-reference k/x 3; none; none
+module m { prefix p; list l { unique "c"; container c { leaf a; } } } => bad-reference c 3; none; none
+module m { prefix p; list l { unique "a"; leaf-list a; } } => bad-reference a 3; none; none
+module m { prefix p; list l { unique "c//d"; container c { leaf d; } } } => bad-reference c//d 3; none; none
+module m { prefix p; list l { unique "/a"; leaf a; } } => bad-reference /a 3; none; none
+module m { prefix p; list l { unique "a c/x:d b"; leaf a; leaf b; container c { leaf d; } } } => bad-reference c/x:d 3; none; none
+module m { prefix p; list l { unique "c/d"; container c { config false; leaf d; } } } => bad-reference c/d 3; none; none
+module m { prefix p; list l { unique "c/d"; container c { uses nowhere; } } } => none; none; none
+module m { prefix p; grouping g { container c { leaf d; } } list l { unique "c/d"; uses g; } } => none; none; ([3, 4])
+"#;
+
+// A list whose key is parted by a line break.
+const IN_LINES: (&str, &str) = (
+    "module m { prefix p; list l { key \"  b\n\ta \"; leaf a; leaf b; } }",
+    "none; [5, 4]; ",
+);
 
 #[test]
 fn reads_lists(rt: HostRuntime) -> Result<(), Fail> {
     let alloc = rt.alloc();
-    for (text, expected) in &LISTS {
+    for row in LISTS.lines().skip(1) {
+        let (text, expected) = row.split_once(" => ").ok_or("no row")?;
         let found = told_of(alloc, text)?;
-        assert_eq!(rt; found.as_str(), *expected, "{text}");
+        assert_eq!(rt; found.as_str(), expected, "{text}");
     }
+    let (text, expected) = IN_LINES;
+    assert_eq!(rt; told_of(alloc, text)?.as_str(), expected, "{text}");
     Ok(())
 }
 

@@ -19,6 +19,3 @@ pub use fault::PathFault;
 pub use leafrefs::{Leafrefs, leafrefs_of};
 pub use led::Led;
 pub use paths::{Paths, paths_of};
-
-#[cfg(test)]
-mod tests;

@@ -15,7 +15,7 @@ use Rattle.nm_bringing.proofs.Alone.{run_brings}
 use Rattle.nm_leaving.proofs.Alone.{run_leaves}
 use Rattle.nm_marking.specs.Stays.{EachFindsEnded, MarksStay}
 use Rattle.nm_marking.proofs.Alone.{there}
-use Rattle.nm_marking.proofs.Drained.{all_events, all_proper, drained_is}
+use Rattle.nm_safety.proofs.Drained.{all_events, all_proper, drained_is}
 use Rattle.nm_marking.proofs.Runs.{run_single}
 use Rattle.nm_marking.proofs.Staying.{IsStaying, staying_along}
 

@@ -17,7 +17,7 @@ use Rattle.nm_safety.specs.Support.{IsSupported}
 use Rattle.nm_safety.proofs.Sound.{first_at}
 use Rattle.nm_ending.proofs.Lasting.{Lasts, one_lasts}
 use Rattle.nm_ending.proofs.Running.{start_lasts}
-use Rattle.nm_ending.proofs.Runs.{run_keeps}
+use Rattle.nm_safety.proofs.Steps.{run_keeps}
 use Rattle.nm_marking.specs.Marks.{is_there}
 use Rattle.nm_marking.proofs.Asks.{AskLinks}
 use Rattle.nm_marking.proofs.Deliver.{delivering_waits}

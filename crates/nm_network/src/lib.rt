@@ -15,8 +15,6 @@ mod scene;
 mod search;
 pub mod settled;
 mod steps;
-#[cfg(test)]
-mod tests;
 mod turns;
 pub mod world;
 

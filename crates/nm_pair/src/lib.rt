@@ -8,5 +8,3 @@ pub mod change_sets;
 pub mod device_side;
 pub mod laws;
 pub mod manager_side;
-#[cfg(test)]
-mod tests;

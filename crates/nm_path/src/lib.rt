@@ -19,6 +19,3 @@ pub use fault::PathFault;
 pub use place::node_of;
 pub use read::read_path;
 pub use write::write_path;
-
-#[cfg(test)]
-mod tests;

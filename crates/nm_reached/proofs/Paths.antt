@@ -17,7 +17,7 @@ use Rattle.nm_rules.specs.Values.{chosen_values, as_list, is_same_path}
 use Rattle.nm_rules.specs.Violated.{last_chosen}
 use Rattle.nm_rules.proofs.Among.{both}
 use Rattle.nm_rules.proofs.Areas.{ends}
-use Rattle.nm_validate.specs.Repeated.{step_of}
+use Rattle.nm_validate.specs.Leafs.{step_of}
 use Rattle.nm_reached.specs.Kept.{as_whole, kept_at, mark_of}
 
 -- ---- tests

@@ -9,7 +9,7 @@ use Rattle.nm_config.specs.Rows.{Rows}
 use Rattle.nm_config.specs.Under.{is_whole}
 use Rattle.nm_rules.specs.Values.{as_list}
 use Rattle.nm_rules.specs.Violated.{last_chosen}
-use Rattle.nm_validate.specs.Repeated.{step_of}
+use Rattle.nm_validate.specs.Leafs.{step_of}
 
 -- the path by which value v of node x is kept for a place: the value comes first, so that two paths mostly differ there
 abbrev pub kept_at : List PathStep → ℕ → Value → List PathStep

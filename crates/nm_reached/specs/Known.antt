@@ -13,6 +13,7 @@ use Rattle.nm_rules.specs.Cases.{bare}
 use Rattle.nm_rules.specs.Guards.{front, leads_to}
 use Rattle.nm_rules.specs.Places.{places}
 use Rattle.nm_rules.specs.Values.{Claim, key_in_entry, default_in_use, path_in, is_reached}
+use Rattle.nm_validate.specs.Leafs.{row_or_default}
 use Rattle.nm_reached.specs.Kept.{kept_at, mark_of, with_values}
 
 -- the rows of node x
@@ -63,6 +64,14 @@ gives v (Some w) = is_same_value v w
 -- a path is below a place and has a value there
 abbrev pub has_below : List PathStep → Value → (List PathStep → Option Value) → List PathStep → Bool
 has_below context v value path = is_under context path && gives v (value path)
+
+-- a path leads to node x below a place
+abbrev pub is_below : SchemaTree → List PathStep → ℕ → List PathStep → Bool
+is_below t place x path = leads_to t x path && is_under place path
+
+-- such a path has a value: that of its row, or the default of leaf x in use
+abbrev pub is_leaf_with : SchemaTree → Rows → List PathStep → ℕ → Value → List PathStep → Bool
+is_leaf_with t rows place x v path = is_below t place x path && gives v (row_or_default t rows path x)
 
 -- the step to the entry of list x whose one key has a value
 abbrev pub step_to : SchemaTree → ℕ → Value → PathStep

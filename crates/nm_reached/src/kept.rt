@@ -2,7 +2,7 @@
 
 ghost use Rattle.std.specs.Prelude.{◌≡◌, ◌∷◌, ◌++◌, [], IfOk, OnOk, take, option_copied};
 ghost use Rattle.nm_rules.specs.Values as value_spec;
-ghost use Rattle.nm_validate.specs.Repeated.{step_of};
+ghost use Rattle.nm_validate.specs.Leafs.{step_of};
 ghost use Rattle.nm_reached.specs.Kept as spec;
 
 use nm_base::{Label, NoMemory};
@@ -42,8 +42,8 @@ fn as_whole(alloc: Global, step: &Step) -> Result<Step, NoMemory>
     })
 }
 
-// The path of the list that a path chooses an entry of.
-fn as_list(alloc: Global, path: &Path) -> Result<Path, NoMemory>
+/// The path of the list that a path chooses an entry of.
+pub fn as_list(alloc: Global, path: &Path) -> Result<Path, NoMemory>
     ensures { IfOk result (λ list. list ≡ value_spec.as_list path.now) }
 {
     let Some(step) = path.steps.last() else {

@@ -9,7 +9,5 @@ mod kept;
 mod known;
 mod rows;
 
-pub use rows::least_unreached;
-
-#[cfg(test)]
-mod tests;
+pub use kept::as_list;
+pub use rows::{is_lost_row, least_unreached};

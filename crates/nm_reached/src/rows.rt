@@ -3,10 +3,10 @@
 ghost use Rattle.std.specs.Prelude.{◌≡◌, IfOk};
 ghost use Rattle.nm_tree.specs.Nodes.{reference_at};
 ghost use Rattle.nm_rules.specs.declared.rule.Rule.TheVariants as rule;
-ghost use Rattle.nm_rules.specs.Values.{claim_of, key_claims};
+ghost use Rattle.nm_rules.specs.Values.{claim_of, is_reached, key_claims};
 ghost use Rattle.nm_rules.specs.Violation.{least_at};
 ghost use Rattle.nm_validate.specs.Groups as group;
-ghost use Rattle.nm_reached.specs.Known.{Knows};
+ghost use Rattle.nm_reached.specs.Known.{Knows, claim_to};
 ghost use Rattle.nm_reached.specs.Lost as spec;
 
 use crate::at_hand::{is_at_hand, steps_left};
@@ -15,11 +15,47 @@ use crate::known::is_reached;
 use nm_base::NoMemory;
 use nm_config::{Config, RowMap};
 use nm_tree::{Reference, Schema};
-use nm_types::{Path, Value};
+use nm_types::{Chosen, Path, Value};
 use nm_validate::areas::{Grouped, NodeRow};
 use nm_validate::cases::bare;
 use nm_validate::keys::values_in;
 use std::alloc::Global;
+
+// Whether a place is in an entry of a list.
+fn is_in_entry(place: &Path) -> bool {
+    for step in &place.steps {
+        if let Chosen::Keys(_) = step.chosen {
+            return true;
+        }
+    }
+    false
+}
+
+// Whether what is claimed of a target below a place is reached. Where few rows claim, or the place is in an entry, as each row
+// may have its own, one look-up is tried before all values of the target are kept.
+fn is_claim_reached<M: RowMap>(
+    alloc: Global,
+    schema: &Schema,
+    config: &M,
+    grouped: &Grouped<'_>,
+    target: usize,
+    context: &Path,
+    value: &Value,
+    few: bool,
+    kept: &mut Config,
+) -> Result<bool, NoMemory>
+    requires grouped { group.IsGrouped schema.now (M.rows config.now) grouped.now }
+    requires knows { Knows schema.now (M.rows config.now) kept.old }
+    ensures told { IfOk result (λ is. is ≡ is_reached schema.now (M.rows config.now) (claim_to target context.now value.now)) }
+    ensures knows { IfOk result (λ _. Knows schema.now (M.rows config.now) kept.new) }
+{
+    if few || is_in_entry(context) {
+        if is_at_hand(alloc, schema, config, grouped, target, context, value)? {
+            return Ok(true);
+        }
+    }
+    is_reached(alloc, schema, config, grouped, target, context, value, kept)
+}
 
 // Whether what a leafref at a path claims isn't reached.
 fn is_lost<M: RowMap>(
@@ -30,6 +66,7 @@ fn is_lost<M: RowMap>(
     path: &Path,
     value: &Value,
     reference: Option<Reference>,
+    few: bool,
     kept: &mut Config,
 ) -> Result<bool, NoMemory>
     requires grouped { group.IsGrouped schema.now (M.rows config.now) grouped.now }
@@ -41,7 +78,7 @@ fn is_lost<M: RowMap>(
         return Ok(false);
     };
     let context = begin(alloc, path, steps_left(path, reference.up))?;
-    let reached = is_reached(
+    let reached = is_claim_reached(
         alloc,
         schema,
         config,
@@ -49,6 +86,7 @@ fn is_lost<M: RowMap>(
         reference.target,
         &context,
         value,
+        few,
         kept,
     )?;
     Ok(!reached)
@@ -83,6 +121,7 @@ fn is_key_lost<M: RowMap>(
         &path,
         value,
         Some(reference),
+        false,
         kept,
     )
 }
@@ -147,18 +186,22 @@ fn is_leaf_lost<M: RowMap>(
     ensures told { IfOk result (λ lost. lost ≡ spec.any_lost schema.now (M.rows config.now) (claim_of path.now value.now (reference_at schema.now.nodes at))) }
     ensures knows { IfOk result (λ _. Knows schema.now (M.rows config.now) kept.new) }
 {
-    let reference = schema.reference(at);
-    if has_few(grouped, at) {
-        if is_at_hand(alloc, schema, config, path, value, reference)? {
-            return Ok(false);
-        }
-    }
-    is_lost(alloc, schema, config, grouped, path, value, reference, kept)
+    is_lost(
+        alloc,
+        schema,
+        config,
+        grouped,
+        path,
+        value,
+        schema.reference(at),
+        has_few(grouped, at),
+        kept,
+    )
 }
 
-// Whether a row has a claim that isn't reached.
+/// Whether a row has a claim that isn't reached, which is told by what is kept of the targets of others, and keeps those of its own.
 #[tactic(auto, using(crate::proofs::Losing::lost_append))]
-fn is_lost_row<M: RowMap>(
+pub fn is_lost_row<M: RowMap>(
     alloc: Global,
     schema: &Schema,
     config: &M,

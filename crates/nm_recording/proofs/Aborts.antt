@@ -1,8 +1,8 @@
 -- After a run the journal records of aborted change sets what is so, and of all others devices of theirs alone.
-use Rattle.std.proofs.Common.{◌≡◌, ◌∙◌, ℕ, suc, ◌-◌, ◌==◌, Bool, true, false, not, ◌||◌, List, Option, Some, None, slice_get, bit_and, refl, sym, ap, subst, arith}
+use Rattle.std.proofs.Common.{◌≡◌, ◌∙◌, ℕ, suc, ◌-◌, ◌==◌, Bool, true, false, not, ◌||◌, List, Option, Some, refl, sym, ap, subst, arith}
 use Rattle.std.proofs.lemmas.Bool.Decides.{nat_tests}
 use Rattle.std.proofs.lemmas.Nat.Bits.{bit_at-zero}
-use Rattle.std.proofs.lemmas.Option.{none-some, same_Some}
+use Rattle.std.proofs.lemmas.Option.{none-some}
 use Rattle.nm_base.specs.declared.mask.DeviceMask.{DeviceMask}
 use Rattle.nm_base.specs.Mask.{mask_contains}
 use Rattle.nm_base.specs.Token.{token_of}
@@ -14,7 +14,6 @@ use Rattle.nm_proto.specs.Content.{Meaning, Laws}
 use Rattle.nm_history.specs.declared.outcome.Outcome.{Outcome}
 use Rattle.nm_history.specs.declared.outcome.Outcome.TheVariants.{Never, Pending, Confirmed, Undone}
 use Rattle.nm_history.specs.Outcome.{outcome_of}
-use Rattle.nm_history.specs.History.{RecordedState}
 use Rattle.nm_recovery.specs.Recovery.{verdict_in}
 use Rattle.nm_network.specs.World as world
 use Rattle.nm_network.specs.World.{Setting, WorldState, elementary, run, scene_of, start, world_step}
@@ -26,10 +25,10 @@ use Rattle.nm_safety.proofs.Safely.{run_is_safe}
 use Rattle.nm_ending.proofs.Moves.{down}
 use Rattle.nm_ending.proofs.Lasting.{Lasts, one_lasts}
 use Rattle.nm_ending.proofs.Running.{start_lasts}
-use Rattle.nm_ending.proofs.Runs.{run_keeps}
-use Rattle.nm_marking.proofs.Drained.{all_events, all_proper, drained_is}
+use Rattle.nm_safety.proofs.Steps.{run_keeps}
+use Rattle.nm_safety.proofs.Drained.{all_events, all_proper, drained_is}
 use Rattle.nm_recording.specs.Records.{IsEnded, RecordsAborts}
-use Rattle.nm_recording.proofs.Entries.{AreRight, IsRight, enters_right, within_planned}
+use Rattle.nm_recording.proofs.Entries.{AreRight, enters_right, within_planned}
 
 zero_is : (n : ℕ) (abort : Bool) → abort ≡ true → (n == 0 || not abort) ≡ true → n ≡ 0
 zero_is n abort e h = grind (arith, nat_tests)

@@ -1,10 +1,9 @@
 -- What is known of a device of a change set, at each event of that.
-use Rattle.std.proofs.Common.{◌≡◌, ◌∙◌, ℕ, Bool, true, false, cond, ◌&&◌, Option, Some, None, IfSome, is_some, option_map, option_and_then, refl, sym, ap, subst, arith}
+use Rattle.std.proofs.Common.{◌≡◌, ◌∙◌, ℕ, Bool, true, false, cond, Option, Some, None, IfSome, option_map, option_and_then, refl, sym, ap, subst, arith}
 use Rattle.std.proofs.lemmas.Bool.Decides.{nat_tests}
 use Rattle.nm_proto.specs.declared.ask.Ask.{Ask}
 use Rattle.nm_proto.specs.declared.ask.Ask.TheVariants as ask
 use Rattle.nm_proto.specs.declared.message.Request.{Request}
-use Rattle.nm_proto.specs.declared.message.Reply.{Reply}
 use Rattle.nm_proto.specs.declared.journal.Verdict.{Verdict}
 use Rattle.nm_proto.specs.declared.journal.Verdict.TheVariants as verdict
 use Rattle.nm_history.specs.declared.outcome.Outcome.{Outcome}
@@ -23,10 +22,10 @@ use Rattle.nm_wire.specs.declared.link.Way.TheVariants.{Quiet, Asked, Told}
 use Rattle.nm_wire.specs.Asks.{ask_of}
 use Rattle.nm_wire.specs.Link.{LinkState, closed_link, ends, handled_on, told_on_way}
 use Rattle.nm_wire.specs.Words.{ask_on}
-use Rattle.nm_wire.specs.Wire.{WireState, broken, current_link, handled_at, is_quiet_link, link_at, lost, restarted, sent}
-use Rattle.nm_manager.specs.Slot.{SideState, anew, asked_in_fact, cut_off, gone, is_commit, is_resync, may_go, opens, to_commit, with_wire}
+use Rattle.nm_wire.specs.Wire.{WireState, current_link, handled_at, is_quiet_link, link_at, lost, restarted, sent}
+use Rattle.nm_manager.specs.Slot.{SideState, anew, asked_in_fact, cut_off, gone, is_commit, is_resync, may_go, to_commit, with_wire}
 use Rattle.nm_pair.specs.Pair.{is_live}
-use Rattle.nm_pair.specs.Step.{GoesWith, current_ask, current_told, fits_stage, resyncs_rightly, may_go_on, way_ask, way_told}
+use Rattle.nm_pair.specs.Step.{GoesWith, current_told, fits_stage, may_go_on, way_ask, way_told}
 use Rattle.nm_pair.proofs.Pairs.{asked_is, at_resync}
 use Rattle.nm_pair.proofs.Tables.{both, found_stage}
 use Rattle.nm_pair.proofs.Wires.{IsDue, current_begun, current_changed, current_handled, current_restarted, current_sent, handled_quiet}

@@ -7,7 +7,7 @@ use Rattle.nm_history.specs.declared.outcome.Outcome.{Outcome}
 use Rattle.nm_history.specs.History.{Parted, RecordedState, lost}
 use Rattle.nm_wire.specs.Wire.{session_at}
 use Rattle.nm_manager.specs.Slot.{SlotState, lost_wire, restarted_slot, wires_on}
-use Rattle.nm_manager.specs.Manager.{ManagerState, lost_on, restarted_on, wire_in, wires_in}
+use Rattle.nm_manager.specs.Manager.{lost_on, restarted_on, wire_in, wires_in}
 use Rattle.nm_network.specs.World.{SceneState, Meeting, manager_in, met, lost_by, loses, losing_at, is_side_open, losing, anew_at, going_anew}
 use Rattle.nm_safety.proofs.Lists.{some_is}
 use Rattle.nm_safety.proofs.Managed.{others_stay}

@@ -1,12 +1,10 @@
 -- What the entries of a journal tell of the end of a change set, as they come.
-use Rattle.std.proofs.Common.{◌≡◌, ◌∙◌, ℕ, suc, ◌-◌, ◌==◌, nat_eq, Bool, true, false, not, cond, ◌&&◌, ◌||◌, List, [], ◌∷◌, ◌++◌, find, Option, Some, None, IfSome, is_some, option_and_then, slice_get, refl, sym, ap, subst, arith}
+use Rattle.std.proofs.Common.{◌≡◌, ◌∙◌, ℕ, suc, ◌-◌, ◌==◌, nat_eq, Bool, true, false, not, cond, ◌&&◌, ◌||◌, List, [], ◌∷◌, ◌++◌, find, Option, Some, None, IfSome, is_some, option_and_then, slice_get, refl, sym, ap, subst}
 use Rattle.std.specs.List.{list_any}
 use Rattle.std.specs.Option.{option_or}
-use Rattle.std.proofs.lemmas.Bool.Decides.{nat_tests}
 use Rattle.std.proofs.lemmas.List.Folds.{find-append}
 use Rattle.std.proofs.lemmas.Option.{none-some, same_Some}
 use Rattle.nm_base.specs.declared.mask.DeviceMask.{DeviceMask}
-use Rattle.nm_proto.specs.declared.journal.Verdict.{Verdict}
 use Rattle.nm_proto.specs.declared.journal.Verdict.TheVariants as verdict
 use Rattle.nm_proto.specs.declared.journal.Entry.{Entry}
 use Rattle.nm_proto.specs.declared.journal.Entry.TheVariants.{Started, Decided, Ended}
@@ -61,7 +59,7 @@ no_abort false false true follows h = absurd (let g : false ≡ true = follows r
 
 -- ---- the first end is the one that counts
 
-some_ended : (change : ℕ) (entries : List Entry) → is_some (find (ends change) entries) ≡ true → is_ended_in change entries ≡ true
+pub some_ended : (change : ℕ) (entries : List Entry) → is_some (find (ends change) entries) ≡ true → is_ended_in change entries ≡ true
 some_ended change [] h = absurd (let g : false ≡ true = h in cc)
 some_ended change (entry ∷ entries) h = by_first (ends change entry) h (some_ended change entries)
   where

@@ -1,5 +1,5 @@
 -- A change set that is to be committed ends with just those devices as keeping it where it is confirmed, and is pending nowhere.
-use Rattle.std.proofs.Common.{◌≡◌, ◌∙◌, ℕ, ◌+◌, ◌&&◌, Bool, true, false, List, Option, Some, refl, sym, ap, subst, slice_get, arith}
+use Rattle.std.proofs.Common.{◌≡◌, ◌∙◌, ℕ, ◌+◌, ◌&&◌, Bool, true, List, Option, Some, ap, subst, slice_get, arith}
 use Rattle.std.proofs.lemmas.Bool.Decides.{nat_tests}
 use Rattle.nm_base.specs.declared.mask.DeviceMask.{DeviceMask}
 use Rattle.nm_base.specs.Mask.{mask_contains}
@@ -8,7 +8,6 @@ use Rattle.nm_history.specs.declared.outcome.Outcome.{Outcome}
 use Rattle.nm_history.specs.Outcome.{is_final}
 use Rattle.nm_decider.specs.declared.seat.Seat.{Seat}
 use Rattle.nm_decider.specs.declared.stage.Stage.{Stage}
-use Rattle.nm_decider.specs.declared.stage.Stage.TheVariants.{Live, Refused, Failed, NeedMark, Resync, Leaving, Settled}
 use Rattle.nm_decider.specs.declared.course.NextAction.TheVariants.{Finish}
 use Rattle.nm_decider.specs.Stages.{has_kept, is_settled}
 use Rattle.nm_decider.specs.Course.{next_action}

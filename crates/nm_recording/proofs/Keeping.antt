@@ -1,5 +1,5 @@
 -- What is known of the devices of one change set at a decision.
-use Rattle.std.proofs.Common.{◌≡◌, ◌∙◌, ℕ, suc, ◌-◌, ◌+◌, true, false, List, [], ◌∷◌, length, Option, Some, None, is_some, slice_get, refl, ap, subst}
+use Rattle.std.proofs.Common.{◌≡◌, ◌∙◌, ℕ, suc, ◌+◌, true, false, List, [], ◌∷◌, length, Option, Some, None, is_some, slice_get, refl, ap, subst}
 use Rattle.std.specs.List.{All}
 use Rattle.std.proofs.lemmas.Option.{slice_get_within, get_or_from_slice_get}
 use Rattle.nm_proto.specs.declared.journal.Entry.{Entry}

@@ -1,5 +1,5 @@
 -- What is known of devices stays known, whatever happens at them.
-use Rattle.std.proofs.Common.{◌≡◌, ◌∙◌, ℕ, suc, Bool, true, false, not, ◌||◌, List, [], ◌∷◌, ◌++◌, Option, Some, None, IfSome, option_map, slice_get, refl, sym, ap, subst, arith}
+use Rattle.std.proofs.Common.{◌≡◌, ◌∙◌, ℕ, suc, Bool, true, false, List, [], ◌∷◌, ◌++◌, Option, Some, None, IfSome, option_map, slice_get, refl, sym, ap, subst, arith}
 use Rattle.std.proofs.lemmas.Bool.Decides.{nat_tests}
 use Rattle.nm_base.specs.Token.{token_of}
 use Rattle.nm_proto.specs.declared.ask.Ask.{Ask}
@@ -12,7 +12,7 @@ use Rattle.nm_history.specs.declared.event.Noted.{Noted}
 use Rattle.nm_history.specs.declared.outcome.Outcome.{Outcome}
 use Rattle.nm_history.specs.declared.outcome.Outcome.TheVariants.{Never, Pending, Confirmed, Undone}
 use Rattle.nm_history.specs.Effect.{Effect, noted_effect}
-use Rattle.nm_history.specs.Outcome.{Standing, is_final, outcome_of, standing_after, standing_from}
+use Rattle.nm_history.specs.Outcome.{Standing, is_final, outcome_of, standing_after}
 use Rattle.nm_history.specs.History.{Happened, RecordedState, noted, recorded_with}
 use Rattle.nm_standing.specs.Moment.{Happens}
 use Rattle.nm_standing.specs.Telling.{standing_of}
@@ -21,11 +21,10 @@ use Rattle.nm_decider.specs.declared.seat.Seat.{Seat}
 use Rattle.nm_wire.specs.declared.link.Exchange.{Exchange}
 use Rattle.nm_wire.specs.Asks.{ask_of}
 use Rattle.nm_manager.specs.Slot.{SideState, SlotState}
-use Rattle.nm_network.specs.World.{Setting, WorldState, event_step, run}
+use Rattle.nm_network.specs.World.{Setting, WorldState, run}
 use Rattle.nm_pair.specs.Step.{current_told}
 use Rattle.nm_safety.proofs.Devices.{run_keeps}
-use Rattle.nm_safety.proofs.Lists.{to_some}
-use Rattle.nm_recording.specs.Support.{AllKnown, IsKnown, IsTold, KnownAt, is_known_as, outcomes_at, reply_tells, wants_mark}
+use Rattle.nm_recording.specs.Support.{IsTold, KnownAt, is_known_as, outcomes_at, reply_tells, wants_mark}
 use Rattle.nm_recording.proofs.Tables.{known_final}
 use Rattle.nm_recording.proofs.Managed.{AreKnown}
 use Rattle.nm_recording.proofs.Slots.{Known}

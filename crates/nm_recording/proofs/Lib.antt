@@ -9,3 +9,12 @@ pub mod Ends
 pub mod Later
 pub mod Replies
 pub mod Finishing
+pub mod Marks
+pub mod Telling
+pub mod Deliver
+pub mod Passing
+pub mod Ended
+pub mod Steps
+pub mod Said
+pub mod Commits
+pub mod Whole

@@ -1,5 +1,5 @@
 -- What a device tells of a change set that is to be committed, once it was committed there.
-use Rattle.std.proofs.Common.{◌≡◌, ◌∙◌, ℕ, Bool, true, false, List, Option, Some, None, refl, sym, ap, subst, arith}
+use Rattle.std.proofs.Common.{◌≡◌, true, false, arith}
 use Rattle.std.proofs.lemmas.Bool.Decides.{nat_tests}
 use Rattle.nm_history.specs.declared.outcome.Outcome.{Outcome}
 use Rattle.nm_history.specs.Outcome.{is_final, is_pending, is_undone}

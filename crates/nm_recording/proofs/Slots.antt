@@ -35,7 +35,7 @@ use Rattle.nm_pair.proofs.Tables.{found_stage}
 use Rattle.nm_pair.proofs.Pairs.{at_resync, told_ask}
 use Rattle.nm_pair.proofs.Steps.{pair_at, found_course, resync_alone}
 use Rattle.nm_safety.proofs.Managed.{others_stay}
-use Rattle.nm_recording.specs.Support.{AllKnown, IsKnown, IsTold, KnownAt, knows_at, wants_mark}
+use Rattle.nm_recording.specs.Support.{AllKnown, IsKnown, KnownAt, knows_at, wants_mark}
 use Rattle.nm_recording.proofs.Course.{broken_known, closed_known, decided_known, handled_known, renewed_known, restarted_known, resynced_known, turned_known}
 
 -- what is known of all devices under the verdict of the course

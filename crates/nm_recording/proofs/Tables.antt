@@ -1,15 +1,12 @@
 -- What is known at a stage, as replies come.
-use Rattle.std.proofs.Common.{◌≡◌, ◌∙◌, ℕ, ◌||◌, not, Bool, true, false, Option, Some, None, refl, sym, ap, arith}
+use Rattle.std.proofs.Common.{◌≡◌, ◌∙◌, ℕ, Bool, true, false, Some, None, refl, sym, ap, arith}
 use Rattle.std.proofs.lemmas.Bool.Decides.{nat_tests}
 use Rattle.nm_proto.specs.declared.ask.Ask.{Ask}
 use Rattle.nm_proto.specs.declared.ask.Ask.TheVariants as ask
 use Rattle.nm_proto.specs.declared.message.Reply.{Reply}
-use Rattle.nm_proto.specs.declared.message.Reply.TheVariants.{Done, Opened, LockId, Mark, Rows, Error}
-use Rattle.nm_proto.specs.declared.journal.Verdict.{Verdict}
 use Rattle.nm_proto.specs.declared.journal.Verdict.TheVariants as verdict
 use Rattle.nm_history.specs.declared.outcome.Outcome.{Outcome}
-use Rattle.nm_history.specs.declared.outcome.Outcome.TheVariants.{Never, Pending, Confirmed, Undone}
-use Rattle.nm_history.specs.Outcome.{is_final, is_undone}
+use Rattle.nm_history.specs.Outcome.{is_final}
 use Rattle.nm_decider.specs.declared.stage.Stage.{Stage}
 use Rattle.nm_decider.specs.declared.stage.Stage.TheVariants.{Live, Refused, Failed, NeedMark, Resync, Leaving, Settled}
 use Rattle.nm_decider.specs.Stages.{broken_stage, is_acknowledged, learnt}
@@ -17,9 +14,9 @@ use Rattle.nm_resync.specs.declared.resync.ResyncStage.{ResyncStage}
 use Rattle.nm_resync.specs.declared.resync.ResyncStage.TheVariants.{Opening, Discarding, Locking, Holding, Confirming, Checking, Closing, Done as Known}
 use Rattle.nm_resync.specs.Resync.{resync_ask, resync_learnt, settled_in}
 use Rattle.nm_resync.specs.Known.{knows}
-use Rattle.nm_pair.specs.Pair.{is_confirmed, is_live}
+use Rattle.nm_pair.specs.Pair.{is_live}
 use Rattle.nm_pair.proofs.Tables.{found_stage}
-use Rattle.nm_recording.specs.Support.{confirm_tells, is_known_as, knows_at, mark_tells, reply_tells, wants_mark}
+use Rattle.nm_recording.specs.Support.{is_known_as, knows_at, reply_tells, wants_mark}
 
 -- ---- what is final stays
 

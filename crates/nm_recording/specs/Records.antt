@@ -1,10 +1,12 @@
 -- What the journal records at the end of a change set (this project's own): who kept it.
-use Rattle.std.specs.Prelude.{◌≡◌, ℕ, suc, true, Some, slice_get}
+use Rattle.std.specs.Prelude.{◌≡◌, ◌≢◌, ℕ, suc, true, Some, slice_get}
 use Rattle.nm_base.specs.declared.mask.DeviceMask.{DeviceMask}
 use Rattle.nm_base.specs.Mask.{mask_contains}
 use Rattle.nm_base.specs.Token.{token_of}
+use Rattle.nm_proto.specs.declared.journal.Verdict.TheVariants.{Commit}
 use Rattle.nm_proto.specs.declared.plan.ChangePlan.{ChangePlan}
 use Rattle.nm_proto.specs.Plan.{devices_in}
+use Rattle.nm_history.specs.declared.outcome.Outcome.TheVariants.{Pending}
 use Rattle.nm_history.specs.Outcome.{outcome_of}
 use Rattle.nm_history.specs.History.{RecordedState}
 use Rattle.nm_journal.specs.Entries.{is_within}
@@ -28,5 +30,29 @@ module _ {Config TheEdit Node : Type 0} (setting : Setting TheEdit) (w : WorldSt
     -- and they are just those where it is confirmed
     pub aborted : (place : ℕ) (plan : ChangePlan) (kept : DeviceMask) → IsEnded place plan kept
         → is_abort (verdict_in (suc place) w.entries) ≡ true
+        → (device : ℕ) (r : RecordedState Config Node) → slice_get w.devices device ≡ Some r
+        → mask_contains kept.0 (suc device) ≡ is_confirmed (outcome_of (token_of (suc place)) r.history)
+
+  -- of a change set that was to be committed and is ended (RFC 6241 section 8.4)
+  pub record RecordsCommits : Type 0 where
+    -- it is pending at no device any more
+    pub over : (place : ℕ) (plan : ChangePlan) (kept : DeviceMask) → IsEnded place plan kept
+        → verdict_in (suc place) w.entries ≡ Some Commit
+        → (device : ℕ) (r : RecordedState Config Node) → slice_get w.devices device ≡ Some r
+        → outcome_of (token_of (suc place)) r.history ≢ Pending
+    -- and those that are recorded to have kept it are just those where it is confirmed
+    pub kept : (place : ℕ) (plan : ChangePlan) (kept : DeviceMask) → IsEnded place plan kept
+        → verdict_in (suc place) w.entries ≡ Some Commit
+        → (device : ℕ) (r : RecordedState Config Node) → slice_get w.devices device ≡ Some r
+        → mask_contains kept.0 (suc device) ≡ is_confirmed (outcome_of (token_of (suc place)) r.history)
+
+  -- the end of every change set is as it is recorded (RFC 6241 section 8.4)
+  pub record EndsAsRecorded : Type 0 where
+    -- nothing of it is pending at any device any more
+    pub over : (place : ℕ) (plan : ChangePlan) (kept : DeviceMask) → IsEnded place plan kept
+        → (device : ℕ) (r : RecordedState Config Node) → slice_get w.devices device ≡ Some r
+        → outcome_of (token_of (suc place)) r.history ≢ Pending
+    -- and those that are recorded to have kept it are just those where it is confirmed
+    pub kept : (place : ℕ) (plan : ChangePlan) (kept : DeviceMask) → IsEnded place plan kept
         → (device : ℕ) (r : RecordedState Config Node) → slice_get w.devices device ≡ Some r
         → mask_contains kept.0 (suc device) ≡ is_confirmed (outcome_of (token_of (suc place)) r.history)

@@ -1,24 +1,23 @@
 -- A fault of modules is in one of them.
-use Rattle.std.proofs.Common.{◌≡◌, ℕ, zero, suc, ◌+◌, ◌≤◌, ◌<◌, List, [], ◌∷◌, length, map, Bool, true, false, cond, Option, Some, None, Err, refl, ap, sym, subst, ◌∙◌, arith, ◌⊎◌, inl, inr}
+use Rattle.std.proofs.Common.{◌≡◌, ℕ, zero, suc, ◌+◌, ◌≤◌, ◌<◌, List, [], ◌∷◌, length, map, Bool, true, false, cond, Option, Some, None, Err, refl, sym, subst, arith}
 use Rattle.std.specs.Prelude.{slice_get, ◌&&◌}
 use Rattle.std.specs.Option.{option_or}
-use Rattle.std.specs.List.{All, find, range_with_len}
+use Rattle.std.specs.List.{All, range_with_len}
 use Rattle.std.proofs.lemmas.List.Elements.{All-nil, All-cons, All-append, All-head, All-tail, All-weaker}
 use Rattle.nm_yang.specs.Tree.{Tree, Trees, statement, none, more}
 use Rattle.nm_yang.specs.Grammar.{keyword_of}
 use Rattle.nm_grammar.specs.declared.row.Row.{Row}
 use Rattle.nm_grammar.specs.declared.flaw.Flaw.{Flaw}
-use Rattle.nm_grammar.specs.Rows.{is_skipped, is_opened, row_for, rows_from, rows_within, rows_after, rows_of, those_in, roots}
+use Rattle.nm_grammar.specs.Rows.{is_skipped, is_opened, row_for, rows_from, rows_within, rows_after, rows_of}
 use Rattle.nm_grammar.specs.Word.{word_of}
 use Rattle.nm_names.specs.Named.{row_at, top}
 use Rattle.nm_typing.specs.Listing.{is_at}
-use Rattle.nm_expansion.specs.declared.instance.Instance.{Instance}
-use Rattle.nm_expansion.specs.Expansion.{IsExpansion, first_large, row_of}
+use Rattle.nm_expansion.specs.Expansion.{first_large}
 use Rattle.nm_flaws.specs.declared.fault.Fault.{Fault}
-use Rattle.nm_flaws.specs.Facts.{Facts, AreFacts, definitions}
+use Rattle.nm_flaws.specs.Facts.{Facts, definitions}
 use Rattle.nm_flaws.specs.Flaw.{flaw_at}
 use Rattle.nm_flaws.specs.Fault.{first_some, flawed, is_last, large_by, large_in, large_at, fault_at, first_fault}
-use Rattle.nm_schema.specs.Built.{unknown_at, first_ungrown, is_unknown, first_unknown, outcome, built, Builds}
+use Rattle.nm_schema.specs.Built.{outcome, built, Builds}
 use Rattle.nm_refusals.specs.Told.{module_of_fault}
 
 -- ---- the rows of a module have its number
@@ -117,64 +116,16 @@ first_fault_in : (modules : List Tree) (facts : Facts) → IfIn (length modules)
 unfolding first_fault
 first_fault_in modules facts = first_in (length modules) (fault_at (rows_of modules) facts) (range_with_len 0 (length (rows_of modules))) (at_in modules facts)
 
--- ---- what isn't known
+-- ---- what modules give
 
-unknown_in : (modules : List Tree) (row : Option Row) → 0 < length modules → ((r : Row) → row ≡ Some r → r.«module» < length modules) → InModule (length modules) (unknown_at row)
-unknown_in modules None some known = some
-unknown_in modules (Some r) some known = known r refl
+outcome_in : (modules : List Tree) (facts : Facts) (first : Option Fault) (fault : Fault) → IfIn (length modules) first → Err fault ≡ outcome (rows_of modules) facts first → module_of_fault fault < length modules
+outcome_in modules facts (Some f) fault is e = let same : fault ≡ f = cc in subst (InModule (length modules)) (sym same) is
+outcome_in modules facts None fault is e = cc
 
-row_at_below : (modules : List Tree) (i : Option ℕ) (r : Row) → row_at (rows_of modules) i ≡ Some r → r.«module» < length modules
-row_at_below modules None r e = cc
-row_at_below modules (Some i) r e = row_below modules i r e
-
--- where there is no module, nothing is unknown
-none_ungrown : first_ungrown [] ≡ None
-unfolding first_ungrown those_in
-none_ungrown = refl
-
-no_roots : length (roots []) ≡ 0
-unfolding those_in
-no_roots = refl
-
-no_nodes : (facts : Facts) → AreFacts [] facts → facts.nodes ≡ []
-no_nodes facts are = empty facts.nodes are.nodes
-  where
-    empty : (nodes : List Instance) → IsExpansion [] (definitions []) nodes → nodes ≡ []
-    empty [] is = refl
-    empty (node ∷ nodes) is = absurd (omega (arith, is.owners 0 node refl, no_roots))
-
-none_unknown : (facts : Facts) → facts.nodes ≡ [] → first_unknown [] facts ≡ None
-unfolding first_unknown
-none_unknown facts e = ap (λ (nodes : List Instance). find (is_unknown [] facts) (range_with_len 0 (length nodes))) e
-
-no_rows : rows_of [] ≡ []
-unfolding rows_after
-no_rows = refl
-
-outcome_in : (modules : List Tree) (facts : Facts) (first : Option Fault) (m x : Option ℕ) (fault : Fault) → IfIn (length modules) first → (((m ≡ None) × (x ≡ None)) ⊎ (0 < length modules))
-    → Err fault ≡ outcome (rows_of modules) facts first m x → module_of_fault fault < length modules
-outcome_in modules facts (Some f) m x fault is known e = let same : fault ≡ f = cc in subst (InModule (length modules)) (sym same) is
-outcome_in modules facts None (Some m) x fault is (inl neither) e = let clash : Some m ≡ None = neither.0 in cc
-outcome_in modules facts None (Some m) x fault is (inr some) e =
-    let same : fault ≡ unknown_at (row_at (rows_of modules) (top (rows_of modules) m)) = cc in
-    subst (InModule (length modules)) (sym same) (unknown_in modules (row_at (rows_of modules) (top (rows_of modules) m)) some (row_at_below modules (top (rows_of modules) m)))
-outcome_in modules facts None None (Some x) fault is (inl neither) e = let clash : Some x ≡ None = neither.1 in cc
-outcome_in modules facts None None (Some x) fault is (inr some) e =
-    let same : fault ≡ unknown_at (row_at (rows_of modules) (row_of facts.nodes x)) = cc in
-    subst (InModule (length modules)) (sym same) (unknown_in modules (row_at (rows_of modules) (row_of facts.nodes x)) some (row_at_below modules (row_of facts.nodes x)))
-outcome_in modules facts None None None fault is known e = cc
-
-known_or_some : (modules : List Tree) (facts : Facts) → AreFacts (rows_of modules) facts → ((first_ungrown (rows_of modules) ≡ None) × (first_unknown (rows_of modules) facts ≡ None)) ⊎ (0 < length modules)
-known_or_some [] facts are =
-    let nowhere : AreFacts [] facts = subst (λ rows. AreFacts rows facts) no_rows are in
-    inl (ap first_ungrown no_rows ∙ none_ungrown, ap (λ rows. first_unknown rows facts) no_rows ∙ none_unknown facts (no_nodes facts nowhere))
-known_or_some (t ∷ ts) facts are = inr (omega arith)
-
-built_in : (modules : List Tree) (facts : Facts) (fault : Fault) → AreFacts (rows_of modules) facts → Err fault ≡ built (rows_of modules) facts → module_of_fault fault < length modules
+built_in : (modules : List Tree) (facts : Facts) (fault : Fault) → Err fault ≡ built (rows_of modules) facts → module_of_fault fault < length modules
 unfolding built
-built_in modules facts fault are e =
-    outcome_in modules facts (first_fault (rows_of modules) facts) (first_ungrown (rows_of modules)) (first_unknown (rows_of modules) facts) fault (first_fault_in modules facts) (known_or_some modules facts are) e
+built_in modules facts fault e = outcome_in modules facts (first_fault (rows_of modules) facts) fault (first_fault_in modules facts) e
 
 -- a fault that modules have is in one of them
 pub fault_in_module : (modules : List Tree) (fault : Fault) → Builds modules (Err fault) → module_of_fault fault < length modules
-fault_in_module modules fault builds = built_in modules builds.facts fault builds.facts_are builds.given_is
+fault_in_module modules fault builds = built_in modules builds.facts fault builds.given_is

@@ -5,13 +5,11 @@ use Rattle.nm_proto.specs.declared.plan.Event.{Event}
 use Rattle.nm_proto.specs.declared.plan.Event.TheVariants.{Submit, Turn, Deliver, Answer, Break, Lose, Advance, Restart, Forget, Crash, Renew, Foreign, Leave, Round}
 use Rattle.nm_proto.specs.Content.{Meaning, Laws}
 use Rattle.nm_device.specs.Device.{is_manager}
-use Rattle.nm_manager.specs.Manager.{wire_in, request_next}
-use Rattle.nm_network.specs.declared.happened.Sending.{Sending}
-use Rattle.nm_network.specs.World.{Setting, SceneState, WorldState, elementary, world_step, scene_of, manager_in, sending_of, replies_on, followed, round, rounds, event_step, run}
+use Rattle.nm_network.specs.World.{Setting, SceneState, WorldState, elementary, world_step, scene_of, run}
 use Rattle.nm_safety.specs.Safe.{IsGiven, AreGiven}
 use Rattle.nm_safety.specs.Support.{IsSupported}
 use Rattle.nm_safety.proofs.Runs.{one_supported}
-use Rattle.nm_safety.proofs.Sendings.{turn_goes}
+use Rattle.nm_safety.proofs.Steps.{run_keeps}
 use Rattle.nm_leaving.specs.Support.{AreClean}
 use Rattle.nm_leaving.proofs.Deliver as clean
 use Rattle.nm_leaving.proofs.Ends as clean_end
@@ -81,30 +79,6 @@ module _ {Config TheEdit Node : Type 0} (m : Meaning Config TheEdit Node) (laws 
     fits = came_fit (scene_of w) event given k.supported k.clean k.fits;
   }
 
-  followed_refusing : (w : WorldState Config Node) (change : ℕ) → 1 ≤ change → (sending : Option Sending)
-      → IfSome sending (λ (one : Sending). 1 ≤ one.device) → IsRefusing w → IsRefusing (followed m setting w change sending)
-  followed_refusing w change numbered None sent k = k
-  followed_refusing w change numbered (Some sending) sent k =
-      let v = world_step m setting w (Deliver change sending.device sending.link) in
-      one_refusing v (Answer change sending.device sending.link
-      (replies_on (wire_in (manager_in (scene_of v)) change sending.device) sending.link)) (numbered, sent)
-      (one_refusing w (Deliver change sending.device sending.link) numbered k)
-
-  rounds_refusing : (n : ℕ) (w : WorldState Config Node) (change : ℕ) → 1 ≤ change → IsRefusing w → IsRefusing (rounds m setting n w change)
-  rounds_refusing zero w change numbered k = k
-  rounds_refusing (suc n) w change numbered k =
-      rounds_refusing n (round m setting w change) change numbered
-      (followed_refusing (world_step m setting w (Turn change)) change numbered
-      (sending_of (elementary m setting (scene_of w) (Turn change)).happened)
-      (turn_goes setting.plans (manager_in (scene_of w)) change (request_next setting.plans (manager_in (scene_of w)) change))
-      (one_refusing w (Turn change) numbered k))
-
-  step_refusing : (w : WorldState Config Node) (event : Event) → IsGiven setting event → IsRefusing w
-      → IsRefusing (event_step m setting w event)
-  step_refusing w (Round change turns) given k = rounds_refusing turns w change given k
-  step_refusing w event given k = one_refusing w event given k
-
   pub run_refusing : (w : WorldState Config Node) (events : List Event) → AreGiven setting events → IsRefusing w
       → IsRefusing (run m setting w events)
-  run_refusing w [] given k = k
-  run_refusing w (event ∷ events) given k = run_refusing (event_step m setting w event) events given.1 (step_refusing w event given.0 k)
+  run_refusing w events given k = run_keeps m setting IsRefusing one_refusing w events given k

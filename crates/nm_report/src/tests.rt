@@ -1,7 +1,8 @@
 use crate::check::write_check;
 use crate::trace::{write_reply, write_verdict};
 use nm_base::{DeviceNo, Label, NoMemory, SessionId, Tag};
-use nm_proto::{AbortCause, Reply, Verdict};
+use nm_network::happened::{Happened, Sending};
+use nm_proto::{AbortCause, Reply, Request, Verdict};
 use std::alloc::Global;
 use std::test::Fail;
 
@@ -105,5 +106,19 @@ fn checks_are_written(rt: HostRuntime) -> Result<(), Fail> {
         let text = write_check(rt.alloc(), names, rows, changes, operators, events)?;
         assert_eq!(rt; text.as_slice(), want.as_bytes());
     }
+    Ok(())
+}
+
+// A request that was sent is told with its device and link, and nothing else is.
+#[test]
+fn what_was_sent_is_told(rt: HostRuntime) -> Result<(), Fail> {
+    let device = DeviceNo::new(2).ok_or("range")?;
+    let sent = Happened::Sent {
+        device,
+        link: 3,
+        request: Request::Validate,
+    };
+    assert_eq!(rt; sent.sending(), Some(Sending { device, link: 3 }));
+    assert_eq!(rt; Happened::Handled.sending(), None);
     Ok(())
 }

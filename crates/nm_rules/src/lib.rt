@@ -8,6 +8,3 @@ pub mod laws;
 pub mod rule;
 
 pub use rule::Rule;
-
-#[cfg(test)]
-mod tests;

@@ -13,7 +13,7 @@ use Rattle.nm_safety.proofs.Sound.{run_sound}
 use Rattle.nm_safety.proofs.Safely.{run_is_safe}
 
 -- a step is an event that a scenario may have
-step_given : {TheEdit : Type 0} (setting : Setting TheEdit) (event : Event) → IsStep event → IsGiven setting event
+pub step_given : {TheEdit : Type 0} (setting : Setting TheEdit) (event : Event) → IsStep event → IsGiven setting event
 step_given setting (Submit change) step = absurd step
 step_given setting (Turn change) step = step
 step_given setting (Deliver change device link) step = step
@@ -89,16 +89,16 @@ module _ {Config TheEdit Node : Type 0} (m : Meaning Config TheEdit Node) (laws 
   abbrev ran : WorldState Config Node
   ran = run m setting (start setting running) events
 
-  abbrev all_events : List Event
+  abbrev pub all_events : List Event
   all_events = events ++ steps_of m setting steps ran
 
-  drained_is : run m setting (start setting running) all_events ≡ drained m setting steps ran
+  pub drained_is : run m setting (start setting running) all_events ≡ drained m setting steps ran
   drained_is = run_then m setting (start setting running) events (steps_of m setting steps ran) ∙ steps_run m setting steps ran
 
   pub drained_sound : AreSoundFrom m setting running (drained m setting steps ran)
   drained_sound = subst (AreSoundFrom m setting running) drained_is (run_sound m laws setting running all_events)
 
-  all_proper : IsProper {Node = Node} m setting running events → IsProper {Node = Node} m setting running all_events
+  pub all_proper : IsProper {Node = Node} m setting running events → IsProper {Node = Node} m setting running all_events
   all_proper proper = record {
     first = proper.first;
     edits = proper.edits;

@@ -19,6 +19,7 @@ pub mod Deliver
 pub mod Operators
 pub mod Start
 pub mod Sendings
+pub mod Steps
 pub mod Runs
 pub mod Safely
 pub mod Drained

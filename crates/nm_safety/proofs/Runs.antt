@@ -7,13 +7,11 @@ use Rattle.nm_proto.specs.declared.plan.Event.TheVariants.{Submit, Turn, Deliver
 use Rattle.nm_proto.specs.Content.{Meaning, Laws}
 use Rattle.nm_device.specs.Device.{is_manager}
 use Rattle.nm_device.specs.Table.{opening_user}
-use Rattle.nm_manager.specs.Manager.{wire_in, request_next}
-use Rattle.nm_safety.proofs.Sendings.{turn_goes}
-use Rattle.nm_network.specs.declared.happened.Sending.{Sending}
-use Rattle.nm_network.specs.World.{Setting, SceneState, WorldState, elementary, world_step, scene_of, manager_in, sending_of, replies_on, followed, round, rounds, event_step, run}
+use Rattle.nm_network.specs.World.{Setting, SceneState, WorldState, elementary, world_step, scene_of, run}
 use Rattle.nm_safety.specs.Safe.{IsOwnOpening, IsGiven, AreGiven}
 use Rattle.nm_safety.specs.Support.{IsSupported}
 use Rattle.nm_safety.proofs.Lists.{some_is, to_some}
+use Rattle.nm_safety.proofs.Steps.{run_keeps}
 use Rattle.nm_safety.proofs.Managed.{submitted_moves, turned_moves, received_moves, broken_moves, forgotten_moves, renewed_moves, crashed_moves}
 use Rattle.nm_safety.proofs.Ends.{passing_moves, anew_moves, losing_moves}
 use Rattle.nm_safety.proofs.Deliver.{delivering_moves}
@@ -53,24 +51,5 @@ module _ {Config TheEdit Node : Type 0} (m : Meaning Config TheEdit Node) (laws 
   pub one_supported : (w : WorldState Config Node) (event : Event) → IsGiven setting event → SupportedIn w → SupportedIn (world_step m setting w event)
   one_supported w event given s = came_supported (scene_of w) event given s
 
-  followed_supported : (w : WorldState Config Node) (change : ℕ) → 1 ≤ change → (sending : Option Sending) → IfSome sending (λ (one : Sending). 1 ≤ one.device) → SupportedIn w → SupportedIn (followed m setting w change sending)
-  followed_supported w change numbered None sent s = s
-  followed_supported w change numbered (Some sending) sent s =
-      let v = world_step m setting w (Deliver change sending.device sending.link) in
-      one_supported v (Answer change sending.device sending.link (replies_on (wire_in (manager_in (scene_of v)) change sending.device) sending.link)) (numbered, sent)
-      (one_supported w (Deliver change sending.device sending.link) numbered s)
-
-  rounds_supported : (n : ℕ) (w : WorldState Config Node) (change : ℕ) → 1 ≤ change → SupportedIn w → SupportedIn (rounds m setting n w change)
-  rounds_supported zero w change numbered s = s
-  rounds_supported (suc n) w change numbered s =
-      rounds_supported n (round m setting w change) change numbered
-      (followed_supported (world_step m setting w (Turn change)) change numbered (sending_of (elementary m setting (scene_of w) (Turn change)).happened)
-      (turn_goes setting.plans (manager_in (scene_of w)) change (request_next setting.plans (manager_in (scene_of w)) change)) (one_supported w (Turn change) numbered s))
-
-  step_supported : (w : WorldState Config Node) (event : Event) → IsGiven setting event → SupportedIn w → SupportedIn (event_step m setting w event)
-  step_supported w (Round change turns) given s = rounds_supported turns w change given s
-  step_supported w event given s = one_supported w event given s
-
   pub run_supported : (w : WorldState Config Node) (events : List Event) → AreGiven setting events → SupportedIn w → SupportedIn (run m setting w events)
-  run_supported w [] given s = s
-  run_supported w (event ∷ events) given s = run_supported (event_step m setting w event) events given.1 (step_supported w event given.0 s)
+  run_supported w events given s = run_keeps m setting SupportedIn one_supported w events given s

@@ -6,5 +6,3 @@
 
 pub mod laws;
 pub mod reported;
-#[cfg(test)]
-mod tests;

@@ -37,7 +37,7 @@ pub record IsPassed (test : Instance → Bool) (n : ℕ) (xs : List Instance) (y
 passed_later : (test : Instance → Bool) (n : ℕ) (z : Instance) (xs : List Instance) (y : ℕ) → IsPassed test (suc n) xs y → IsPassed test n (z ∷ xs) y
 passed_later test n z xs y is = record { i = suc is.i; x = is.x; at = omega (arith, is.at); there = is.there; passes = is.passes }
 
-of_places : (test : Instance → Bool) (n : ℕ) (xs : List Instance) (y : ℕ) → Contains (places_of test n xs) y → IsPassed test n xs y
+pub of_places : (test : Instance → Bool) (n : ℕ) (xs : List Instance) (y : ℕ) → Contains (places_of test n xs) y → IsPassed test n xs y
 unfolding places_of
 of_places test n [] y c = absurd (nothing y c)
 of_places test n (z ∷ xs) y c = by (test z) refl (of_places test (suc n) xs y) c

@@ -22,7 +22,7 @@ use Rattle.nm_schema.specs.Kind.{kind_of}
 use Rattle.nm_schema.specs.Choices.{Place, places, forks_in, case_count, cases_before, spot_at, spots_in, spots_at, place_of, beside, case_of, tree_cases, module_name}
 use Rattle.nm_schema.specs.Node.{node_with, node_by, node_in, node_of, known_nodes}
 use Rattle.nm_schema.specs.Marker.{changes_node, applied_node, change_node, marker_nodes}
-use Rattle.nm_schema.specs.Built.{first_ungrown, first_unknown, tree_of, outcome, built, AreBuilt, Builds}
+use Rattle.nm_schema.specs.Built.{tree_of, outcome, built, AreBuilt, Builds}
 use Rattle.nm_schema.proofs.Walking.{none_walked, forks_walked}
 use Rattle.nm_schema.proofs.Chosen.{cases_size, place_there}
 
@@ -120,17 +120,15 @@ at_cased count [] all x c e = absurd (cc)
 at_cased count (n ∷ nodes) all zero c e = subst (λ (o : Option ℕ). IfSome o (λ c. c < count)) e (all 0 n (omega arith))
 at_cased count (n ∷ nodes) all (suc x) c e = at_cased count nodes (λ k d lt. all (suc k) d (omega (arith, lt))) x c e
 
-of_outcome : (rows : List Row) (facts : Facts) (t : SchemaTree) → AreFacts rows facts → (f : Option Fault) (m x : Option ℕ) → Ok t ≡ outcome rows facts f m x → (y c : ℕ) → case_at t.nodes y ≡ Some c → c < length t.cases
-of_outcome rows facts t are (Some f) m x e = absurd (cc)
-of_outcome rows facts t are None (Some m) x e = absurd (cc)
-of_outcome rows facts t are None None (Some x) e = absurd (cc)
-of_outcome rows facts t are None None None e =
+of_outcome : (rows : List Row) (facts : Facts) (t : SchemaTree) → AreFacts rows facts → (f : Option Fault) → Ok t ≡ outcome rows facts f → (y c : ℕ) → case_at t.nodes y ≡ Some c → c < length t.cases
+of_outcome rows facts t are (Some f) e = absurd (cc)
+of_outcome rows facts t are None e =
     let same : tree_of rows facts ≡ t = cc in
     subst (λ (s : SchemaTree). (y c : ℕ) → case_at s.nodes y ≡ Some c → c < length s.cases) same (at_cased (length (tree_cases rows facts)) (tree_of rows facts).nodes (tree_cased rows facts are.nodes))
 
 rows_cased : (rows : List Row) (t : SchemaTree) → AreBuilt rows (Ok t) → (x c : ℕ) → case_at t.nodes x ≡ Some c → c < length t.cases
 unfolding built
-rows_cased rows t b = of_outcome rows b.facts t b.facts_are (first_fault rows b.facts) (first_ungrown rows) (first_unknown rows b.facts) b.given_is
+rows_cased rows t b = of_outcome rows b.facts t b.facts_are (first_fault rows b.facts) b.given_is
 
 -- the cases that nodes of a tree stand in are there
 pub modules_cased : (modules : List Tree) (t : SchemaTree) → Builds modules (Ok t) → (x c : ℕ) → case_at t.nodes x ≡ Some c → c < length t.cases

@@ -1,15 +1,14 @@
 -- The names that rows claim where they stand come once (RFC 7950 sections 6.2.1, 7.9 and 7.13).
 use Rattle.std.proofs.Common.{◌≡◌, ◌∙◌, ◌<◌, ◌≤◌, ◌+◌, ◌-◌, ◌⊎◌, inl, inr, ℕ, zero, suc, List, [], ◌∷◌, ◌++◌, length, map, filter, Bool, true, false, cond, ◌&&◌, ◌||◌, Option, Some, None, slice_get, refl, sym, ap, subst, arith}
-use Rattle.std.specs.Prelude.{Contains, option_to_list, nat_le, is_some, not, eqb}
+use Rattle.std.specs.Prelude.{Contains, option_to_list, nat_le, is_some, not}
 use Rattle.std.specs.Option.{option_and_then}
-use Rattle.std.specs.List.{find, concat, list_any, range_with_len, AllByRecursion, IsDistinct}
+use Rattle.std.specs.List.{find, concat, range_with_len}
 use Rattle.std.proofs.lemmas.Grind.{common_steps}
 use Rattle.std.proofs.lemmas.Bool.{cases_lt}
 use Rattle.std.proofs.lemmas.Bool.Decides.{nat_tests}
 use Rattle.std.proofs.lemmas.Option.{same_Some}
 use Rattle.std.proofs.lemmas.List.{map-append}
 use Rattle.std.proofs.lemmas.List.Elements.{Contains-append_cases, Contains-append_left, Contains-append_right}
-use Rattle.std.proofs.lemmas.Map.Steps.{length-le_from_distinct_below}
 use Rattle.nm_grammar.specs.declared.row.Row.{Row}
 use Rattle.nm_grammar.specs.declared.word.Word.{Word}
 use Rattle.nm_grammar.specs.declared.word.Word.TheVariants as word
@@ -27,6 +26,7 @@ use Rattle.nm_expansion.proofs.Unfolding.{split, unfold_one, unfold_within}
 use Rattle.nm_schema.proofs.Elements.{here, later, nothing, first_or_later, of_map, in_map, of_filter, in_range, finds_none}
 use Rattle.nm_schema.proofs.Onces.{once_both, has_named}
 use Rattle.nm_schema.proofs.Faultless.{within}
+use Rattle.nm_schema.proofs.Valued.{few_distinct, distinct, IsFounded, is_known}
 use Rattle.nm_schema.proofs.Holders.{Ascend, ascend_each, ascend_filter, ascend_range, parent_is, StandBefore, held_part, held_plain, held_inner, held_directly, held, fork_part}
 
 -- ---- elements
@@ -51,34 +51,6 @@ of_option (Some x) g c = elim (first_or_later x g [] c) [
 in_option : (o : Option ℕ) (g : ℕ) → o ≡ Some g → Contains (option_to_list o) g
 in_option None g e = absurd (cc)
 in_option (Some x) g e = here x g [] (same_Some x g e)
-
--- ---- numbers that come once
-
-no_equal : (x y : ℕ) → (x ≡ y → ⊥) → eqb x y ≡ false
-no_equal x y ne = grind (arith, nat_tests, ne)
-
-are_equal : (x y : ℕ) → eqb x y ≡ true → x ≡ y
-are_equal x y e = grind (arith, nat_tests)
-
-all_apart : (x : ℕ) (xs : List ℕ) → ((y : ℕ) → Contains xs y → x ≡ y → ⊥) → AllByRecursion (λ y. eqb x y ≡ false) xs
-all_apart x [] ne = tt
-all_apart x (y ∷ xs) ne = (no_equal x y (ne y (here y y xs refl)), all_apart x xs (λ z c. ne z (later y z xs c)))
-
-distinct : (f : ℕ → List ℕ) (xs : List ℕ) → IsOnce (map f xs) → IsDistinct eqb xs
-unfolding IsDistinct
-distinct f [] once = tt
-distinct f (x ∷ xs) once = (all_apart x xs (λ y c e. once.0 (subst (λ (w : List ℕ). Contains (map f xs) w) (ap f (sym e)) (in_map f xs y c))), distinct f xs once.1)
-
-any_in : (q : ℕ) (xs : List ℕ) → list_any (eqb q) xs ≡ true → Contains xs q
-any_in q [] e = absurd (cc)
-any_in q (x ∷ xs) e = by (eqb q x) refl (any_in q xs) e
-  where
-    by : (b : Bool) → eqb q x ≡ b → (list_any (eqb q) xs ≡ true → Contains xs q) → (b || list_any (eqb q) xs) ≡ true → Contains (x ∷ xs) q
-    by true is rest f = here x q xs (sym (are_equal q x is))
-    by false is rest f = later x q xs (rest f)
-
-few_distinct : (xs : List ℕ) (n : ℕ) → IsDistinct eqb xs → ((q : ℕ) → Contains xs q → q < n) → length xs ≤ n
-few_distinct xs n once within = length-le_from_distinct_below xs n once (λ q e. within q (any_in q xs e))
 
 -- ---- what several rows have
 
@@ -157,19 +129,8 @@ few limit nodes all false e = absurd (cc)
 is_within : (m n : ℕ) → m ≤ n → nat_le m n ≡ true
 is_within m n le = grind (arith, nat_tests)
 
-gathered_few : (limit : ℕ) (known : List (List ℕ)) → length (concat known) ≤ limit → gathered limit (Some known) ≡ Some (concat known)
+pub gathered_few : (limit : ℕ) (known : List (List ℕ)) → length (concat known) ≤ limit → gathered limit (Some known) ≡ Some (concat known)
 gathered_few limit known le = ap (λ b. cond b (Some (concat known)) None) (is_within (length (concat known)) limit le)
-
--- all are known, or one fails
-all_or : (f : ℕ → Option (List ℕ)) (T : ℕ → Type 0) (ks : List ℕ) → ((k : ℕ) → Contains ks k → ((c : List ℕ) × (f k ≡ Some c)) ⊎ T k) → ((known : List (List ℕ)) × (all_there (map f ks) ≡ Some known)) ⊎ ((k : ℕ) × Contains ks k × T k)
-all_or f T [] each = inl ([], refl)
-all_or f T (k ∷ ks) each = by (each k (here k k ks refl)) (all_or f T ks (λ j c. each j (later k j ks c)))
-  where
-    by : ((c : List ℕ) × (f k ≡ Some c)) ⊎ T k → ((known : List (List ℕ)) × (all_there (map f ks) ≡ Some known)) ⊎ ((j : ℕ) × Contains ks j × T j)
-        → ((known : List (List ℕ)) × (all_there (map f (k ∷ ks)) ≡ Some known)) ⊎ ((j : ℕ) × Contains (k ∷ ks) j × T j)
-    by (inr t) rest = inr (k, here k k ks refl, t)
-    by (inl a) (inr r) = inr (r.0, later k r.0 ks r.1, r.2)
-    by (inl a) (inl b) = inl (a.0 ∷ b.0, rw (a.1, b.1) refl)
 
 -- ---- what is taken
 
@@ -180,7 +141,7 @@ taken_before : (a b : Bool) → b ≡ true → (a || b) ≡ true
 taken_before true b e = refl
 taken_before false b e = e
 
-same_holder : (h : ℕ) → same_parent (Some h) (Some h) ≡ true
+pub same_holder : (h : ℕ) → same_parent (Some h) (Some h) ≡ true
 same_holder h = grind (arith, common_steps)
 
 below_or_at : (k n : ℕ) → k < suc n → (k < n) ⊎ (k ≡ n)
@@ -292,25 +253,6 @@ module _ (rows : List Row) (groupings : List (Option ℕ)) where
   leads_join : (i k j : ℕ) → Leads i k → Leads k j → Leads i j
   leads_join i k j (one c) m = further k c m
   leads_join i k j (further o c l) m = further o c (leads_join o k j l m)
-
-  -- a row leads to these, one after another
-  abbrev IsTrail : ℕ → List ℕ → Type 0
-  IsTrail i [] = Unit {0}
-  IsTrail i (k ∷ ks) = Leads i k × (k < length rows) × IsTrail k ks
-
-  trail_leads : (i : ℕ) (ks : List ℕ) (j : ℕ) → IsTrail i ks → Contains ks j → Leads i j
-  trail_leads i [] j t c = absurd (nothing j c)
-  trail_leads i (k ∷ ks) j t c = elim (first_or_later k j ks c) [
-    | inl e ↦ subst (λ (x : ℕ). Leads i x) e t.0
-    | inr d ↦ leads_join i k j t.0 (trail_leads k ks j t.2 d)
-  ]
-
-  trail_within : (i : ℕ) (ks : List ℕ) (j : ℕ) → IsTrail i ks → Contains ks j → j < length rows
-  trail_within i [] j t c = absurd (nothing j c)
-  trail_within i (k ∷ ks) j t c = elim (first_or_later k j ks c) [
-    | inl e ↦ subst (λ (x : ℕ). x < length rows) e t.1
-    | inr d ↦ trail_within k ks j t.2 d
-  ]
 
   abbrev pub claims : ℕ → ℕ → Option (List ℕ)
   claims steps i = worth_within (strict (claim_step rows groupings)) (claiming rows groupings) steps i
@@ -494,48 +436,25 @@ module _ (rows : List Row) (groupings : List (Option ℕ)) where
         by true node = (i ∷ [], rw (c.there, node) refl)
         by false node = (concat known, rw (c.there, node, not_astray i c) (gathered_few (length rows) known le))
 
-    abbrev Knows : ℕ → ℕ → Type 0
-    Knows steps i = (nodes : List ℕ) × (claims steps i ≡ Some nodes)
+    all_claiming : (i j : ℕ) → IsClaimer rows i → LeadsBy (claiming rows groupings) i j → Leads i j
+    all_claiming i j c (one d) = (claiming_step i c j d).1
+    all_claiming i j c (further k d l) = let s = claiming_step i c k d in leads_join i k j s.1 (all_claiming k j s.0 l)
 
-    abbrev Trails : ℕ → ℕ → Type 0
-    Trails steps i = (ks : List ℕ) × IsTrail i ks × (length ks ≡ steps)
-
-    known_next : (steps i : ℕ) → steps ≤ length rows → IsClaimer rows i → ((known : List (List ℕ)) × (all_there (map (claims steps) (claiming rows groupings i)) ≡ Some known)) ⊎ ((k : ℕ) × Contains (claiming rows groupings i) k × Trails steps k)
-        → Knows (suc steps) i ⊎ Trails (suc steps) i
-    known_next steps i le c (inl (known, e)) =
-        let fine = concat_fine (claims steps) (λ k some is. claims_fine steps k some le is) (claiming rows groupings i) known (claiming_separate (claims steps) (λ k some is. reaches steps k some le is) i) e in
-        let made = claim_some i c known (fine_few (concat known) fine) in
-        inl (made.0, ap (λ (o : Option (List (List ℕ))). option_and_then (claim_step rows groupings i) o) e ∙ made.1)
-    known_next steps i le c (inr (k, d, t)) =
-        let s = claiming_step i c k d in
-        inr (k ∷ t.0, (s.1, within rows k s.0.row s.0.there, t.1), ap suc t.2)
-
-    -- with some steps a row claims something, or leads on for as many
-    known_or : (steps i : ℕ) → steps ≤ length rows → IsClaimer rows i → Knows steps i ⊎ Trails steps i
-    known_or zero i le c = inr ([], tt, refl)
-    known_or (suc steps) i le c =
-        known_next steps i (omega (arith, le)) c (all_or (claims steps) (Trails steps) (claiming rows groupings i) (λ k d. known_or steps k (omega (arith, le)) (claiming_step i c k d).0))
-
-    trail_distinct : (i : ℕ) (ks : List ℕ) → IsTrail i ks → IsDistinct eqb (i ∷ ks)
-    unfolding IsDistinct
-    trail_distinct i [] t = (tt, tt)
-    trail_distinct i (k ∷ ks) t = (
-      all_apart i (k ∷ ks) (λ y c e. are.acyclic y (subst (λ (x : ℕ). Leads x y) e (trail_leads i (k ∷ ks) y t c))),
-      trail_distinct k ks t.2,
-    )
-
-    trail_few : (i : ℕ) (ks : List ℕ) → i < length rows → IsTrail i ks → length (i ∷ ks) ≤ length rows
-    trail_few i ks lt t = few_distinct (i ∷ ks) (length rows) (trail_distinct i ks t) (λ q c. elim (first_or_later i q ks c) [
-      | inl e ↦ subst (λ (x : ℕ). x < length rows) e lt
-      | inr d ↦ trail_within i ks q t d
-    ])
+    founded : IsFounded claims (claiming rows groupings) (length rows) (IsClaimer rows)
+    founded = record {
+      on = λ i k c d. (claiming_step i c k d).0;
+      within = λ i c. within rows i c.row c.there;
+      acyclic = λ i c l. are.acyclic i (all_claiming i i c l);
+      makes = λ steps i known less c e. (
+          let le : steps ≤ length rows = omega (arith, less) in
+          let fine = concat_fine (claims steps) (λ k some is. claims_fine steps k some le is) (claiming rows groupings i) known (claiming_separate (claims steps) (λ k some is. reaches steps k some le is) i) e in
+          let made = claim_some i c known (fine_few (concat known) fine) in
+          (made.0, ap (λ (o : Option (List (List ℕ))). option_and_then (claim_step rows groupings i) o) e ∙ made.1)
+          );
+    }
 
     claimed_known : (i : ℕ) → IsClaimer rows i → (nodes : List ℕ) × (claimed rows groupings i ≡ Some nodes)
-    claimed_known i c = by (known_or (length rows) i (omega arith) c)
-      where
-        by : Knows (length rows) i ⊎ Trails (length rows) i → (nodes : List ℕ) × (claimed rows groupings i ≡ Some nodes)
-        by (inl k) = (k.0, reaches (length rows) i k.0 (omega arith) k.1)
-        by (inr t) = let most = trail_few i t.0 (within rows i c.row c.there) t.1 in let size = t.2 in absurd (omega (arith, most, size))
+    claimed_known i c = let k = is_known claims (claiming rows groupings) (length rows) (IsClaimer rows) founded i c in (k.0, reaches (length rows) i k.0 (omega arith) k.1)
 
     -- ---- names that are claimed
 

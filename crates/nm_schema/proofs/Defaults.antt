@@ -27,7 +27,8 @@ use Rattle.nm_schema.specs.Kind.{value_in, value_of, default_in, nodes_named, ke
 use Rattle.nm_schema.specs.Node.{node_of}
 use Rattle.nm_schema.specs.Whole.{IsValueOf, IsDefault}
 use Rattle.nm_schema.proofs.Elements.{here, later, nothing, first_or_later}
-use Rattle.nm_schema.proofs.Faultless.{AreFaultless, within}
+use Rattle.nm_schema.specs.Faultless.{AreFaultless}
+use Rattle.nm_schema.proofs.Faultless.{within}
 use Rattle.nm_schema.proofs.Claims.{AreOrderly}
 use Rattle.nm_schema.proofs.Shapes.{IsShape, container, leaf, leaf_list, listed}
 use Rattle.nm_schema.proofs.Keys.{key_rows}
@@ -84,7 +85,7 @@ among_these x (y ∷ ys) e = by (y == x) refl (among_these x ys) e
     by true is rest f = here y x ys (number is)
     by false is rest f = later y x ys (rest f)
 
-has_this : (ns : List ℕ) (i : ℕ) → Contains ns i → has_row ns i ≡ true
+pub has_this : (ns : List ℕ) (i : ℕ) → Contains ns i → has_row ns i ≡ true
 has_this [] i c = absurd (nothing i c)
 has_this (n ∷ ns) i c = elim (first_or_later n i ns c) [
   | inl same ↦ left (i == n) (has_row ns i) (let at : i ≡ n = sym same in grind (arith, common_steps))

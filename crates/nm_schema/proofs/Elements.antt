@@ -54,6 +54,14 @@ in_range n k lt =
     let at : get_or (range_with_len 0 n) k 0 ≡ k = get_or-range_with_len 0 n k 0 lt ∙ omega arith in
     subst (λ j. Contains (range_with_len 0 n) j) at (Contains-get_or (range_with_len 0 n) k 0 within)
 
+pub of_range : (n y : ℕ) → Contains (range_with_len 0 n) y → y < n
+of_range n y c =
+    let size = length-range_with_len 0 n in
+    let lt : c.0 < n = omega (arith, c.1, size) in
+    let at = get_or-range_with_len 0 n c.0 y lt in
+    let is : get_or (range_with_len 0 n) c.0 y ≡ y = c.2 in
+    omega (arith, lt, at, is)
+
 -- an element that is found by its place
 pub in_list : {X : Type 0} (xs : List X) (i : ℕ) (x : X) → slice_get xs i ≡ Some x → Contains xs x
 in_list [] i x e = absurd (cc)

@@ -21,7 +21,7 @@ use Rattle.nm_flaws.specs.Facts.{Facts}
 use Rattle.nm_schema.specs.Choices.{module_names, module_name}
 use Rattle.nm_schema.proofs.Elements.{nothing, first_or_later, of_map}
 use Rattle.nm_schema.proofs.Onces.{own_bytes}
-use Rattle.nm_schema.proofs.Faultless.{AreFaultless}
+use Rattle.nm_schema.specs.Faultless.{AreFaultless}
 use Rattle.nm_schema.proofs.Naming.{grammar_none, outermost, module_named}
 
 -- ---- which rows stand in a row, or outermost
@@ -64,7 +64,7 @@ position_by : {X : Type 0} (f : X → Bool) (n k : ℕ) (z : X) (xs : List X) (b
 position_by f n k z xs true (i, is, le) = (n, refl, omega arith)
 position_by f n k z xs false (i, is, le) = (i, is, omega (arith, le))
 
-position_upto : {X : Type 0} (f : X → Bool) (n k : ℕ) (xs : List X) (x : X) → slice_get xs k ≡ Some x → f x ≡ true → (i : ℕ) × (position_from f n xs ≡ Some i) × (i ≤ n + k)
+pub position_upto : {X : Type 0} (f : X → Bool) (n k : ℕ) (xs : List X) (x : X) → slice_get xs k ≡ Some x → f x ≡ true → (i : ℕ) × (position_from f n xs ≡ Some i) × (i ≤ n + k)
 position_upto f n k [] x is passes = absurd (cc)
 position_upto f n zero (z ∷ xs) x is passes =
     let same : z ≡ x = cc in
@@ -127,7 +127,7 @@ module _ (rows : List Row) (facts : Facts) (all : AreFaultless rows facts) where
   pub is_a_module : (at : ℕ) (r : Row) → slice_get rows at ≡ Some r → r.parent ≡ None → IsModule rows at
   unfolding argument_at
   is_a_module at r is top =
-      let none = all at r is in
+      let none = all.each at r is in
       let g = grammar_none rows at r is none.grammar in
       let w = module_word r.word (outermost rows r top g.0) in
       let argument = argued r.word r.argument g.1 in

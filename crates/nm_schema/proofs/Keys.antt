@@ -32,7 +32,7 @@ first_by : (rows : List Row) (w : Word) (k i : ℕ) (ks : List ℕ) (b : Bool) �
 first_by rows w k i ks true more e = let same : k ≡ i = cc in here k i ks same
 first_by rows w k i ks false more e = later k i ks (more e)
 
-first_among : (rows : List Row) (w : Word) (ks : List ℕ) (i : ℕ) → first_with rows w ks ≡ Some i → Contains ks i
+pub first_among : (rows : List Row) (w : Word) (ks : List ℕ) (i : ℕ) → first_with rows w ks ≡ Some i → Contains ks i
 first_among rows w [] i e = absurd (cc)
 first_among rows w (k ∷ ks) i e = first_by rows w k i ks (has_word w (slice_get rows k)) (first_among rows w ks i) e
 
@@ -110,7 +110,7 @@ module _ (leaf : List ℕ → Found) where
       by found.Unknown rest (a, b) d = not_before taken [] k (rest (taken ++ []) b d)
 
   -- a leaf that is named is that of a word
-  named_by : (texts : List (List ℕ)) (k : ℕ) → Contains (leafs_named leaf texts) k → (text : List ℕ) × (leaf text ≡ found.Row k)
+  pub named_by : (texts : List (List ℕ)) (k : ℕ) → Contains (leafs_named leaf texts) k → (text : List ℕ) × (leaf text ≡ found.Row k)
   named_by [] k c = absurd (nothing k c)
   named_by (t ∷ ts) k c = by (leaf t) refl (named_by ts k) c
     where

@@ -11,7 +11,7 @@ use Rattle.nm_flaws.specs.Fault.{first_fault}
 use Rattle.nm_schema.specs.declared.fault.SchemaFault.{SchemaFault}
 use Rattle.nm_schema.specs.Node.{known_nodes}
 use Rattle.nm_schema.specs.Marker.{changes_node, marker_nodes, HasMarker}
-use Rattle.nm_schema.specs.Built.{first_unknown, first_ungrown, tree_of, outcome, built, AreBuilt, Builds, Answered}
+use Rattle.nm_schema.specs.Built.{tree_of, outcome, built, AreBuilt, Builds, Answered}
 use Rattle.nm_schema.proofs.Sound.{behind}
 
 marker_behind : (known : List Node) (k : ℕ) → slice_get (known ++ marker_nodes (length known)) (length known + k) ≡ slice_get (marker_nodes (length known)) k
@@ -30,17 +30,15 @@ of_tree rows facts = record {
   change = marker_behind (known_nodes rows facts) 2;
 }
 
-of_outcome : (rows : List Row) (facts : Facts) (t : SchemaTree) → (f : Option Fault) (m x : Option ℕ) → Ok t ≡ outcome rows facts f m x → HasMarker t
-of_outcome rows facts t (Some f) m x e = absurd (cc)
-of_outcome rows facts t None (Some m) x e = absurd (cc)
-of_outcome rows facts t None None (Some x) e = absurd (cc)
-of_outcome rows facts t None None None e =
+of_outcome : (rows : List Row) (facts : Facts) (t : SchemaTree) → (f : Option Fault) → Ok t ≡ outcome rows facts f → HasMarker t
+of_outcome rows facts t (Some f) e = absurd (cc)
+of_outcome rows facts t None e =
     let same : t ≡ tree_of rows facts = cc in
     subst HasMarker (sym same) (of_tree rows facts)
 
 rows_marked : (rows : List Row) (t : SchemaTree) → AreBuilt rows (Ok t) → HasMarker t
 unfolding built
-rows_marked rows t b = of_outcome rows b.facts t (first_fault rows b.facts) (first_ungrown rows) (first_unknown rows b.facts) b.given_is
+rows_marked rows t b = of_outcome rows b.facts t (first_fault rows b.facts) b.given_is
 
 -- the tree that modules give has the nodes of the marker module
 pub modules_marked : (modules : List Tree) (t : SchemaTree) → Builds modules (Ok t) → HasMarker t

@@ -11,24 +11,30 @@ use Rattle.nm_grammar.specs.Flaw.{is_data, is_module, is_unsupported, may_stand,
 use Rattle.nm_shape.specs.Arguments.{argument_at}
 use Rattle.nm_path.specs.Form as form
 use Rattle.nm_flaws.specs.Facts.{Facts}
-use Rattle.nm_schema.proofs.Faultless.{IsFaultless, or_none}
+use Rattle.nm_schema.specs.Faultless.{IsFaultless}
+use Rattle.nm_schema.proofs.Faultless.{or_none}
 
 from_none : (r : Row) (o : Option Fault) → flaw_from r o ≡ None → o ≡ None
 from_none r None e = refl
 from_none r (Some f) e = absurd (cc)
 
-row_none : (rows : List Row) (at : ℕ) (r : Row) → row_fault rows at r ≡ None → (place_fault rows r ≡ None) × (form_fault r.word r.argument ≡ None)
+row_none : (rows : List Row) (at : ℕ) (r : Row) → row_fault rows at r ≡ None → (place_fault rows r ≡ None) × (lack_fault rows at r.word ≡ None) × (form_fault r.word r.argument ≡ None) × (left_out (word_above rows r.parent) r.word (text_of r.argument) ≡ None)
 unfolding row_fault
 row_none rows at r e =
     let last = left_out (word_above rows r.parent) r.word (text_of r.argument) in
     let a = or_none (place_fault rows r) (option_or (times_fault rows at r) (option_or (lack_fault rows at r.word) (option_or (form_fault r.word r.argument) last))) e in
     let b = or_none (times_fault rows at r) (option_or (lack_fault rows at r.word) (option_or (form_fault r.word r.argument) last)) a.1 in
     let c = or_none (lack_fault rows at r.word) (option_or (form_fault r.word r.argument) last) b.1 in
-    (a.0, (or_none (form_fault r.word r.argument) last c.1).0)
+    let d = or_none (form_fault r.word r.argument) last c.1 in
+    (a.0, c.0, d.0, d.1)
+
+pub grammar_parts : (rows : List Row) (at : ℕ) (r : Row) → slice_get rows at ≡ Some r → grammar_flaw rows at ≡ None
+    → (place_fault rows r ≡ None) × (lack_fault rows at r.word ≡ None) × (form_fault r.word r.argument ≡ None) × (left_out (word_above rows r.parent) r.word (text_of r.argument) ≡ None)
+unfolding grammar_flaw
+grammar_parts rows at r is e = row_none rows at r (from_none r (row_fault rows at r) (sym (ap (flaw_at rows at) is) ∙ e))
 
 pub grammar_none : (rows : List Row) (at : ℕ) (r : Row) → slice_get rows at ≡ Some r → grammar_flaw rows at ≡ None → (place_fault rows r ≡ None) × (form_fault r.word r.argument ≡ None)
-unfolding grammar_flaw
-grammar_none rows at r is e = row_none rows at r (from_none r (row_fault rows at r) (sym (ap (flaw_at rows at) is) ∙ e))
+grammar_none rows at r is e = let p = grammar_parts rows at r is e in (p.0, p.2)
 
 formed : (w : Word) (text : List ℕ) (b : Bool) → has_form w text ≡ b → cond b None (Some fault.BadArgument) ≡ None → has_form w text ≡ true
 formed w text true is e = is

@@ -1,9 +1,7 @@
 -- The nodes of the given modules: their names, what they stand in, their keys and their types.
 use Rattle.std.proofs.Common.{◌≡◌, ◌∙◌, ◌<◌, ◌⊎◌, inl, inr, ℕ, suc, List, [], ◌∷◌, length, map, Bool, true, false, cond, Option, Some, None, IfSome, slice_get, refl, sym, ap, subst, arith}
-use Rattle.std.specs.Prelude.{Contains, is_some, eqb}
-use Rattle.std.specs.List.{AllByRecursion, IsDistinct}
+use Rattle.std.specs.Prelude.{Contains, is_some}
 use Rattle.std.proofs.lemmas.Bool.{and_parts}
-use Rattle.std.proofs.lemmas.Bool.Decides.{nat_tests}
 use Rattle.std.proofs.lemmas.Option.{same_Some}
 use Rattle.nm_types.specs.LeafType.{TypeOfLeaf}
 use Rattle.nm_types.specs.Spells.{IsOnce, HasDistinctNames}
@@ -34,7 +32,9 @@ use Rattle.nm_schema.specs.Choices.{module_name, case_of}
 use Rattle.nm_schema.specs.Node.{node_with, node_by, node_in, node_of}
 use Rattle.nm_schema.proofs.Elements.{here, later, nothing, first_or_later, of_map, in_map}
 use Rattle.nm_schema.proofs.Onces.{same_bytes}
-use Rattle.nm_schema.proofs.Faultless.{AreFaultless, within}
+use Rattle.nm_schema.proofs.Valued.{distinct}
+use Rattle.nm_schema.specs.Faultless.{AreFaultless}
+use Rattle.nm_schema.proofs.Faultless.{within}
 use Rattle.nm_schema.proofs.Naming.{node_named}
 use Rattle.nm_schema.proofs.Claims.{AreOrderly}
 use Rattle.nm_schema.proofs.Siblings.{Stands, plain_stands, kept_stands, one_stands, kept_once}
@@ -131,19 +131,6 @@ none_led : (rows : List Row) (groupings : List (Option ℕ)) (i : ℕ) (r : Row)
 unfolding holding
 none_led rows groupings i r h u is = rw (is, h, u) refl
 
--- of names that come once the numbers come once
-no_equal : (x y : ℕ) → (x ≡ y → ⊥) → eqb x y ≡ false
-no_equal x y ne = grind (arith, nat_tests, ne)
-
-all_apart : (x : ℕ) (xs : List ℕ) → ((y : ℕ) → Contains xs y → x ≡ y → ⊥) → AllByRecursion (λ y. eqb x y ≡ false) xs
-all_apart x [] ne = tt
-all_apart x (y ∷ xs) ne = (no_equal x y (ne y (here y y xs refl)), all_apart x xs (λ z c. ne z (later y z xs c)))
-
-distinct : (f : ℕ → List ℕ) (xs : List ℕ) → IsOnce (map f xs) → IsDistinct eqb xs
-unfolding IsDistinct
-distinct f [] once = tt
-distinct f (x ∷ xs) once = (all_apart x xs (λ y c e. once.0 (subst (λ (w : List ℕ). Contains (map f xs) w) (ap f (sym e)) (in_map f xs y c))), distinct f xs once.1)
-
 -- ---- the nodes
 
 module _ (rows : List Row) (facts : Facts) (all : AreFaultless rows facts) (order : AreOrderly rows (definitions rows)) (expansion : IsExpansion rows (definitions rows) facts.nodes) where
@@ -154,7 +141,7 @@ module _ (rows : List Row) (facts : Facts) (all : AreFaultless rows facts) (orde
   given_named x n e =
       let p = placed rows facts x n e in
       let m = module_is rows facts all p.place.owner (expansion.owners x p.place p.there) in (
-        ap form.is_identifier p.name ∙ node_named rows facts p.place.row p.row p.row_there (all p.place.row p.row p.row_there) (data_word (given_shape x n p)),
+        ap form.is_identifier p.name ∙ node_named rows facts p.place.row p.row p.row_there (all.each p.place.row p.row p.row_there) (data_word (given_shape x n p)),
         ap form.is_identifier p.owner ∙ m.0,
       )
 
@@ -170,7 +157,7 @@ module _ (rows : List Row) (facts : Facts) (all : AreFaultless rows facts) (orde
   in_tops : (x : ℕ) (c : Instance) → slice_get facts.nodes x ≡ Some c → c.parent ≡ None → Contains (tops facts.nodes c.owner) x
   in_tops x c is parent = beside.in_tops facts.nodes x c is parent
 
-  row_at_place : (x : ℕ) (c : Instance) → slice_get facts.nodes x ≡ Some c → row_of facts.nodes x ≡ Some c.row
+  pub row_at_place : (x : ℕ) (c : Instance) → slice_get facts.nodes x ≡ Some c → row_of facts.nodes x ≡ Some c.row
   unfolding row_of
   row_at_place x c is = ap row_in is
 
@@ -230,7 +217,7 @@ module _ (rows : List Row) (facts : Facts) (all : AreFaultless rows facts) (orde
       a.owner ∙ ap (module_name rows) (same_Some a.place.owner q.place.owner owner) ∙ sym q.owner
 
   -- the row of a node is kept below that of the node that it stands in
-  kept_in_parent : (x p : ℕ) (c a : Instance) → slice_get facts.nodes x ≡ Some c → c.parent ≡ Some p → slice_get facts.nodes p ≡ Some a → Contains (kept_below rows (definitions rows) a.row) c.row
+  pub kept_in_parent : (x p : ℕ) (c a : Instance) → slice_get facts.nodes x ≡ Some c → c.parent ≡ Some p → slice_get facts.nodes p ≡ Some a → Contains (kept_below rows (definitions rows) a.row) c.row
   kept_in_parent x p c a is parent at =
       let ks = kept_below rows (definitions rows) a.row in
       let shown : Contains (map (λ row. Some row) ks) (row_of facts.nodes x) = subst (λ (l : List (Option ℕ)). Contains l (row_of facts.nodes x)) (expansion.below p a at) (in_map (row_of facts.nodes) (children facts.nodes p) x (in_children x p c is parent)) in

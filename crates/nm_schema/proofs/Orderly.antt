@@ -19,25 +19,24 @@ use Rattle.nm_grammar.specs.Text.{prefix_of, name_of}
 use Rattle.nm_grammar.specs.Flaw.{is_module, text_of, form_fault}
 use Rattle.nm_grammar.specs.Rows.{is_opened, is_skipped, row_for, rows_from, rows_within, rows_after, rows_of, stands_before, ParentsBefore, same_parent, children}
 use Rattle.nm_grammar.proofs.Words.{same_words}
-use Rattle.nm_graph.specs.Graph.{Graph, successors_of}
-use Rattle.nm_graph.specs.Graph as graphs
-use Rattle.nm_graph.specs.Order.{IsLeastCycle, IsAcyclic}
 use Rattle.nm_names.specs.declared.key.Reach.TheVariants as reach
 use Rattle.nm_names.specs.Named.{has_key, is_called, first_keyed, named, named_in, is_own, prefix_leads}
 use Rattle.nm_names.specs.Leads.{enclosing, innermost, scoped, definition_by, definition_for, definition, argument_leads, row_leads, leads_to}
 use Rattle.nm_names.specs.Flaw.{text_flaw, argument_flaw, row_flaw, name_flaw}
-use Rattle.nm_names.specs.Graph.{is_part as makes_nodes, is_part_in as named_part_in, is_part_at as named_part_at, parts, listed, word_leading, row_leading, leading, IsGraphOf}
+use Rattle.nm_names.specs.Graph.{is_part as makes_nodes, is_part_in as named_part_in, is_part_at as named_part_at, parts, listed, word_leading, row_leading, leading}
 use Rattle.nm_tree.proofs.Positions.{first_passes}
 use Rattle.nm_typing.specs.Listing.{is_at}
 use Rattle.nm_typing.specs.Restricting.{argument_at}
 use Rattle.nm_typing.specs.TypeFlaw.{cycle_flaw}
-use Rattle.nm_shape.specs.Holding.{is_holder, is_part, is_part_row, is_part_at, is_uses, grouping_at, bringing}
+use Rattle.nm_shape.specs.Holding.{is_holder, is_part, is_part_row, is_part_at, is_uses, grouping_at, holding, bringing}
 use Rattle.nm_shape.specs.Config.{LeadsBy, one, further}
-use Rattle.nm_shape.proofs.Graphs.{successors-past}
 use Rattle.nm_clash.specs.Clash.{names_from, around_in, around, holder_of, is_taken, claimed, clash_in, clash_by, case_clash, duplicate, clash_flaw}
-use Rattle.nm_flaws.specs.Facts.{Facts, definitions, IsCycle}
-use Rattle.nm_schema.proofs.Elements.{here, nothing}
-use Rattle.nm_schema.proofs.Faultless.{AreFaultless, or_none, within}
+use Rattle.nm_leafref.proofs.Faults.{leads_nowhere}
+use Rattle.nm_flaws.specs.Facts.{Facts, definitions, IsLeastCycle, IsAcyclic, IsCycle}
+use Rattle.nm_flaws.proofs.Cycling.{leading_past}
+use Rattle.nm_schema.proofs.Elements.{here}
+use Rattle.nm_schema.specs.Faultless.{AreFaultless}
+use Rattle.nm_schema.proofs.Faultless.{or_none, within}
 use Rattle.nm_schema.proofs.Naming.{grammar_none, outermost}
 use Rattle.nm_schema.proofs.Holders.{StandBefore, held_part}
 use Rattle.nm_schema.proofs.Claims.{AreOrderly, part_claimer, in_filter, in_children, uses_word}
@@ -73,7 +72,7 @@ mutual
             parents_append n first (rows_within owner parent (n + length first) ts) (parents_from t owner (Some parent) n low) (parents_within ts owner parent (n + length first) (omega (arith, low)))
       ]
 
-parents_after : (k n : ℕ) (ts : List Tree) → ParentsBefore n (rows_after k n ts)
+pub parents_after : (k n : ℕ) (ts : List Tree) → ParentsBefore n (rows_after k n ts)
 unfolding rows_after
 parents_after k n [] = tt
 parents_after k n (t ∷ ts) =
@@ -91,64 +90,66 @@ before_from n (r ∷ rows) (suc i) p b is = let h = before_from (suc n) rows i p
 pub modules_stand : (modules : List Tree) → StandBefore (rows_of modules)
 modules_stand modules i p is = let h = before_from 0 (rows_of modules) i p (parents_after 0 0 modules) is in omega (arith, h)
 
--- ---- what a uses names is a grouping
+-- ---- what a name leads to has its word
 
--- if there is a row, it is a grouping
-abbrev IsGrouping : List Row → Option ℕ → Type 0
-IsGrouping rows o = IfSome o (λ g. (s : Row) × (slice_get rows g ≡ Some s) × (s.word ≡ word.Grouping))
+-- if there is a row, it has the word
+abbrev pub HasWord : List Row → Word → Option ℕ → Type 0
+HasWord rows w o = IfSome o (λ g. (s : Row) × (slice_get rows g ≡ Some s) × (s.word ≡ w))
 
 choice : (P : Option ℕ → Type 0) (b : Bool) (x y : Option ℕ) → P x → P y → P (cond b x y)
 choice P true x y p q = p
 choice P false x y p q = q
 
-either : (rows : List Row) (x y : Option ℕ) → IsGrouping rows x → IsGrouping rows y → IsGrouping rows (option_or x y)
-either rows None y p q = q
-either rows (Some i) y p q = p
+either : (rows : List Row) (w : Word) (x y : Option ℕ) → HasWord rows w x → HasWord rows w y → HasWord rows w (option_or x y)
+either rows w None y p q = q
+either rows w (Some i) y p q = p
 
-module _ (rows : List Row) where
-  keyed : (parent : Option ℕ) (name : List ℕ) (o : Option ℕ) → position_from (has_key reach.Statement parent (word_number word.Grouping) name) 0 rows ≡ o → IsGrouping rows o
+module _ (rows : List Row) (w : Word) where
+  keyed : (parent : Option ℕ) (name : List ℕ) (o : Option ℕ) → position_from (has_key reach.Statement parent (word_number w) name) 0 rows ≡ o → HasWord rows w o
   keyed parent name None is = tt
   keyed parent name (Some g) is =
-      let h = first_passes (has_key reach.Statement parent (word_number word.Grouping) name) rows g is in
-      let a = and_parts (same_parent h.x.parent parent) (word_number h.x.word == word_number word.Grouping && is_called h.x.argument name) h.passes in
-      let b = and_parts (word_number h.x.word == word_number word.Grouping) (is_called h.x.argument name) a.1 in
-      (h.x, h.here, same_words h.x.word word.Grouping b.0)
+      let h = first_passes (has_key reach.Statement parent (word_number w) name) rows g is in
+      let a = and_parts (same_parent h.x.parent parent) (word_number h.x.word == word_number w && is_called h.x.argument name) h.passes in
+      let b = and_parts (word_number h.x.word == word_number w) (is_called h.x.argument name) a.1 in
+      (h.x, h.here, same_words h.x.word w b.0)
 
-  named_grouping : (parent : Option ℕ) (name : List ℕ) → IsGrouping rows (named rows parent word.Grouping name)
+  named_worded : (parent : Option ℕ) (name : List ℕ) → HasWord rows w (named rows parent w name)
   unfolding first_keyed
-  named_grouping parent name = keyed parent name (named rows parent word.Grouping name) refl
+  named_worded parent name = keyed parent name (named rows parent w name) refl
 
-  in_grouping : (parent : Option ℕ) (name : List ℕ) → IsGrouping rows (named_in rows parent word.Grouping name)
-  in_grouping None name = tt
-  in_grouping (Some i) name = named_grouping (Some i) name
+  in_worded : (parent : Option ℕ) (name : List ℕ) → HasWord rows w (named_in rows parent w name)
+  in_worded None name = tt
+  in_worded (Some i) name = named_worded (Some i) name
 
-  innermost_grouping : (name is : List ℕ) → IsGrouping rows (innermost rows word.Grouping name is)
-  innermost_grouping name [] = tt
-  innermost_grouping name (i ∷ is) = either rows (named rows (Some i) word.Grouping name) (innermost rows word.Grouping name is) (named_grouping (Some i) name) (innermost_grouping name is)
+  innermost_worded : (name is : List ℕ) → HasWord rows w (innermost rows w name is)
+  innermost_worded name [] = tt
+  innermost_worded name (i ∷ is) = either rows w (named rows (Some i) w name) (innermost rows w name is) (named_worded (Some i) name) (innermost_worded name is)
 
-  scoped_grouping : (at : ℕ) (name : List ℕ) → IsGrouping rows (scoped rows at word.Grouping name)
+  scoped_worded : (at : ℕ) (name : List ℕ) → HasWord rows w (scoped rows at w name)
   unfolding scoped
-  scoped_grouping at name = innermost_grouping name (enclosing rows at)
+  scoped_worded at name = innermost_worded name (enclosing rows at)
 
-  by_grouping : (at m : ℕ) (prefix : Option (List ℕ)) (name : List ℕ) → IsGrouping rows (definition_by rows at word.Grouping m prefix name)
-  by_grouping at m None name = scoped_grouping at name
-  by_grouping at m (Some prefix) name =
-      choice (IsGrouping rows) (is_own rows m prefix) (scoped rows at word.Grouping name) (named_in rows (prefix_leads rows m prefix) word.Grouping name) (scoped_grouping at name) (in_grouping (prefix_leads rows m prefix) name)
+  by_worded : (at m : ℕ) (prefix : Option (List ℕ)) (name : List ℕ) → HasWord rows w (definition_by rows at w m prefix name)
+  by_worded at m None name = scoped_worded at name
+  by_worded at m (Some prefix) name =
+      choice (HasWord rows w) (is_own rows m prefix) (scoped rows at w name) (named_in rows (prefix_leads rows m prefix) w name) (scoped_worded at name) (in_worded (prefix_leads rows m prefix) name)
 
-  for_grouping : (at : ℕ) (text : List ℕ) (o : Option Row) → IsGrouping rows (definition_for rows at word.Grouping text o)
-  for_grouping at text None = tt
-  for_grouping at text (Some r) = by_grouping at r.«module» (prefix_of text) (name_of text)
+  for_worded : (at : ℕ) (text : List ℕ) (o : Option Row) → HasWord rows w (definition_for rows at w text o)
+  for_worded at text None = tt
+  for_worded at text (Some r) = by_worded at r.«module» (prefix_of text) (name_of text)
 
-  definition_grouping : (at : ℕ) (text : List ℕ) → IsGrouping rows (definition rows at word.Grouping text)
+  pub definition_worded : (at : ℕ) (text : List ℕ) → HasWord rows w (definition rows at w text)
   unfolding definition
-  definition_grouping at text = for_grouping at text (slice_get rows at)
+  definition_worded at text = for_worded at text (slice_get rows at)
 
-  used_grouping : (at : ℕ) (argument : Option (List ℕ)) → IsGrouping rows (argument_leads rows at word.Uses argument)
+-- what a uses names is a grouping
+module _ (rows : List Row) where
+  used_grouping : (at : ℕ) (argument : Option (List ℕ)) → HasWord rows word.Grouping (argument_leads rows at word.Uses argument)
   used_grouping at None = tt
-  used_grouping at (Some text) = definition_grouping at text
+  used_grouping at (Some text) = definition_worded rows word.Grouping at text
 
   -- the grouping of a row is what its name leads to
-  grouping_is : (i : ℕ) (r : Row) → slice_get rows i ≡ Some r → grouping_at (definitions rows) i ≡ leads_to rows i
+  pub grouping_is : (i : ℕ) (r : Row) → slice_get rows i ≡ Some r → grouping_at (definitions rows) i ≡ leads_to rows i
   unfolding definitions
   grouping_is i r is = get_or-map-range_with_len (leads_to rows) 0 (length rows) i i None (within rows i r is) (omega arith)
 
@@ -159,13 +160,13 @@ module _ (rows : List Row) where
   uses_grouping : (i g : ℕ) (r : Row) → slice_get rows i ≡ Some r → is_uses r.word ≡ true → grouping_at (definitions rows) i ≡ Some g → (s : Row) × (slice_get rows g ≡ Some s) × (s.word ≡ word.Grouping)
   uses_grouping i g r is uses e =
       let at : argument_leads rows i word.Uses r.argument ≡ Some g = sym (uses_leads i r is uses) ∙ sym (grouping_is i r is) ∙ e in
-      subst (λ (o : Option ℕ). IsGrouping rows o) at (used_grouping i r.argument)
+      subst (λ (o : Option ℕ). HasWord rows word.Grouping o) at (used_grouping i r.argument)
 
-argued : (w : Word) (argument : Option (List ℕ)) → form_fault w argument ≡ None → argument ≡ Some (text_of argument)
+pub argued : (w : Word) (argument : Option (List ℕ)) → form_fault w argument ≡ None → argument ≡ Some (text_of argument)
 argued w None e = absurd (cc)
 argued w (Some text) e = refl
 
-there_is : (b : Bool) (f : Flaw) → cond b None (Some f) ≡ None → b ≡ true
+pub there_is : (b : Bool) (f : Flaw) → cond b None (Some f) ≡ None → b ≡ true
 there_is true f e = refl
 there_is false f e = absurd (cc)
 
@@ -200,15 +201,7 @@ unmarked_cycle rows c e =
     let no : Some (flaw.Cycle (text_of (argument_at rows (Some c)))) ≡ None = sym (ap (λ b. cond b (Some (flaw.Cycle (text_of (argument_at rows (Some c))))) None) t) ∙ f in
     absurd (cc)
 
-leads_inside : (graph : Graph) (i j : ℕ) → graphs.Leads graph i j → (k : ℕ) × Contains (successors_of graph i) k
-leads_inside graph i j (graphs.one c) = (j, c)
-leads_inside graph i j (graphs.further k c l) = (k, c)
-
-inside_graph : (graph : Graph) (i k : ℕ) → Contains (successors_of graph i) k → (i < length graph) ⊎ (length graph ≤ i) → i < length graph
-inside_graph graph i k c (inl lt) = lt
-inside_graph graph i k c (inr le) = absurd (nothing k (subst (λ (l : List ℕ). Contains l k) (successors-past graph i le) c))
-
-row_there : (rows : List Row) (i : ℕ) → i < length rows → (r : Row) × (slice_get rows i ≡ Some r)
+pub row_there : (rows : List Row) (i : ℕ) → i < length rows → (r : Row) × (slice_get rows i ≡ Some r)
 row_there [] i lt = absurd (omega (arith, lt))
 row_there (r ∷ rows) zero lt = (r, refl)
 row_there (r ∷ rows) (suc i) lt = row_there rows i (omega (arith, lt))
@@ -227,7 +220,7 @@ module _ (rows : List Row) where
   holder_leads i k word.Case e c = c
   holder_leads i k _ e c = absurd (cc)
 
-  listed_one : (o : Option ℕ) (k : ℕ) → o ≡ Some k → Contains (listed o) k
+  pub listed_one : (o : Option ℕ) (k : ℕ) → o ≡ Some k → Contains (listed o) k
   listed_one None k e = absurd (cc)
   listed_one (Some i) k e = here i k [] (same_Some i k e)
 
@@ -246,26 +239,39 @@ module _ (rows : List Row) where
       let d : Contains (word_leading rows i r.word) k = subst (λ (x : Word). Contains (word_leading rows i x) k) (sym w) c in
       (subst (λ (o : Option Row). Contains (row_leading rows i o) k) (sym is) d, within rows i r is)
 
-  module _ (graph : Graph) (graph_is : IsGraphOf rows graph) where
-    one_leads : (i k : ℕ) → Contains (bringing rows (definitions rows) i) k → Contains (successors_of graph i) k
-    one_leads i k c =
-        let s = step_leads i k (step_of rows (definitions rows) i k (of_bringing rows (definitions rows) i k c).1) in
-        subst (λ (l : List ℕ). Contains l k) (sym (graph_is.leads i s.1)) s.0
+  one_leads : (i k : ℕ) → Contains (bringing rows (definitions rows) i) k → Contains (leading rows i) k
+  one_leads i k c = (step_leads i k (step_of rows (definitions rows) i k (of_bringing rows (definitions rows) i k c).1)).0
 
-    all_lead : (i j : ℕ) → LeadsBy (bringing rows (definitions rows)) i j → graphs.Leads graph i j
-    all_lead i j (one c) = graphs.one (one_leads i j c)
-    all_lead i j (further k c l) = graphs.further k (one_leads i k c) (all_lead k j l)
+  all_lead : (i j : ℕ) → LeadsBy (bringing rows (definitions rows)) i j → LeadsBy (leading rows) i j
+  all_lead i j (one c) = one (one_leads i j c)
+  all_lead i j (further k c l) = further k (one_leads i k c) (all_lead k j l)
+
+  held_leads : (i k : ℕ) → Contains (holding rows (definitions rows) i) k → Contains (leading rows i) k
+  held_leads i k c = (step_leads i k (step_of rows (definitions rows) i k c)).0
+
+  pub all_held : (i j : ℕ) → LeadsBy (holding rows (definitions rows)) i j → LeadsBy (leading rows) i j
+  all_held i j (one c) = one (held_leads i j c)
+  all_held i j (further k c l) = further k (held_leads i k c) (all_held k j l)
+
+  -- what leads somewhere is a row
+  pub leads_before : (i j : ℕ) → LeadsBy (leading rows) i j → i < length rows
+  leads_before i j l = by (cases_lt i (length rows))
+    where
+      by : (i < length rows) ⊎ (length rows ≤ i) → i < length rows
+      by (inl lt) = lt
+      by (inr le) = absurd (leads_nowhere (leading rows) i j (leading_past rows i le) l)
 
   module _ (facts : Facts) (all : AreFaultless rows facts) where
-    no_cycle : (cycle : Option ℕ) → facts.cycle ≡ cycle → (graph : Graph) → IsGraphOf rows graph → IfSome cycle (IsLeastCycle graph) → IfNone cycle (IsAcyclic graph) → IsAcyclic graph
-    no_cycle None is graph graph_is least free = free
-    no_cycle (Some c) is graph graph_is least free =
-        let first = leads_inside graph c c least.leads in
-        let lt : c < length graph = inside_graph graph c first.0 first.1 (cases_lt c (length graph)) in
-        let size = graph_is.size in
-        let r = row_there rows c (omega (arith, lt, size)) in
-        let f : cycle_flaw rows (Some c) c ≡ None = sym (ap (λ (o : Option ℕ). cycle_flaw rows o c) is) ∙ (all c r.0 r.1).cycle in
+    no_cycle : (cycle : Option ℕ) → facts.cycle ≡ cycle → IfSome cycle (IsLeastCycle rows) → IfNone cycle (IsAcyclic rows) → IsAcyclic rows
+    no_cycle None is least free = free
+    no_cycle (Some c) is least free =
+        let r = row_there rows c (leads_before c c least.leads) in
+        let f : cycle_flaw rows (Some c) c ≡ None = sym (ap (λ (o : Option ℕ). cycle_flaw rows o c) is) ∙ (all.each c r.0 r.1).cycle in
         absurd (unmarked_cycle rows c f)
+
+    -- no row leads to itself
+    pub acyclic : IsCycle rows facts.cycle → IsAcyclic rows
+    acyclic cycle = no_cycle facts.cycle refl cycle.least cycle.none
 
     no_duplicate : (o : Option (List ℕ)) → duplicate o ≡ None → o ≡ None
     no_duplicate None e = refl
@@ -275,14 +281,14 @@ module _ (rows : List Row) where
     unfolding clash_flaw clash_by
     clash_none at h held =
         let c = part_claimer rows at (held_part rows at h held).0 in
-        let both = no_duplicate (option_or (clash_by (claimed rows (definitions rows)) rows at) (case_clash rows at)) (all at c.row c.there).clash in
+        let both = no_duplicate (option_or (clash_by (claimed rows (definitions rows)) rows at) (case_clash rows at)) (all.each at c.row c.there).clash in
         let none = (or_none (clash_by (claimed rows (definitions rows)) rows at) (case_clash rows at) both).0 in
         sym (ap (clash_in (claimed rows (definitions rows)) rows at) held) ∙ none
 
     uses_known : (i : ℕ) (r : Row) → slice_get rows i ≡ Some r → is_uses r.word ≡ true → is_some (grouping_at (definitions rows) i) ≡ true
     unfolding name_flaw
     uses_known i r is uses =
-        let f = all i r is in
+        let f = all.each i r is in
         let w = uses_word r.word uses in
         let argument = argued r.word r.argument (grammar_none rows i r is f.grammar).1 in
         let text : List ℕ = text_of r.argument in
@@ -295,7 +301,7 @@ module _ (rows : List Row) where
 
     outermost_part : (i : ℕ) (o : Option Row) → slice_get rows i ≡ o → is_part_row o ≡ true → around_in o ≡ None → ⊥
     outermost_part i None is part e = absurd (cc)
-    outermost_part i (Some r) is part e = module_part r.word (outermost rows r e (grammar_none rows i r is (all i r is).grammar).0) part
+    outermost_part i (Some r) is part e = module_part r.word (outermost rows r e (grammar_none rows i r is (all.each i r is).grammar).0) part
 
     no_outer : (i : ℕ) → is_part_at rows i ≡ true → around rows i ≡ None → ⊥
     unfolding is_part_at
@@ -308,6 +314,6 @@ module _ (rows : List Row) where
       outer = λ i part e. no_outer i part e;
       used = λ i r is uses. uses_known i r is uses;
       named = λ i g r is uses e. uses_grouping rows i g r is uses e;
-      acyclic = λ i l. no_cycle facts.cycle refl cycle.graph cycle.graph_is cycle.least cycle.none i (all_lead cycle.graph cycle.graph_is i i l);
+      acyclic = λ i l. acyclic cycle i (all_lead i i l);
       free = λ at h held. clash_none at h held;
     }

@@ -1,6 +1,6 @@
 -- Nodes that are put one after another.
-use Rattle.std.proofs.Common.{◌≡◌, ◌⊎◌, inl, inr, ◌∙◌, ℕ, ◌+◌, ◌-◌, ◌<◌, ◌≤◌, true, false, not, is_some, List, [], ◌∷◌, ◌++◌, length, Option, Some, None, IfSome, slice_get, get_or, refl, ap, sym, arith, length-append}
-use Rattle.std.specs.List.{find, filter_map, range_with_len}
+use Rattle.std.proofs.Common.{◌≡◌, ◌⊎◌, inl, inr, ◌∙◌, ℕ, ◌+◌, ◌<◌, List, [], ◌∷◌, ◌++◌, length, Option, Some, None, IfSome, slice_get, get_or, refl, ap, sym, arith, length-append}
+use Rattle.std.specs.List.{filter_map, range_with_len}
 use Rattle.std.proofs.lemmas.Bool.Decides.{nat_tests}
 use Rattle.std.proofs.lemmas.List.FromFn.{map-range_with_len_more}
 use Rattle.std.proofs.lemmas.List.{map-id}
@@ -14,10 +14,8 @@ use Rattle.nm_shape.specs.Arguments.{argument_at}
 use Rattle.std.proofs.lemmas.Option.{slice_get-get_or}
 use Rattle.nm_expansion.specs.Expansion.{IsExpansion, owner_of, owner_in}
 use Rattle.nm_schema.specs.Kind.{kind_of}
-use Rattle.nm_expansion.proofs.Bounds.{from, from-found, from-next, from-end}
 use Rattle.nm_expansion.proofs.Places.{slice_get-left}
 use Rattle.nm_flaws.specs.Facts.{Facts, definitions}
-use Rattle.nm_schema.specs.Built.{is_unknown, first_unknown}
 use Rattle.nm_schema.specs.Choices.{module_name, case_of}
 use Rattle.nm_schema.specs.Node.{AreNodes, node_of, node_in, node_by, node_with, known_nodes}
 
@@ -117,25 +115,3 @@ none-put rows facts nodes is = rw is (record { size = refl; each = λ x lt. absu
 pub all-known : (rows : List Row) (facts : Facts) (n : ℕ) (nodes : List Node) → AreNodes rows facts n nodes → n ≡ length facts.nodes → nodes ≡ known_nodes rows facts
 unfolding known_nodes
 all-known rows facts n nodes are is = are.all ∙ ap (λ (k : ℕ). filter_map (node_of rows facts) (range_with_len 0 k)) is
-
--- ---- the first that isn't known
-
-pub unknown-start : (rows : List Row) (facts : Facts) → from (is_unknown rows facts) 0 (length facts.nodes) ≡ first_unknown rows facts
-unfolding first_unknown
-unknown-start rows facts =
-    let all : length facts.nodes - 0 ≡ length facts.nodes = omega arith in
-    ap (λ (k : ℕ). find (is_unknown rows facts) (range_with_len 0 k)) all
-
-pub unknown-found : (rows : List Row) (facts : Facts) (x : ℕ) → x < length facts.nodes → is_some (node_of rows facts x) ≡ false
-    → from (is_unknown rows facts) x (length facts.nodes) ≡ first_unknown rows facts → Some x ≡ first_unknown rows facts
-unfolding is_unknown
-unknown-found rows facts x lt is rest = sym (from-found (is_unknown rows facts) x (length facts.nodes) lt (ap not is)) ∙ rest
-
-pub unknown-next : (rows : List Row) (facts : Facts) (x : ℕ) → x < length facts.nodes → is_some (node_of rows facts x) ≡ true
-    → from (is_unknown rows facts) x (length facts.nodes) ≡ first_unknown rows facts → from (is_unknown rows facts) (x + 1) (length facts.nodes) ≡ first_unknown rows facts
-unfolding is_unknown
-unknown-next rows facts x lt is rest = sym (from-next (is_unknown rows facts) x (length facts.nodes) lt (ap not is)) ∙ rest
-
-pub unknown-none : (rows : List Row) (facts : Facts) (x : ℕ) → length facts.nodes ≤ x
-    → from (is_unknown rows facts) x (length facts.nodes) ≡ first_unknown rows facts → None ≡ first_unknown rows facts
-unknown-none rows facts x le rest = sym (from-end (is_unknown rows facts) x (length facts.nodes) le) ∙ rest

@@ -85,7 +85,7 @@ module _ (rows : List Row) (groupings : List (Option ℕ)) where
   unfolding holding
   step_of i k c = led_step i k (slice_get rows i) refl c
 
-  holding_ascends : (i : ℕ) → Ascend 0 (holding rows groupings i)
+  pub holding_ascends : (i : ℕ) → Ascend 0 (holding rows groupings i)
   unfolding holding
   holding_ascends i = by_row (slice_get rows i)
     where
@@ -110,7 +110,7 @@ module _ (rows : List Row) (groupings : List (Option ℕ)) where
       by true is d = absurd (nothing k d)
       by false is d = (is, d)
 
-  bringing_ascends : (i : ℕ) → Ascend 0 (bringing rows groupings i)
+  pub bringing_ascends : (i : ℕ) → Ascend 0 (bringing rows groupings i)
   unfolding bringing
   bringing_ascends i = by (is_data_at rows i)
     where
@@ -121,14 +121,14 @@ module _ (rows : List Row) (groupings : List (Option ℕ)) where
   -- ---- values along some of what rows lead to
 
   -- these are some of the rows that row i leads to, in order
-  record AreSome (ks these : List ℕ) : Type 0 where
-    order : Ascend 0 ks
-    among : (k : ℕ) → Contains ks k → Contains these k
+  pub record AreSome (ks these : List ℕ) : Type 0 where
+    pub order : Ascend 0 ks
+    pub among : (k : ℕ) → Contains ks k → Contains these k
 
   some_kept : (p : ℕ → Bool) (these : List ℕ) → Ascend 0 these → AreSome (filter p these) these
   some_kept p these order = record { order = ascend_filter p 0 these order; among = λ k c. (of_filter p these k c).0 }
 
-  all_some : (these : List ℕ) → Ascend 0 these → AreSome these these
+  pub all_some : (these : List ℕ) → Ascend 0 these → AreSome these these
   all_some these order = record { order = order; among = λ k c. c }
 
   data_in : (i : ℕ) (r : Row) → slice_get rows i ≡ Some r → is_data r.word ≡ true → is_data_at rows i ≡ true
@@ -144,15 +144,15 @@ module _ (rows : List Row) (groupings : List (Option ℕ)) where
       by false true d f = absurd (cc)
       by false false d f = inr (few (length rows) (concat known) nodes (nat_le (length (concat known)) (length rows)) f)
 
-  made_by : (i : ℕ) (known : List (List ℕ)) (nodes : List ℕ) → bring_step rows groupings i known ≡ Some nodes → ((is_data_at rows i ≡ true) × (nodes ≡ i ∷ [])) ⊎ (nodes ≡ concat known)
+  pub made_by : (i : ℕ) (known : List (List ℕ)) (nodes : List ℕ) → bring_step rows groupings i known ≡ Some nodes → ((is_data_at rows i ≡ true) × (nodes ≡ i ∷ [])) ⊎ (nodes ≡ concat known)
   unfolding bring_step
   made_by i known nodes e = made_of i known nodes (slice_get rows i) refl e
 
   module _ (next : ℕ → List ℕ) (along : (i : ℕ) → AreSome (next i) (bringing rows groupings i)) where
-    abbrev value : ℕ → ℕ → Option (List ℕ)
+    abbrev pub value : ℕ → ℕ → Option (List ℕ)
     value steps i = worth_within (strict (bring_step rows groupings)) next steps i
 
-    value_brings : (steps i : ℕ) (nodes : List ℕ) (n : ℕ) → value steps i ≡ Some nodes → Contains nodes n → Brings rows groupings i n
+    pub value_brings : (steps i : ℕ) (nodes : List ℕ) (n : ℕ) → value steps i ≡ Some nodes → Contains nodes n → Brings rows groupings i n
     value_brings zero i nodes n e c = absurd (cc)
     value_brings (suc steps) i nodes n e c =
         let u = unfold_one (bring_step rows groupings) next steps i nodes e in
@@ -166,7 +166,7 @@ module _ (rows : List Row) (groupings : List (Option ℕ)) where
               through r.row ((along i).among r.row r.among) (value_brings steps r.row r.nodes n r.known r.there)
         ]
 
-  abbrev BringBy : (ℕ → Option (List ℕ)) → Type 0
+  abbrev pub BringBy : (ℕ → Option (List ℕ)) → Type 0
   BringBy f = (k : ℕ) (nodes : List ℕ) (n : ℕ) → f k ≡ Some nodes → Contains nodes n → Brings rows groupings k n
 
   gathered_stand : (f : ℕ → Option (List ℕ)) → BringBy f → (i : ℕ) (ks : List ℕ) → AreSome ks (holding rows groupings i) → (nodes : List ℕ) → gathered (length rows) (all_there (map f ks)) ≡ Some nodes → (n : ℕ) → Contains nodes n → Stands rows groupings i n
@@ -175,27 +175,27 @@ module _ (rows : List Row) (groupings : List (Option ℕ)) where
       let r = of_concat f ks g.0 n g.1 (subst (λ (l : List ℕ). Contains l n) g.2 c) in
       record { part = r.row; among = are.among r.row r.among; brings = brings r.row r.nodes n r.known r.there }
 
-  brought_brings : BringBy (brought rows groupings)
+  pub brought_brings : BringBy (brought rows groupings)
   unfolding brought worth_of
   brought_brings k nodes n e c = value_brings (bringing rows groupings) (λ i. all_some (bringing rows groupings i) (bringing_ascends i)) (length rows) k nodes n e c
 
-  along_brings : (next : ℕ → List ℕ) → ((i : ℕ) → AreSome (next i) (bringing rows groupings i)) → BringBy (brought_along rows groupings next)
+  pub along_brings : (next : ℕ → List ℕ) → ((i : ℕ) → AreSome (next i) (bringing rows groupings i)) → BringBy (brought_along rows groupings next)
   unfolding brought_along worth_of
   along_brings next along k nodes n e c = value_brings next along (length rows) k nodes n e c
 
-  kept_along : (i : ℕ) → AreSome (kept_of (bringing rows groupings) rows i) (bringing rows groupings i)
+  pub kept_along : (i : ℕ) → AreSome (kept_of (bringing rows groupings) rows i) (bringing rows groupings i)
   unfolding kept_of
   kept_along i = some_kept (is_kept rows) (bringing rows groupings i) (bringing_ascends i)
 
-  plain_along : (i : ℕ) → AreSome (plain_of (bringing rows groupings) rows i) (bringing rows groupings i)
+  pub plain_along : (i : ℕ) → AreSome (plain_of (bringing rows groupings) rows i) (bringing rows groupings i)
   unfolding plain_of
   plain_along i = some_kept (is_plain rows) (bringing rows groupings i) (bringing_ascends i)
 
-  kept_parts : (i : ℕ) → AreSome (configuring rows groupings i) (holding rows groupings i)
+  pub kept_parts : (i : ℕ) → AreSome (configuring rows groupings i) (holding rows groupings i)
   unfolding kept_of
   kept_parts i = some_kept (is_kept rows) (holding rows groupings i) (holding_ascends i)
 
-  plain_parts : (i : ℕ) → AreSome (plain_of (holding rows groupings) rows i) (holding rows groupings i)
+  pub plain_parts : (i : ℕ) → AreSome (plain_of (holding rows groupings) rows i) (holding rows groupings i)
   unfolding plain_of
   plain_parts i = some_kept (is_plain rows) (holding rows groupings i) (holding_ascends i)
 
@@ -336,7 +336,7 @@ module _ (rows : List Row) (groupings : List (Option ℕ)) where
         let parts = one_part i x.part y.part a b x.among y.among x.brings y.brings same in
         one_brought x.part a b x.brings (subst (λ (z : ℕ). Brings rows groupings z b) (sym parts) y.brings) same
 
-    some_separate : (f : ℕ → Option (List ℕ)) → BringBy f → (i : ℕ) (ks : List ℕ) → AreSome ks (holding rows groupings i) → AreSeparate rows f ks
+    pub some_separate : (f : ℕ → Option (List ℕ)) → BringBy f → (i : ℕ) (ks : List ℕ) → AreSome ks (holding rows groupings i) → AreSeparate rows f ks
     some_separate f brings i ks these =
         separate rows f 0 ks these.order (λ k j c d lt these_nodes those_nodes a b is_k is_j x y same. (
         let e = one_part i k j a b (these.among k c) (these.among j d) (brings k these_nodes a is_k x) (brings j those_nodes b is_j y) same in
@@ -346,11 +346,11 @@ module _ (rows : List Row) (groupings : List (Option ℕ)) where
     once_alone : (i : ℕ) (nodes : List ℕ) → nodes ≡ i ∷ [] → IsOnce (map (argument_at rows) nodes)
     once_alone i nodes is = subst (λ (l : List ℕ). IsOnce (map (argument_at rows) l)) (sym is) ((λ c. nothing (argument_at rows i) c), tt)
 
-    some_of_holding : (i : ℕ) (ks : List ℕ) → AreSome ks (bringing rows groupings i) → AreSome ks (holding rows groupings i)
+    pub some_of_holding : (i : ℕ) (ks : List ℕ) → AreSome ks (bringing rows groupings i) → AreSome ks (holding rows groupings i)
     some_of_holding i ks these = record { order = these.order; among = λ k c. (of_bringing i k (these.among k c)).1 }
 
     module _ (next : ℕ → List ℕ) (along : (i : ℕ) → AreSome (next i) (bringing rows groupings i)) where
-      value_once : (steps i : ℕ) (nodes : List ℕ) → value next along steps i ≡ Some nodes → IsOnce (map (argument_at rows) nodes)
+      pub value_once : (steps i : ℕ) (nodes : List ℕ) → value next along steps i ≡ Some nodes → IsOnce (map (argument_at rows) nodes)
       value_once zero i nodes e = absurd (cc)
       value_once (suc steps) i nodes e =
           let u = unfold_one (bring_step rows groupings) next steps i nodes e in
@@ -361,7 +361,7 @@ module _ (rows : List Row) (groupings : List (Option ℕ)) where
             | inr all ↦ subst (λ (l : List ℕ). IsOnce (map (argument_at rows) l)) (sym all) once
           ]
 
-    abbrev OnceBy : (ℕ → Option (List ℕ)) → Type 0
+    abbrev pub OnceBy : (ℕ → Option (List ℕ)) → Type 0
     OnceBy f = (k : ℕ) (nodes : List ℕ) → f k ≡ Some nodes → IsOnce (map (argument_at rows) nodes)
 
     gathered_once : (f : ℕ → Option (List ℕ)) → BringBy f → OnceBy f → (i : ℕ) (ks : List ℕ) → AreSome ks (holding rows groupings i) → (nodes : List ℕ) → gathered (length rows) (all_there (map f ks)) ≡ Some nodes → IsOnce (map (argument_at rows) nodes)
@@ -369,11 +369,11 @@ module _ (rows : List Row) (groupings : List (Option ℕ)) where
         let g = gathers (length rows) (all_there (map f ks)) nodes e in
         subst (λ (l : List ℕ). IsOnce (map (argument_at rows) l)) (sym g.2) (concat_once rows f once ks g.0 (some_separate f brings i ks these) g.1)
 
-    brought_once : OnceBy (brought rows groupings)
+    pub brought_once : OnceBy (brought rows groupings)
     unfolding brought worth_of
     brought_once k nodes e = value_once (bringing rows groupings) (λ i. all_some (bringing rows groupings i) (bringing_ascends i)) (length rows) k nodes e
 
-    along_once : (next : ℕ → List ℕ) → ((i : ℕ) → AreSome (next i) (bringing rows groupings i)) → OnceBy (brought_along rows groupings next)
+    pub along_once : (next : ℕ → List ℕ) → ((i : ℕ) → AreSome (next i) (bringing rows groupings i)) → OnceBy (brought_along rows groupings next)
     unfolding brought_along worth_of
     along_once next along k nodes e = value_once next along (length rows) k nodes e
 

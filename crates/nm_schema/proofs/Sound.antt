@@ -1,7 +1,7 @@
 -- The nodes of the schema tree that modules give are sound.
-use Rattle.std.proofs.Common.{◌≡◌, ◌∙◌, ◌<◌, ◌≤◌, ◌+◌, ◌⊎◌, inl, inr, ℕ, zero, suc, List, [], ◌∷◌, ◌++◌, length, map, not, Bool, true, false, Option, Some, None, Result, Ok, Err, IfOk, slice_get, refl, sym, ap, subst, arith}
+use Rattle.std.proofs.Common.{◌≡◌, ◌∙◌, ◌<◌, ◌≤◌, ◌+◌, ◌⊎◌, inl, inr, ℕ, zero, suc, List, [], ◌∷◌, ◌++◌, length, map, true, Option, Some, None, Result, Ok, Err, IfOk, slice_get, refl, sym, ap, subst, arith}
 use Rattle.std.specs.Prelude.{is_some}
-use Rattle.std.specs.List.{IsDistinct, range_with_len}
+use Rattle.std.specs.List.{IsDistinct}
 use Rattle.std.proofs.lemmas.Int.{ints}
 use Rattle.std.proofs.lemmas.Option.{same_Some}
 use Rattle.nm_yang.specs.Tree.{Tree}
@@ -25,24 +25,16 @@ use Rattle.nm_schema.specs.declared.fault.SchemaFault.{SchemaFault}
 use Rattle.nm_schema.specs.Node.{node_of, known_nodes, AreNodes}
 use Rattle.nm_base.specs.Words.{marker_name}
 use Rattle.nm_schema.specs.Marker.{change_type, changes_node, applied_node, change_node, marker_nodes}
-use Rattle.nm_schema.specs.Built.{is_unknown, first_unknown, first_ungrown, tree_of, outcome, built, AreBuilt, Builds, Answered}
-use Rattle.nm_schema.proofs.Elements.{here, later, nothing, first_or_later, in_range, finds_none}
-use Rattle.nm_schema.proofs.Holders.{StandBefore}
+use Rattle.nm_schema.specs.Built.{tree_of, outcome, built, AreBuilt, Builds, Answered}
+use Rattle.nm_schema.proofs.Elements.{here, later, nothing, first_or_later}
 use Rattle.nm_schema.proofs.Claims.{AreOrderly}
-use Rattle.nm_schema.proofs.Orderly.{modules_stand, orderly}
-use Rattle.nm_schema.proofs.Faultless.{AreFaultless, within, faultless}
+use Rattle.nm_schema.specs.Faultless.{AreFaultless}
+use Rattle.nm_schema.proofs.Faultless.{within}
+use Rattle.nm_schema.proofs.Known.{faultless, order, node_known}
 use Rattle.nm_schema.proofs.Putting.{are-more, none-put}
 use Rattle.nm_schema.proofs.Nodes.{placed, some_of, given_named, given_unmarked, given_apart, given_parent, given_module, given_holder, given_type, given_keys}
 
 -- ---- all nodes are known
-
-known_by : (o : Bool) → not o ≡ false → o ≡ true
-known_by true e = refl
-known_by false e = absurd (cc)
-
-pub all_known : (rows : List Row) (facts : Facts) → first_unknown rows facts ≡ None → (x : ℕ) → x < length facts.nodes → is_some (node_of rows facts x) ≡ true
-unfolding first_unknown is_unknown
-all_known rows facts e x lt = known_by (is_some (node_of rows facts x)) (finds_none (is_unknown rows facts) (range_with_len 0 (length facts.nodes)) x e (in_range (length facts.nodes) x lt))
 
 first_nodes : (rows : List Row) (facts : Facts) → ((x : ℕ) → x < length facts.nodes → is_some (node_of rows facts x) ≡ true) → (n : ℕ) → n ≤ length facts.nodes → (nodes : List Node) × AreNodes rows facts n nodes
 first_nodes rows facts known zero le = ([], none-put rows facts [] refl)
@@ -270,29 +262,25 @@ module _ (rows : List Row) (facts : Facts) (all : AreFaultless rows facts) (orde
 
 -- ---- the law
 
-of_outcome : (rows : List Row) (facts : Facts) (t : SchemaTree) → AreFacts rows facts → StandBefore rows → (f : Option Fault) (m x : Option ℕ) → first_fault rows facts ≡ f → first_unknown rows facts ≡ x → Ok t ≡ outcome rows facts f m x → IsSound t.nodes
-of_outcome rows facts t are before (Some f) m x no_fault unknown e = absurd (cc)
-of_outcome rows facts t are before None (Some m) x no_fault unknown e = absurd (cc)
-of_outcome rows facts t are before None None (Some x) no_fault unknown e = absurd (cc)
-of_outcome rows facts t are before None None None no_fault unknown e =
+of_outcome : (modules : List Tree) (facts : Facts) (t : SchemaTree) → AreFacts (rows_of modules) facts → (f : Option Fault) → first_fault (rows_of modules) facts ≡ f → Ok t ≡ outcome (rows_of modules) facts f → IsSound t.nodes
+of_outcome modules facts t are (Some f) none e = absurd (cc)
+of_outcome modules facts t are None none e =
+    let rows = rows_of modules in
     let same : t ≡ tree_of rows facts = cc in
-    let all = faultless rows facts no_fault in
-    let it : IsSound (tree_of rows facts).nodes = sound rows facts all (orderly rows facts all are.cycle before) are.nodes (all_known rows facts unknown) in
+    let all = faultless modules facts none in
+    let it : IsSound (tree_of rows facts).nodes = sound rows facts all (order modules facts are all) are.nodes (node_known modules facts are all) in
     subst (λ (s : SchemaTree). IsSound s.nodes) (sym same) it
-
-rows_sound : (rows : List Row) → StandBefore rows → (t : SchemaTree) → AreBuilt rows (Ok t) → IsSound t.nodes
-unfolding built
-rows_sound rows before t b = of_outcome rows b.facts t b.facts_are before (first_fault rows b.facts) (first_ungrown rows) (first_unknown rows b.facts) refl refl b.given_is
 
 -- the nodes of the tree that modules give are sound
 pub modules_sound : (modules : List Tree) (t : SchemaTree) → Builds modules (Ok t) → IsSound t.nodes
-modules_sound modules t b = rows_sound (rows_of modules) (modules_stand modules) t b
+unfolding built
+modules_sound modules t b = of_outcome modules b.facts t b.facts_are (first_fault (rows_of modules) b.facts) refl b.given_is
 
 -- a tree that is answered is sound
 pub answer_sound : (modules : List Tree) (rows : List Row) (answer : Result SchemaTree SchemaFault) → rows ≡ rows_of modules → Answered rows answer → IfOk answer (λ t. IsSound t.nodes)
-answer_sound modules rows (Ok t) is a = rows_sound rows (subst StandBefore (sym is) (modules_stand modules)) t a
+answer_sound modules rows (Ok t) is a = modules_sound modules t (subst (λ (r : List Row). AreBuilt r (Ok t)) is a)
 answer_sound modules rows (Err fault) is a = tt
 
 pub answer_named : (modules : List Tree) (rows : List Row) (answer : Result SchemaTree SchemaFault) → rows ≡ rows_of modules → Answered rows answer → IfOk answer (λ t. IsWellNamed t.nodes)
-answer_named modules rows (Ok t) is a = (rows_sound rows (subst StandBefore (sym is) (modules_stand modules)) t a).named
+answer_named modules rows (Ok t) is a = (modules_sound modules t (subst (λ (r : List Row). AreBuilt r (Ok t)) is a)).named
 answer_named modules rows (Err fault) is a = tt

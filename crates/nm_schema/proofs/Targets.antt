@@ -20,7 +20,8 @@ use Rattle.nm_flaws.specs.Facts.{Facts, definitions, tree}
 use Rattle.nm_schema.specs.Kind.{referred, reference_of}
 use Rattle.nm_schema.specs.Node.{node_of}
 use Rattle.nm_schema.specs.Whole.{risen, IsLed}
-use Rattle.nm_schema.proofs.Faultless.{AreFaultless, within}
+use Rattle.nm_schema.specs.Faultless.{AreFaultless}
+use Rattle.nm_schema.proofs.Faultless.{within}
 use Rattle.nm_schema.proofs.Claims.{AreOrderly}
 use Rattle.nm_schema.proofs.Shapes.{IsShape, container, leaf, leaf_list, listed}
 use Rattle.nm_schema.proofs.Nodes.{placed, some_of, given_shape, parent_before, parent_there}

@@ -31,7 +31,7 @@ use Rattle.nm_schema.specs.Kind.{named_as, further, reached, group_in, groups_of
 use Rattle.nm_schema.specs.Node.{node_of}
 use Rattle.nm_schema.specs.Whole.{is_container, IsThrough, directly, within, IsLeafBelow}
 use Rattle.nm_schema.proofs.Elements.{here, later, nothing, first_or_later, of_filter, finds_some}
-use Rattle.nm_schema.proofs.Faultless.{AreFaultless}
+use Rattle.nm_schema.specs.Faultless.{AreFaultless}
 use Rattle.nm_schema.proofs.Claims.{AreOrderly}
 use Rattle.nm_schema.proofs.Siblings.{Stands, member_stands}
 use Rattle.nm_schema.proofs.Keys.{said_in_list}
@@ -58,7 +58,7 @@ module _ {X Y : Type 0} (f : X → Option Y) where
   first_of x xs ys y (Some z) rest is e c = others_of x xs ys y z (all_there (map f xs)) rest is e c
 
   -- one of values that are all there is the value of an element
-  all_of : (xs : List X) (ys : List Y) (y : Y) → all_there (map f xs) ≡ Some ys → Contains ys y → (w : X) × Contains xs w × (f w ≡ Some y)
+  pub all_of : (xs : List X) (ys : List Y) (y : Y) → all_there (map f xs) ≡ Some ys → Contains ys y → (w : X) × Contains xs w × (f w ≡ Some y)
   all_of [] ys y e c = let none : [] ≡ ys = same_Some [] ys e in absurd (nothing y (subst (λ (l : List Y). Contains l y) (sym none) c))
   all_of (x ∷ xs) ys y e c = first_of x xs ys y (f x) (λ zs are d. all_of xs zs y are d) refl e c
 
@@ -89,7 +89,7 @@ module _ (rows : List Row) (groupings : List (Option ℕ)) (loses : Bool) where
       by true f = agreed_first (found_among rows nodes name) (found_among rows kept name) i f
       by false f = f
 
-  row_is : (o : Option ℕ) (i : ℕ) → row_or_missing o ≡ found.Row i → o ≡ Some i
+  pub row_is : (o : Option ℕ) (i : ℕ) → row_or_missing o ≡ found.Row i → o ≡ Some i
   row_is None i e = absurd (cc)
   row_is (Some j) i e = let same : j ≡ i = cc in ap (λ (k : ℕ). Some k) same
 

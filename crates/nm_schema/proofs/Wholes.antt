@@ -16,13 +16,12 @@ use Rattle.nm_schema.specs.declared.fault.SchemaFault.{SchemaFault}
 use Rattle.nm_schema.specs.Node.{node_of, known_nodes}
 use Rattle.nm_schema.specs.Marker.{changes_node, applied_node, change_node, marker_nodes}
 use Rattle.nm_schema.specs.Whole.{IsLed, IsLeafBelow, IsDefault, AreWhole}
-use Rattle.nm_schema.specs.Built.{first_unknown, first_ungrown, tree_of, outcome, built, AreBuilt, Builds, Answered}
-use Rattle.nm_schema.proofs.Holders.{StandBefore}
+use Rattle.nm_schema.specs.Built.{tree_of, outcome, built, AreBuilt, Builds, Answered}
 use Rattle.nm_schema.proofs.Claims.{AreOrderly}
-use Rattle.nm_schema.proofs.Orderly.{modules_stand, orderly}
 use Rattle.nm_schema.proofs.Elements.{nothing}
-use Rattle.nm_schema.proofs.Faultless.{AreFaultless, faultless}
-use Rattle.nm_schema.proofs.Sound.{IsCase, given, changes, applied, change, all_known, case, at}
+use Rattle.nm_schema.specs.Faultless.{AreFaultless}
+use Rattle.nm_schema.proofs.Known.{faultless, order, node_known}
+use Rattle.nm_schema.proofs.Sound.{IsCase, given, changes, applied, change, case, at}
 use Rattle.nm_schema.proofs.Targets.{led_node}
 use Rattle.nm_schema.proofs.Uniques.{unique_leaf}
 use Rattle.nm_schema.proofs.Defaults.{default_node, bare_key}
@@ -94,25 +93,21 @@ module _ (rows : List Row) (facts : Facts) (all : AreFaultless rows facts) (orde
 
 -- ---- the law
 
-of_outcome : (rows : List Row) (facts : Facts) (t : SchemaTree) → AreFacts rows facts → StandBefore rows → (f : Option Fault) (m x : Option ℕ) → first_fault rows facts ≡ f → first_unknown rows facts ≡ x → Ok t ≡ outcome rows facts f m x → AreWhole t.nodes
-of_outcome rows facts t are before (Some f) m x no_fault unknown e = absurd (cc)
-of_outcome rows facts t are before None (Some m) x no_fault unknown e = absurd (cc)
-of_outcome rows facts t are before None None (Some x) no_fault unknown e = absurd (cc)
-of_outcome rows facts t are before None None None no_fault unknown e =
+of_outcome : (modules : List Tree) (facts : Facts) (t : SchemaTree) → AreFacts (rows_of modules) facts → (f : Option Fault) → first_fault (rows_of modules) facts ≡ f → Ok t ≡ outcome (rows_of modules) facts f → AreWhole t.nodes
+of_outcome modules facts t are (Some f) none e = absurd (cc)
+of_outcome modules facts t are None none e =
+    let rows = rows_of modules in
     let same : t ≡ tree_of rows facts = cc in
-    let all = faultless rows facts no_fault in
-    let it : AreWhole (tree_of rows facts).nodes = whole rows facts all (orderly rows facts all are.cycle before) are.nodes (all_known rows facts unknown) in
+    let all = faultless modules facts none in
+    let it : AreWhole (tree_of rows facts).nodes = whole rows facts all (order modules facts are all) are.nodes (node_known modules facts are all) in
     subst (λ (s : SchemaTree). AreWhole s.nodes) (sym same) it
-
-rows_whole : (rows : List Row) → StandBefore rows → (t : SchemaTree) → AreBuilt rows (Ok t) → AreWhole t.nodes
-unfolding built
-rows_whole rows before t b = of_outcome rows b.facts t b.facts_are before (first_fault rows b.facts) (first_ungrown rows) (first_unknown rows b.facts) refl refl b.given_is
 
 -- the tree that modules give is whole
 pub modules_whole : (modules : List Tree) (t : SchemaTree) → Builds modules (Ok t) → AreWhole t.nodes
-modules_whole modules t b = rows_whole (rows_of modules) (modules_stand modules) t b
+unfolding built
+modules_whole modules t b = of_outcome modules b.facts t b.facts_are (first_fault (rows_of modules) b.facts) refl b.given_is
 
 -- a tree that is answered is whole
 pub answer_whole : (modules : List Tree) (rows : List Row) (answer : Result SchemaTree SchemaFault) → rows ≡ rows_of modules → Answered rows answer → IfOk answer (λ t. AreWhole t.nodes)
-answer_whole modules rows (Ok t) is a = rows_whole rows (subst StandBefore (sym is) (modules_stand modules)) t a
+answer_whole modules rows (Ok t) is a = modules_whole modules t (subst (λ (r : List Row). AreBuilt r (Ok t)) is a)
 answer_whole modules rows (Err fault) is a = tt

@@ -1,5 +1,5 @@
 -- The nodes of a schema tree (RFC 7950 section 3).
-use Rattle.std.specs.Prelude.{◌≡◌, ◌<◌, ℕ, List, length, Option, Some, None, slice_get}
+use Rattle.std.specs.Prelude.{◌≡◌, ◌<◌, ℕ, List, length, true, Option, Some, None, is_some, slice_get}
 use Rattle.std.specs.List.{filter_map, range_with_len}
 use Rattle.nm_grammar.specs.declared.row.Row.{Row}
 use Rattle.nm_shape.specs.Arguments.{argument_at}
@@ -27,9 +27,13 @@ node_in rows facts x (Some node) = node_by rows facts x node (slice_get rows nod
 unfoldable pub node_of : List Row → Facts → ℕ → Option Node
 node_of rows facts x = node_in rows facts x (slice_get facts.nodes x)
 
--- the nodes of the given modules that are known, in order
+-- the nodes of the given modules that are known, in order: each is where nothing is wrong with the modules
 unfoldable pub known_nodes : List Row → Facts → List Node
 known_nodes rows facts = filter_map (node_of rows facts) (range_with_len 0 (length facts.nodes))
+
+-- each node is known
+abbrev pub AreKnown : List Row → Facts → Type 0
+AreKnown rows facts = (x : ℕ) → x < length facts.nodes → is_some (node_of rows facts x) ≡ true
 
 -- these are the first n nodes, all of them known
 pub record AreNodes (rows : List Row) (facts : Facts) (n : ℕ) (nodes : List Node) : Type 0 where

@@ -1,11 +1,15 @@
 //! Laws of the trees that modules give. Each function does nothing: its contract is the law.
 
-ghost use Rattle.std.specs.Prelude.{◌≡◌, ◌<◌, ℕ, List, length, Some, Result, Ok};
+ghost use Rattle.std.specs.Prelude.{◌≡◌, ◌↔◌, ◌<◌, ℕ, List, length, Some, Result, Ok};
 ghost use Rattle.nm_yang.specs.Tree.{Tree};
 ghost use Rattle.nm_tree.specs.Nodes.{SchemaTree, case_at};
 ghost use Rattle.nm_path.specs.Sound.{IsSound};
 ghost use Rattle.nm_flaws.specs.declared.fault.Fault.{Fault};
+ghost use Rattle.nm_grammar.specs.Rows.{rows_of};
+ghost use Rattle.nm_flaws.specs.Facts.{AreFacts};
+ghost use Rattle.nm_schema.specs.FactsOf.{facts_in};
 ghost use Rattle.nm_schema.specs.Built as spec;
+ghost use Rattle.nm_schema.specs.Faultless.{HaveNoFault};
 ghost use Rattle.nm_schema.specs.Whole.{AreWhole};
 ghost use Rattle.nm_schema.specs.Marker.{HasMarker};
 
@@ -35,4 +39,20 @@ pub fn cases_stand()
 /// Modules give one tree or one fault: two that they give are the same.
 pub fn one_answer()
     ensures { (modules : List Tree) (given other : Result SchemaTree Fault) → spec.Builds modules given → spec.Builds modules other → given ≡ other }
+{}
+
+/// What the function says of the rows of modules is so: which row is the first that leads to itself, which are configuration or
+/// state, which are keys, which nodes the tree has, and what is wrong with paths.
+pub fn facts_hold()
+    ensures { (modules : List Tree) → AreFacts (rows_of modules) (facts_in (rows_of modules)) }
+{}
+
+/// What modules give is a function of them.
+pub fn given_by_function()
+    ensures { (modules : List Tree) (given : Result SchemaTree Fault) → spec.Builds modules given ↔ (given ≡ spec.built_of modules) }
+{}
+
+/// Modules give a tree exactly where nothing is wrong with any of their statements and none of them is too large.
+pub fn faultless_have_tree()
+    ensures { (modules : List Tree) → HaveNoFault modules ↔ spec.HaveTree modules }
 {}

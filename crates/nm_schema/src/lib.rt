@@ -1,7 +1,7 @@
 //! The schema tree of YANG modules.
 //!
 //! Stands on `nm_flaws`, which tells what is wrong with modules and what is known of them, and on `nm_tree`. The layers above
-//! rely on `build`: the first fault of the modules, or a tree of all their nodes in which everything is known, with the nodes
+//! rely on `build`: the first fault of the modules, or, where nothing is wrong with them, a tree of all their nodes, with the nodes
 //! of the marker module after them. Such a tree is sound as `nm_path` says it, which reads and writes paths by it.
 #![tactic(auto)]
 
@@ -17,6 +17,3 @@ mod tree;
 
 pub use fault::SchemaFault;
 pub use modules::build;
-
-#[cfg(test)]
-mod tests;

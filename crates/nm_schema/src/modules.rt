@@ -1,6 +1,7 @@
 //! From the statements of modules to their schema tree.
 
-ghost use Rattle.std.specs.Prelude.{◌≡◌, IfOk};
+ghost use Rattle.std.specs.Prelude.{◌≡◌, IfOk, OnOk};
+ghost use Rattle.nm_grammar.specs.Rows.{FromModules};
 ghost use Rattle.nm_shape.specs.Holding.{AreNamed};
 ghost use Rattle.nm_shape.specs.Outline.{outline};
 ghost use Rattle.nm_leafref.specs.Known.{ArePaths};
@@ -8,6 +9,7 @@ ghost use Rattle.nm_flaws.specs.Facts as facts;
 ghost use Rattle.nm_path.specs.Written.{IsWellNamed};
 ghost use Rattle.nm_path.specs.Sound.{IsSound};
 ghost use Rattle.nm_schema.specs.Built as spec;
+ghost use Rattle.nm_schema.specs.Faultless.{HaveNoFault};
 ghost use Rattle.nm_schema.specs.Marker.{HasMarker};
 ghost use Rattle.nm_schema.specs.Whole.{AreWhole};
 
@@ -27,6 +29,7 @@ use std::alloc::Global;
 // What modules give, by what is known of them.
 #[tactic(auto, using(crate::proofs::Answering::answered))]
 fn answer(alloc: Global, grounds: &Grounds<'_, '_>) -> Result<Schema, SchemaFault>
+    requires { FromModules grounds.now.rows }
     ensures { spec.Answered grounds.now.rows result }
 {
     grounds.laws();
@@ -41,6 +44,7 @@ fn answer_made<'a>(
     paths: &'a Paths,
     shape: &'a Shape<'a>,
 ) -> Result<Schema, SchemaFault>
+    requires from { FromModules rows.now }
     requires definitions { definitions.now ≡ facts.definitions rows.now }
     requires paths { ArePaths rows.now paths.now }
     requires shape { shape.now ≡ outline rows.now definitions.now }
@@ -63,6 +67,7 @@ fn definitions_of(alloc: Global, rows: &Rows) -> Result<Vec<Option<usize>>, NoMe
 
 // What modules give, by their rows.
 fn answer_rows(alloc: Global, rows: &Rows) -> Result<Schema, SchemaFault>
+    requires { FromModules rows.now }
     ensures { spec.Answered rows.now result }
 {
     let definitions = definitions_of(alloc, rows)?;
@@ -79,13 +84,18 @@ fn answer_rows(alloc: Global, rows: &Rows) -> Result<Schema, SchemaFault>
 /// node stands at the top, or in an earlier container or list of its module. A list has keys, which are leafs in it. A leafref
 /// leads to a leaf or leaf-list of its own type, a unique statement names leafs below its list in containers alone, and a default
 /// is a value of its leaf's type.
-#[tactic(auto, using(crate::proofs::Sound::answer_named, crate::proofs::Sound::answer_sound, crate::proofs::Marked::answer_marked, crate::proofs::Wholes::answer_whole))]
+///
+/// Modules give a tree where nothing is wrong with them, and are refused where anything is.
+#[tactic(auto, using(crate::proofs::Sound::answer_named, crate::proofs::Sound::answer_sound, crate::proofs::Marked::answer_marked, crate::proofs::Wholes::answer_whole, crate::proofs::Faulting::answer_built, crate::proofs::Faulting::answer_faultless, crate::proofs::Faulting::answer_refused))]
 pub fn build(alloc: Global, modules: &[Statement]) -> Result<Schema, SchemaFault>
     ensures answers { spec.Answers modules.now result }
+    ensures built { spec.Gives result (spec.built_of modules.now) }
     ensures named { IfOk result (λ schema. IsWellNamed schema.nodes) }
     ensures sound { IfOk result (λ schema. IsSound schema.nodes) }
     ensures marked { IfOk result HasMarker }
     ensures whole { IfOk result (λ schema. AreWhole schema.nodes) }
+    ensures faultless { OnOk result (HaveNoFault modules.now) }
+    ensures refused { spec.IsRefusal result → ¬ (HaveNoFault modules.now) }
 {
     let rows = rows_of(alloc, modules)?;
     answer_rows(alloc, &rows)

@@ -12,6 +12,3 @@ pub mod schema;
 pub use choice::{CaseNode, ChoiceNode};
 pub use node::{Elements, Node, NodeKind, Reference, SharedType};
 pub use schema::Schema;
-
-#[cfg(test)]
-mod tests;

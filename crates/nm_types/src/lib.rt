@@ -22,6 +22,3 @@ pub use path::{Chosen, Path, Step};
 pub use read::read_value;
 pub use value::Value;
 pub use write::write_value;
-
-#[cfg(test)]
-mod tests;

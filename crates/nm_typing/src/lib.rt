@@ -22,6 +22,3 @@ pub use listing::{Judged, Judgement, judgements_of};
 pub use meaning::Meaning;
 pub use restricting::restrictions_of;
 pub use types::{Types, types_of};
-
-#[cfg(test)]
-mod tests;

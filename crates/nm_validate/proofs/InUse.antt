@@ -1,5 +1,5 @@
 -- Guards from the last step of a path, and values of leafs from those of rows and keys.
-use Rattle.std.proofs.Common.{◌≡◌, ℕ, suc, ◌-◌, ◌<◌, List, [], ◌∷◌, ◌++◌, length, Bool, true, false, ◌&&◌, Option, Some, None, option_map, if◌then◌else◌, refl, sym, ap, ◌∙◌, append_assoc, arith}
+use Rattle.std.proofs.Common.{◌≡◌, ℕ, suc, ◌-◌, ◌<◌, List, [], ◌∷◌, ◌++◌, length, Bool, true, false, ◌&&◌, Option, Some, None, if◌then◌else◌, refl, sym, ap, ◌∙◌, arith}
 use Rattle.std.specs.FinMap.{contains_key}
 use Rattle.nm_types.specs.Path.{PathStep}
 use Rattle.nm_tree.specs.Nodes.{SchemaTree, parent_of}
@@ -10,10 +10,9 @@ use Rattle.nm_config.specs.Under.{is_whole, is_end}
 use Rattle.nm_rules.specs.Standing.{is_own_at}
 use Rattle.nm_rules.specs.Guards.{front, is_allowed_at, is_open_step, holds_at, stands}
 use Rattle.nm_rules.specs.Places.{chain}
-use Rattle.nm_rules.specs.Values.{all_there}
 use Rattle.nm_rules.specs.Violated.{last_chosen}
 use Rattle.nm_rules.proofs.Areas.{ends, holds_by_last}
-use Rattle.nm_validate.specs.Repeated.{is_open}
+use Rattle.nm_validate.specs.Leafs.{is_open}
 use Rattle.nm_validate.proofs.Below.{top_chain}
 use Rattle.nm_validate.proofs.Choosing.{front_last, stands_by_last}
 
@@ -95,19 +94,3 @@ as_first false b e = refl
 -- the nodes from the top down to a node
 pub chain_more : (t : SchemaTree) → IsTree t.nodes → (x : ℕ) → chain t.nodes (parent_of t.nodes x) ++ x ∷ [] ≡ chain t.nodes (Some x)
 chain_more t tree x = ap (λ l. l ++ x ∷ []) (sym (top_chain t tree x (parent_of t.nodes x) refl))
-
--- ---- values that are all there
-
-all_on : {X : Type 0} (o : Option (List X)) (xs : List X) (x : X) → option_map (λ more. (xs ++ x ∷ []) ++ more) o ≡ option_map (λ more. xs ++ more) (option_map (λ more. x ∷ more) o)
-all_on None xs x = refl
-all_on (Some ys) xs x = ap Some (append_assoc xs (x ∷ []) ys)
-
--- one value more is there
-pub all_more : {X : Type 0} (o : Option X) (os : List (Option X)) (x : X) (xs after : List X) → o ≡ Some x → after ≡ xs ++ x ∷ []
-    → option_map (λ more. after ++ more) (all_there os) ≡ option_map (λ more. xs ++ more) (all_there (o ∷ os))
-all_more o os x xs after is e =
-    ap (λ l. option_map (λ more. l ++ more) (all_there os)) e ∙ all_on (all_there os) xs x ∙ ap (λ p. option_map (λ more. xs ++ more) (all_there (p ∷ os))) (sym is)
-
--- one isn't
-pub all_less : {X : Type 0} (o : Option X) (os : List (Option X)) (xs : List X) → o ≡ None → option_map (λ more. xs ++ more) (all_there (o ∷ os)) ≡ None
-all_less o os xs is = ap (λ p. option_map (λ more. xs ++ more) (all_there (p ∷ os))) is

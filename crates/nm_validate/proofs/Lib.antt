@@ -12,7 +12,5 @@ pub mod Elements
 pub mod Rowless
 pub mod Gathered
 pub mod Choosing
-pub mod Repeated
 pub mod InUse
-pub mod Apart
 pub mod Tabled

@@ -1,11 +1,12 @@
--- Nodes to which no row leads have no entries.
-use Rattle.std.proofs.Common.{◌≡◌, ℕ, ◌<◌, List, [], ◌∷◌, map, get_or, length, Bool, true, false, ◌==◌, Option, Some, None, Bor, refl, sym, ap, ◌∙◌, subst, arith}
+-- Nodes have nowhere more entries than rows in all.
+use Rattle.std.proofs.Common.{◌≡◌, ℕ, ◌<◌, ◌≤◌, List, [], ◌∷◌, map, get_or, length, Bool, true, false, cond, ◌==◌, Option, Some, None, Bor, refl, sym, ap, ◌∙◌, subst, inl, inr, arith}
 use Rattle.std.proofs.lemmas.Grind.{common_steps}
+use Rattle.std.proofs.lemmas.Bool.{false≢true}
 use Rattle.std.proofs.lemmas.Bool.Decides.{nat_tests}
+use Rattle.std.proofs.lemmas.List.{length-map}
 use Rattle.std.proofs.lemmas.List.Sums.{length-filter}
-use Rattle.std.specs.Prelude.{filter}
+use Rattle.std.specs.Prelude.{filter, nat_lt}
 use Rattle.std.specs.FinMap.{keys}
-use Rattle.std.specs.Vec.{vec_len}
 use Rattle.nm_types.specs.Path.{PathStep}
 use Rattle.nm_tree.specs.declared.node.Node.{Node}
 use Rattle.nm_tree.specs.Nodes.{SchemaTree, elements_at}
@@ -21,7 +22,7 @@ use Rattle.nm_rules.specs.Guards.{is_node, leads_to}
 use Rattle.nm_rules.specs.Places.{places}
 use Rattle.nm_rules.specs.Values.{count_at}
 use Rattle.nm_rules.specs.Violated.{is_above, violated}
-use Rattle.nm_rules.proofs.Among.{Among, both, among_filter, among_contains}
+use Rattle.nm_rules.proofs.Among.{Among, both, among_contains}
 use Rattle.nm_rules.proofs.Leading.{itself}
 use Rattle.nm_rules.proofs.Placed.{placed_law}
 use Rattle.nm_validate.specs.Counts.{is_entry_of}
@@ -56,49 +57,50 @@ entry_leads : (t : SchemaTree) (path other : List PathStep) → is_under path ot
 unfolding node_of
 entry_leads t path other h e = steps_lead t.nodes Top None path other h e
 
--- ---- no row, no entry
+-- ---- no more entries than rows
 
 as_long : (a b : ℕ) → (a == b) ≡ true → a ≡ b
 as_long a b e = grind (arith, common_steps, nat_tests)
 
-none_above : (o : Option ℕ) → is_above 0 o ≡ false
-none_above None = refl
-none_above (Some max) = grind (arith, common_steps, nat_tests)
+at_most : (max c n : ℕ) → c ≤ n → nat_lt max n ≡ false → is_above c (Some max) ≡ false
+at_most max c n less e = grind (arith, common_steps, nat_tests)
 
-no_items : {X : Type 0} (xs : List X) → length xs ≡ 0 → xs ≡ []
-no_items [] e = refl
-no_items (x ∷ xs) e = absurd (omega (arith, e))
+one_more : {X : Type 0} (f g : X → Bool) (x : X) (xs : List X) (a b : Bool) → (a ≡ true → b ≡ true) → length (filter f xs) ≤ length (filter g xs)
+    → length (cond a (x ∷ filter f xs) (filter f xs)) ≤ length (cond b (x ∷ filter g xs) (filter g xs))
+one_more f g x xs true true h rest = omega (arith, rest)
+one_more f g x xs true false h rest = absurd (false≢true (h refl))
+one_more f g x xs false true h rest = omega (arith, rest)
+one_more f g x xs false false h rest = rest
 
-not_among_none : {X : Type 0} (xs : List X) (x : X) → xs ≡ [] → Among xs x → ⊥
-not_among_none [] x e a = a
-not_among_none (y ∷ ys) x e a = cc
+-- what passes one test only where it passes another does so no more often
+no_more : {X : Type 0} (f g : X → Bool) (xs : List X) → ((x : X) → Among xs x → f x ≡ true → g x ≡ true) → length (filter f xs) ≤ length (filter g xs)
+no_more f g [] h = omega arith
+no_more f g (x ∷ xs) h = one_more f g x xs (f x) (g x) (h x (inl refl)) (no_more f g xs (λ y a. h y (inr a)))
 
-module _ (t : SchemaTree) (rows : Rows) (sound : IsSound t.nodes) (x : ℕ) (lt : x < length t.nodes) (none : filter (leads_to t x) (keys rows) ≡ []) where
-  no_entry : (p k : List PathStep) → node_of t p ≡ Some x → Among (keys rows) k → is_entry_of p k ≡ false
-  no_entry p k at a = by (is_entry_of p k) refl
-    where
-      by : (b : Bool) → is_entry_of p k ≡ b → is_entry_of p k ≡ false
-      by false e = e
-      by true e =
-          let h = both (length k == length p) (is_under p k) e in
-          let leads = entry_leads t p k h.1 (as_long (length k) (length p) h.0) ∙ at in
-          absurd (not_among_none (filter (leads_to t x) (keys rows)) k none (among_filter (leads_to t x) (keys rows) k a (ap (is_node x) leads ∙ itself x)))
+module _ (t : SchemaTree) (rows : Rows) (sound : IsSound t.nodes) (x : ℕ) (lt : x < length t.nodes) where
+  entry_is : (p k : List PathStep) → node_of t p ≡ Some x → is_entry_of p k ≡ true → leads_to t x k ≡ true
+  entry_is p k at e =
+      let h = both (length k == length p) (is_under p k) e in
+      ap (is_node x) (entry_leads t p k h.1 (as_long (length k) (length p) h.0) ∙ at) ∙ itself x
 
-  no_count : (p : List PathStep) → node_of t p ≡ Some x → count_at rows p ≡ 0
-  no_count p at = sym (length-filter (is_entry_of p) (keys rows)) ∙ ap length (filter_none (is_entry_of p) (keys rows) (λ k a. no_entry p k at a))
+  -- a node has nowhere more entries than rows in all
+  count_within : (p : List PathStep) → node_of t p ≡ Some x → count_at rows p ≤ length (filter (leads_to t x) (keys rows))
+  count_within p at =
+      let all = no_more (is_entry_of p) (leads_to t x) (keys rows) (λ k a. entry_is p k at) in
+      let count : length (filter (is_entry_of p) (keys rows)) ≡ count_at rows p = length-filter (is_entry_of p) (keys rows) in
+      omega (arith, all, count)
 
-  -- a node without rows has nowhere too many entries
-  pub never_above : filter (violated t rows MaxElements) (places t rows x) ≡ []
-  never_above = filter_none (violated t rows MaxElements) (places t rows x) (λ p a.
+  -- a node that has no more rows in all than it may have entries has nowhere too many
+  pub never_above : (max : ℕ) → (elements_at t.nodes x).max ≡ Some max → nat_lt max (length (filter (leads_to t x) (keys rows))) ≡ false → filter (violated t rows MaxElements) (places t rows x) ≡ []
+  never_above max is few = filter_none (violated t rows MaxElements) (places t rows x) (λ p a.
       let at = ((placed_law t rows x p sound lt).0 (among_contains (places t rows x) p a)).0 in
-      at_place t rows sound x lt p a ∙ ap (λ n. is_above n (elements_at t.nodes x).max) (no_count p at) ∙ none_above (elements_at t.nodes x).max)
+      at_place t rows sound x lt p a ∙ ap (is_above (count_at rows p)) is ∙ at_most max (count_at rows p) (length (filter (leads_to t x) (keys rows))) (count_within p at) few)
 
 module _ (t : SchemaTree) (rows : Rows) (sound : IsSound t.nodes) (groups : List Group) (x : ℕ) (lt : x < length t.nodes) (of : AreOf t (keys rows) groups) where
-  -- the group of its rows is empty
-  pub empty_group : (g : Group) → g ≡ get_or groups x g → (vec_len g == 0) ≡ true → filter (violated t rows MaxElements) (places t rows x) ≡ []
-  empty_group g is e =
+  -- the group of its rows has no more
+  pub small_group : (g : Group) → g ≡ get_or groups x g → (max : ℕ) → (elements_at t.nodes x).max ≡ Some max → nat_lt max (length g.items) ≡ false → filter (violated t rows MaxElements) (places t rows x) ≡ []
+  small_group g is max most few =
       let there = at_index groups x g (subst (λ (n : ℕ). x < n) (sym of.count) lt) is in
-      let count = as_long (vec_len g) 0 e in
-      let long = g.ok in
-      let none : length g.items ≡ 0 = omega (arith, count, long) in
-      never_above t rows sound x lt (sym (of.each x lt) ∙ ap paths_in there ∙ ap (map (λ (p : Bor (List PathStep)). p.now)) (no_items g.items none))
+      let all : map (λ (p : Bor (List PathStep)). p.now) g.items ≡ filter (leads_to t x) (keys rows) = sym (ap paths_in there) ∙ of.each x lt in
+      let long : length g.items ≡ length (filter (leads_to t x) (keys rows)) = sym (length-map g.items (λ (p : Bor (List PathStep)). p.now)) ∙ ap length all in
+      never_above t rows sound x lt max most (sym (ap (nat_lt max) long) ∙ few)

@@ -2,13 +2,13 @@
 use Rattle.std.proofs.Common.{◌≡◌, ℕ, zero, suc, List, [], ◌∷◌, map, take, drop, get_or, length, ◌≤◌, Bool, true, false, cond, not, ◌&&◌, Option, Some, is_some, option_map, refl, sym, ap, ◌∙◌, subst, arith}
 use Rattle.std.specs.List.{find, AllByRecursion}
 use lib.Dec.{T}
-use Rattle.std.specs.FinMap.{get, get-entries, entries, entries_sorted}
+use Rattle.std.specs.FinMap.{get, contains_key, get-entries, entries, entries_sorted}
 use Rattle.std.specs.FinMap.Entries.{find as found, is_sorted, below_all}
-use Rattle.std.specs.Ordering.{is_lt, is_eq, ordering_reverse}
+use Rattle.std.specs.Ordering.{eq_by_cmp, is_lt, is_eq, ordering_reverse}
 use Rattle.std.specs.declared.cmp.Ordering.{Ordering}
 use Rattle.std.specs.declared.cmp.Ordering.TheVariants.{Less, Equal, Greater}
 use Rattle.std.proofs.lemmas.Cmp.{tied_itself}
-use Rattle.nm_types.specs.PathLaws.{paths_total}
+use Rattle.nm_types.specs.PathLaws.{paths_total, same_path_decides}
 use Rattle.nm_types.specs.declared.value.Value.{Value}
 use Rattle.nm_types.specs.Path.{PathStep, path_cmp}
 use Rattle.nm_tree.specs.Nodes.{SchemaTree}
@@ -63,6 +63,11 @@ lent_rows t rows grouped lent h same = are_rows rows lent (subst (λ es. Have ro
 pub first_there : (m : Rows) (rs : List NodeRow) (r : NodeRow) → 1 ≤ length rs → r ≡ get_or rs 0 r → AreRows m rs → get m r.path.now ≡ Some r.value.now
 first_there m [] r long is h = absurd (omega (arith, long))
 first_there m (s ∷ rs) r long is h = ap (λ (q : NodeRow). get m q.path.now) is ∙ h.0 ∙ ap (λ (q : NodeRow). Some q.value.now) (sym is)
+
+-- the first of some rows is at this path
+pub first_at : (m : Rows) (rs : List NodeRow) (r : NodeRow) (path : List PathStep) → 1 ≤ length rs → r ≡ get_or rs 0 r → eq_by_cmp path_cmp r.path.now path ≡ true → AreRows m rs → contains_key m path ≡ true
+first_at m rs r path long is same h =
+    ap (contains_key m) (sym ((same_path_decides r.path.now path (eq_by_cmp path_cmp r.path.now path) refl).0 same)) ∙ ap is_some (first_there m rs r long is h)
 
 pub rows_taken : (m : Rows) (rs : List NodeRow) (n : ℕ) → AreRows m rs → AreRows m (take n rs)
 rows_taken m [] zero h = tt

@@ -6,5 +6,5 @@ pub mod Groups
 pub mod Counts
 pub mod Wanted
 pub mod Choosing
-pub mod Repeated
+pub mod Leafs
 pub mod Tables

@@ -178,6 +178,24 @@ fn case_holds<M: RowMap>(
     Ok(there)
 }
 
+/// Whether what stands in a case, or in none, may be wanted at a place, by the nodes of each case.
+pub fn is_allowed_in<M: RowMap>(
+    alloc: Global,
+    schema: &Schema,
+    config: &M,
+    cases: &[Vec<usize>],
+    above: &Path,
+    case: Option<usize>,
+) -> Result<bool, NoMemory>
+    requires { AreOfCases schema.now cases.now }
+    ensures { IfOk result (λ allowed. allowed ≡ spec.is_allowed schema.now (M.rows config.now) above.now case) }
+{
+    match case {
+        None => Ok(true),
+        Some(case) => case_holds(alloc, schema, config, cases, above, case),
+    }
+}
+
 /// Whether what stands in a case, or in none, may be wanted at a place.
 pub fn is_allowed<M: RowMap>(
     alloc: Global,
@@ -190,8 +208,5 @@ pub fn is_allowed<M: RowMap>(
     requires { IsGrouped schema.now (M.rows config.now) grouped.now }
     ensures { IfOk result (λ allowed. allowed ≡ spec.is_allowed schema.now (M.rows config.now) above.now case) }
 {
-    match case {
-        None => Ok(true),
-        Some(case) => case_holds(alloc, schema, config, &grouped.cases, above, case),
-    }
+    is_allowed_in(alloc, schema, config, &grouped.cases, above, case)
 }

@@ -70,8 +70,8 @@ fn is_within(schema: &Schema, parent: Option<usize>) -> bool
     }
 }
 
-// The step by which a choice is printed.
-fn choice_step(choice: &ChoiceNode) -> Result<Step, NoMemory>
+/// The step by which a choice is printed.
+pub fn choice_step(choice: &ChoiceNode) -> Result<Step, NoMemory>
     ensures { IfOk result (λ step. step ≡ place_spec.choice_step choice.now) }
 {
     Ok(Step {
@@ -127,8 +127,8 @@ fn least_among<M: RowMap>(
     Ok(least)
 }
 
-// The choice of a number from 0, and None past the last.
-fn choice_of(schema: &Schema, at: usize) -> Option<&ChoiceNode>
+/// The choice of a number from 0, and None past the last.
+pub fn choice_of(schema: &Schema, at: usize) -> Option<&ChoiceNode>
     ensures { MatchOption result (slice_get schema.now.choices at ≡ None) (λ choice. slice_get schema.now.choices at ≡ Some choice.now) }
 {
     schema.choices().get(at)
@@ -163,8 +163,8 @@ fn least_at_choice<M: RowMap>(
     Ok(least)
 }
 
-// How many choices there are.
-fn choice_count(schema: &Schema) -> usize
+/// How many choices there are.
+pub fn choice_count(schema: &Schema) -> usize
     ensures { result ≡ length schema.now.choices }
 {
     schema.choices().len()

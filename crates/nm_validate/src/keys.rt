@@ -63,8 +63,8 @@ fn fit_keys(
     Ok(values_left.is_empty())
 }
 
-// Whether a row has its keys, where it is an entry of a list.
-fn has_keys(alloc: Global, schema: &Schema, row: &NodeRow<'_>) -> Result<bool, NoMemory>
+/// Whether a row has its keys, where it is an entry of a list.
+pub fn has_keys(alloc: Global, schema: &Schema, row: &NodeRow<'_>) -> Result<bool, NoMemory>
     ensures { IfOk result (λ has. has ≡ spec.has_keys schema.now.nodes row.now.node row.now.path.now) }
 {
     let Some(at) = row.node else {

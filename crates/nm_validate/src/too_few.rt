@@ -22,8 +22,8 @@ use nm_tree::Schema;
 use nm_types::Path;
 use std::alloc::Global;
 
-// Whether a list or a leaf-list has at least so many entries at its path.
-fn has_at_least<M: RowMap>(config: &M, path: &Path, min: u64) -> bool
+/// Whether a list or a leaf-list has at least so many entries at its path.
+pub fn has_at_least<M: RowMap>(config: &M, path: &Path, min: u64) -> bool
     ensures { result ≡ has_at_least (M.rows config.now) min path.now }
 {
     if min == 0 {
@@ -41,8 +41,8 @@ pub fn front(alloc: Global, path: &Path) -> Result<Path, NoMemory>
     Ok(above)
 }
 
-// Whether one of some nodes exists at a place, or nothing is asked.
-fn is_allowed_by<M: RowMap>(
+/// Whether one of some nodes exists at a place, or nothing is asked.
+pub fn is_allowed_by<M: RowMap>(
     alloc: Global,
     schema: &Schema,
     config: &M,

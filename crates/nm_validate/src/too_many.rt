@@ -45,7 +45,14 @@ fn least_above<M: RowMap>(
     least
 }
 
-// The least of what was found so far and of the places at which a node has too many entries.
+// Whether a group has more paths than so many.
+fn has_more_in(group: &[&Path], most: u64) -> bool
+    ensures { result ≡ nat_lt most (length group.now) }
+{
+    most < group.len() as u64
+}
+
+// The least of what was found so far and of the places at which a node has too many entries. Where it has no more in all, there are none.
 fn least_at_node<M: RowMap>(
     alloc: Global,
     schema: &Schema,
@@ -65,7 +72,7 @@ fn least_at_node<M: RowMap>(
     let Some(group) = grouped.groups.as_slice().get(at) else {
         return Ok(found);
     };
-    if group.is_empty() {
+    if !has_more_in(group, max) {
         return Ok(found);
     }
     let paths = places(alloc, schema, config, grouped, at)?;

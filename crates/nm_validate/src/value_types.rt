@@ -64,8 +64,8 @@ fn fits_node(
     }
 }
 
-// Whether a row has a value of its type.
-fn fits_row(alloc: Global, schema: &Schema, row: &NodeRow<'_>) -> Result<bool, NoMemory>
+/// Whether a row has a value of its type.
+pub fn fits_row(alloc: Global, schema: &Schema, row: &NodeRow<'_>) -> Result<bool, NoMemory>
     ensures { IfOk result (λ fits. fits ≡ row_spec.has_its_type schema.now.nodes row.now) }
 {
     match row.node {

@@ -1,9 +1,10 @@
 //! The values of leafs: those of rows, those of keys, and defaults in use.
 
-ghost use Rattle.std.specs.Prelude.{◌≡◌, ◌++◌, IfOk, Some, drop, length, map as each, option_copied};
+ghost use Rattle.std.specs.Prelude.{◌≡◌, ◌++◌, true, false, IfOk, drop, length, map as each, option_copied};
 ghost use Rattle.nm_types.specs.Chosen.{choice_of};
-ghost use Rattle.std.specs.FinMap.{contains_key, get};
+ghost use Rattle.std.specs.FinMap.{contains_key};
 ghost use Rattle.nm_path.specs.Spelling as path_spec;
+ghost use Rattle.nm_config.specs.Rows.{Rows};
 ghost use Rattle.nm_config.specs.Under as under_spec;
 ghost use Rattle.nm_rules.specs.Cases as case_spec;
 ghost use Rattle.nm_rules.specs.Standing as standing;
@@ -13,10 +14,11 @@ ghost use Rattle.nm_rules.specs.Values as spec;
 ghost use Rattle.nm_rules.specs.Violated.{last_chosen};
 ghost use Rattle.nm_validate.specs.Groups.{IsGrouped};
 ghost use Rattle.nm_validate.specs.Listed.{AreRows};
-ghost use Rattle.nm_validate.specs.Repeated.{is_open, row_or_default};
+ghost use Rattle.nm_validate.specs.Leafs.{is_open, row_or_default};
+ghost use Rattle.nm_validate.specs.Tables.{AreOfCases};
 
 use crate::areas::{Grouped, NodeRow};
-use crate::cases::{bare, is_allowed};
+use crate::cases::{bare, is_allowed_in};
 use crate::keys::values_in;
 use crate::too_few::front;
 use nm_base::NoMemory;
@@ -88,17 +90,17 @@ fn is_allowed_at<M: RowMap>(
     alloc: Global,
     schema: &Schema,
     config: &M,
-    grouped: &Grouped<'_>,
+    cases: &[Vec<usize>],
     above: &Path,
     node: Option<usize>,
 ) -> Result<bool, NoMemory>
-    requires { IsGrouped schema.now (M.rows config.now) grouped.now }
+    requires { AreOfCases schema.now cases.now }
     ensures { IfOk result (λ allowed. allowed ≡ guard.is_allowed_at schema.now (M.rows config.now) above.now node) }
 {
     let Some(at) = node else {
         return Ok(false);
     };
-    is_allowed(alloc, schema, config, grouped, above, schema.case_in(at))
+    is_allowed_in(alloc, schema, config, cases, above, schema.case_in(at))
 }
 
 // Whether the last step of a path has no predicates, and leads to a node whose case holds.
@@ -106,17 +108,17 @@ fn is_open<M: RowMap>(
     alloc: Global,
     schema: &Schema,
     config: &M,
-    grouped: &Grouped<'_>,
+    cases: &[Vec<usize>],
     above: &Path,
     path: &Path,
 ) -> Result<bool, NoMemory>
-    requires { IsGrouped schema.now (M.rows config.now) grouped.now }
+    requires { AreOfCases schema.now cases.now }
     ensures { IfOk result (λ opens. opens ≡ is_open schema.now (M.rows config.now) above.now path.now) }
 {
     if !is_whole(path) {
         return Ok(false);
     }
-    is_allowed_at(alloc, schema, config, grouped, above, node_of(schema, path))
+    is_allowed_at(alloc, schema, config, cases, above, node_of(schema, path))
 }
 
 // Whether a path leads to a list or a container with presence.
@@ -129,10 +131,25 @@ fn is_own(schema: &Schema, path: &Path) -> bool
     }
 }
 
-// Whether there is a row at a path.
-fn has_row<M: RowMap>(config: &M, path: &Path) -> bool
+// Whether the first of some rows is at a path.
+fn is_first(near: &[NodeRow<'_>], path: &Path) -> bool
+    ensures { (m : Rows) → AreRows m near.now → result ≡ true → contains_key m path.now ≡ true }
+{
+    let [row, ..] = near else {
+        return false;
+    };
+    let own = row.path;
+    *own == *path
+}
+
+// Whether there is a row at a path, which may be the first of these.
+fn has_row<M: RowMap>(config: &M, near: &[NodeRow<'_>], path: &Path) -> bool
+    requires { AreRows (M.rows config.now) near.now }
     ensures { result ≡ contains_key (M.rows config.now) path.now }
 {
+    if is_first(near, path) {
+        return true;
+    }
     config.value(path).is_some()
 }
 
@@ -143,23 +160,25 @@ fn is_top(path: &Path) -> bool
     path.steps.is_empty()
 }
 
-// How many steps a path has.
-fn step_count(path: &Path) -> usize
+/// How many steps a path has.
+pub fn step_count(path: &Path) -> usize
     ensures { result ≡ length path.now }
 {
     path.steps.len()
 }
 
-// Whether what guards the nodes at a place of so many steps that stand in no case holds.
-fn holds_at<M: RowMap>(
+/// Whether what guards the nodes at a place of so many steps that stand in no case holds.
+pub fn holds_at<M: RowMap>(
     alloc: Global,
     schema: &Schema,
     config: &M,
-    grouped: &Grouped<'_>,
+    cases: &[Vec<usize>],
+    near: &[NodeRow<'_>],
     path: &Path,
     count: usize,
 ) -> Result<bool, NoMemory>
-    requires grouped { IsGrouped schema.now (M.rows config.now) grouped.now }
+    requires cases { AreOfCases schema.now cases.now }
+    requires rows { AreRows (M.rows config.now) near.now }
     requires counted { count ≡ length path.now }
     ensures { IfOk result (λ holds. holds ≡ guard.holds_at schema.now (M.rows config.now) path.now) }
 {
@@ -167,41 +186,75 @@ fn holds_at<M: RowMap>(
         return Ok(true);
     }
     if is_own(schema, path) {
-        return Ok(has_row(config, path));
+        return Ok(has_row(config, near, path));
     }
     let above = front(alloc, path)?;
-    let opens = is_open(alloc, schema, config, grouped, &above, path)?;
+    let opens = is_open(alloc, schema, config, cases, &above, path)?;
     if !opens {
         return Ok(false);
     }
-    let holds = holds_at(alloc, schema, config, grouped, &above, count - 1)?;
+    let holds = holds_at(alloc, schema, config, cases, near, &above, count - 1)?;
     Ok(holds)
 }
 
-// Whether a leaf may stand at a path: its guard holds.
-fn stands<M: RowMap>(
+/// Whether a leaf, or a list or leaf-list as a whole, may stand at a path: its guard holds.
+pub fn stands<M: RowMap>(
     alloc: Global,
     schema: &Schema,
     config: &M,
-    grouped: &Grouped<'_>,
+    cases: &[Vec<usize>],
+    near: &[NodeRow<'_>],
     path: &Path,
 ) -> Result<bool, NoMemory>
-    requires { IsGrouped schema.now (M.rows config.now) grouped.now }
+    requires cases { AreOfCases schema.now cases.now }
+    requires rows { AreRows (M.rows config.now) near.now }
     ensures { IfOk result (λ there. there ≡ guard.stands schema.now (M.rows config.now) path.now) }
 {
     if is_top(path) {
         return Ok(false);
     }
     let above = front(alloc, path)?;
-    let opens = is_open(alloc, schema, config, grouped, &above, path)?;
+    let opens = is_open(alloc, schema, config, cases, &above, path)?;
     if !opens {
         return Ok(false);
     }
-    let holds = holds_at(alloc, schema, config, grouped, &above, step_count(&above))?;
+    let holds = holds_at(
+        alloc,
+        schema,
+        config,
+        cases,
+        near,
+        &above,
+        step_count(&above),
+    )?;
     Ok(holds)
 }
 
 // ---- leafs
+
+// The default of a leaf at a path without a row, where its guard holds. The row of that may be the first of these.
+fn default_at<M: RowMap>(
+    alloc: Global,
+    schema: &Schema,
+    config: &M,
+    grouped: &Grouped<'_>,
+    near: &[NodeRow<'_>],
+    path: &Path,
+    at: usize,
+) -> Result<Option<Value>, NoMemory>
+    requires grouped { IsGrouped schema.now (M.rows config.now) grouped.now }
+    requires rows { AreRows (M.rows config.now) near.now }
+    requires bare { contains_key (M.rows config.now) path.now ≡ false }
+    ensures { IfOk result (λ value. value ≡ spec.default_in_use schema.now (M.rows config.now) path.now at) }
+{
+    let Some(value) = schema.default(at) else {
+        return Ok(None);
+    };
+    if !stands(alloc, schema, config, &grouped.cases, near, path)? {
+        return Ok(None);
+    }
+    Ok(Some(value.copy()?))
+}
 
 /// The default of a leaf where no row of it is and its guard holds (RFC 7950 section 7.6.1).
 pub fn default_in_use<M: RowMap>(
@@ -215,52 +268,16 @@ pub fn default_in_use<M: RowMap>(
     requires { IsGrouped schema.now (M.rows config.now) grouped.now }
     ensures { IfOk result (λ value. value ≡ spec.default_in_use schema.now (M.rows config.now) path.now at) }
 {
-    let Some(value) = schema.default(at) else {
+    let Some(_default) = schema.default(at) else {
         return Ok(None);
     };
     if config.value(path).is_some() {
         return Ok(None);
     }
-    if !stands(alloc, schema, config, grouped, path)? {
-        return Ok(None);
-    }
-    Ok(Some(value.copy()?))
+    default_at(alloc, schema, config, grouped, &[], path, at)
 }
 
-// How many rows are looked at before one is looked up by its path.
-const NEAR: usize = 64;
-
-// The value of the row at a path to a node. The first few of these rows are looked at before it is looked up: those of one
-// entry stand together.
-fn value_near<'v, M: RowMap>(
-    config: &'v M,
-    near: &[NodeRow<'v>],
-    path: &Path,
-    at: usize,
-) -> Option<&'v Value>
-    requires { AreRows (M.rows config.now) near.now }
-    ensures { option_copied result ≡ get (M.rows config.now) path.now }
-{
-    let mut rest = near;
-    let mut left = NEAR;
-    'rows: while left > 0 {
-        let [row, more @ ..] = rest else {
-            return config.value(path);
-        };
-        if row.node == Some(at) {
-            let own = row.path;
-            if *own == *path {
-                return Some(row.value);
-            }
-            return config.value(path);
-        }
-        rest = more;
-        left -= 1;
-    }
-    config.value(path)
-}
-
-/// The value of a leaf that is no key at a path: that of its row, which may be one of the first of these, or its default in use.
+/// The value of a leaf that is no key at a path: that of its row, or its default in use, whose guard's row may be the first of these.
 pub fn row_or_default<M: RowMap>(
     alloc: Global,
     schema: &Schema,
@@ -274,16 +291,16 @@ pub fn row_or_default<M: RowMap>(
     requires rows { AreRows (M.rows config.now) near.now }
     ensures { IfOk result (λ value. value ≡ row_or_default schema.now (M.rows config.now) path.now at) }
 {
-    match value_near(config, near, path, at) {
+    match config.value(path) {
         Some(value) => Ok(Some(value.copy()?)),
-        None => default_in_use(alloc, schema, config, grouped, path, at),
+        None => default_at(alloc, schema, config, grouped, near, path, at),
     }
 }
 
 // ---- the way down to a leaf
 
-// The nodes from the top down to a node.
-fn chain(alloc: Global, schema: &Schema, at: Option<usize>) -> Result<Vec<usize>, NoMemory>
+/// The nodes from the top down to a node.
+pub fn chain(alloc: Global, schema: &Schema, at: Option<usize>) -> Result<Vec<usize>, NoMemory>
     ensures { IfOk result (λ nodes. nodes.items ≡ place_spec.chain schema.now.nodes at) }
 {
     let Some(node) = at else {
@@ -295,8 +312,8 @@ fn chain(alloc: Global, schema: &Schema, at: Option<usize>) -> Result<Vec<usize>
     Ok(nodes)
 }
 
-// The numbers behind so many.
-fn behind(numbers: &[usize], count: usize) -> &[usize]
+/// The numbers behind so many.
+pub fn behind(numbers: &[usize], count: usize) -> &[usize]
     ensures { result.now ≡ drop count numbers.now }
 {
     if numbers.len() <= count {

@@ -57,190 +57,196 @@ fn check(rt: &impl Abort, alloc: Global, table: &[(&str, &str)]) -> Result<(), F
     Ok(())
 }
 
+// The same of a table that has a row in each line after the first, parted by ` => `.
+fn check_lines(rt: &impl Abort, alloc: Global, table: &str) -> Result<(), Fail> {
+    for row in table.lines().skip(1) {
+        let (text, expected) = row.split_once(" => ").ok_or("no row")?;
+        let found = outcome(alloc, text.as_bytes())?;
+        assert_eq!(rt; found.as_str(), expected, "{text}");
+    }
+    Ok(())
+}
+
 // White space and comments: worked out by hand from RFC 7950 section 6.
-const BLANKS: [(&str, &str); 30] = [
-    ("module m;", "0 module=[m]"),
-    ("  module m;", "2 module=[m]"),
+const BLANKS: &str = r#"
+module m; => 0 module=[m]
+  module m; => 2 module=[m]
+module m {} => 0 module=[m]
+module m{} => 0 module=[m]
+module m { } => 0 module=[m]
+/* c */module m; => 7 module=[m]
+module/**/m/**/;/**/ => 0 module=[m]
+/**/module m; => 4 module=[m]
+/***/module m; => 5 module=[m]
+/*/*/module m; => 5 module=[m]
+/* // */module m; => 8 module=[m]
+module m /* { */ { /* } */ } => 0 module=[m]
+module m; // end => 0 module=[m]
+module m; /* end */  => 0 module=[m]
+module m;// => 0 module=[m]
+/* => unclosed-comment 0
+/*/ => unclosed-comment 0
+module m; /* x => unclosed-comment 10
+module m { /* } => unclosed-comment 11
+module m { leaf x /*; => unclosed-comment 18
+// => not-module 0
+ => not-module 0
+/ => bad-keyword 0
+module m { / } => bad-keyword 11
+module m { */ } => bad-keyword 11
+"#;
+
+// The rows with line breaks that a line can't hold.
+const BLANKS_IN_LINES: [(&str, &str); 5] = [
     ("\t\r\nmodule\tm\r\n;\n", "3 module=[m]"),
-    ("module m {}", "0 module=[m]"),
-    ("module m{}", "0 module=[m]"),
-    ("module m { }", "0 module=[m]"),
     ("// c\nmodule m;", "5 module=[m]"),
-    ("/* c */module m;", "7 module=[m]"),
-    ("module/**/m/**/;/**/", "0 module=[m]"),
     ("module//c\nm//c\n;//c", "0 module=[m]"),
-    ("/**/module m;", "4 module=[m]"),
-    ("/***/module m;", "5 module=[m]"),
-    ("/*/*/module m;", "5 module=[m]"),
-    ("/* // */module m;", "8 module=[m]"),
     ("// /*\nmodule m;", "6 module=[m]"),
-    ("module m /* { */ { /* } */ }", "0 module=[m]"),
-    ("module m; // end", "0 module=[m]"),
-    ("module m; /* end */ ", "0 module=[m]"),
-    ("module m;//", "0 module=[m]"),
-    ("/*", "unclosed-comment 0"),
-    ("/*/", "unclosed-comment 0"),
-    ("module m; /* x", "unclosed-comment 10"),
-    ("module m { /* }", "unclosed-comment 11"),
-    ("module m { leaf x /*;", "unclosed-comment 18"),
-    ("//", "not-module 0"),
-    ("", "not-module 0"),
     (" \n", "not-module 0"),
-    ("/", "bad-keyword 0"),
-    ("module m { / }", "bad-keyword 11"),
-    ("module m { */ }", "bad-keyword 11"),
 ];
 
 // Keywords: worked out by hand from RFC 7950 section 6.
-const KEYWORDS: [(&str, &str); 46] = [
-    ("module m { a; }", "0 module=[m](11 a)"),
-    ("module m { _a-b.c9; }", "0 module=[m](11 _a-b.c9)"),
-    ("module m { x:a; }", "0 module=[m](11 x:a)"),
-    ("module m { x:a y; }", "0 module=[m](11 x:a=[y])"),
-    ("module m { A; Z9; }", "0 module=[m](11 A)(14 Z9)"),
-    ("module m { 9a; }", "bad-keyword 11"),
-    ("module m { -a; }", "bad-keyword 11"),
-    ("module m { .a; }", "bad-keyword 11"),
-    ("module m { $; }", "bad-keyword 11"),
-    ("module m { \"a\"; }", "bad-keyword 11"),
-    ("module m { 'a'; }", "bad-keyword 11"),
-    ("module m { ; }", "bad-token 11"),
-    ("module m { { } }", "bad-token 11"),
-    ("}", "bad-token 0"),
-    (";", "bad-token 0"),
-    ("{", "bad-token 0"),
-    ("module m { x: a; }", "bad-keyword 13"),
-    ("module m { x:1; }", "bad-keyword 13"),
-    ("module m { x:y:z; }", "bad-keyword 14"),
-    ("module m { x:; }", "bad-keyword 13"),
-    ("module m { :x; }", "bad-keyword 11"),
-    ("module m { a+b; }", "bad-keyword 12"),
-    ("module m { a/b; }", "bad-keyword 12"),
-    ("module m { a*b; }", "bad-keyword 12"),
-    ("module m { a$ b; }", "bad-keyword 12"),
-    ("module m { é; }", "bad-keyword 11"),
-    ("module m { aé; }", "bad-keyword 12"),
-    ("module m { a\"b\"; }", "0 module=[m](11 a=[b])"),
-    ("module m { a'b'; }", "0 module=[m](11 a=[b])"),
-    ("module m { a{} }", "0 module=[m](11 a)"),
-    ("module m { a} }", "bad-token 12"),
-    ("module m { a }", "bad-token 13"),
-    ("module m { a", "unclosed-brace 9"),
-    ("module m { x:", "unclosed-brace 9"),
-    ("modul m;", "not-module 0"),
-    (" modul m;", "not-module 0"),
-    ("x:module m;", "not-module 0"),
-    ("Module m;", "not-module 0"),
-    ("submodule m;", "not-module 0"),
-    ("module", "not-module 0"),
-    ("module m", "not-module 0"),
-    ("module\"", "unclosed-quote 6"),
-    ("modul$ m;", "bad-keyword 5"),
-    ("container c { a $ }", "not-module 0"),
-    ("module;", "0 module"),
-    ("module { }", "0 module"),
-];
+const KEYWORDS: &str = r#"
+module m { a; } => 0 module=[m](11 a)
+module m { _a-b.c9; } => 0 module=[m](11 _a-b.c9)
+module m { x:a; } => 0 module=[m](11 x:a)
+module m { x:a y; } => 0 module=[m](11 x:a=[y])
+module m { A; Z9; } => 0 module=[m](11 A)(14 Z9)
+module m { 9a; } => bad-keyword 11
+module m { -a; } => bad-keyword 11
+module m { .a; } => bad-keyword 11
+module m { $; } => bad-keyword 11
+module m { "a"; } => bad-keyword 11
+module m { 'a'; } => bad-keyword 11
+module m { ; } => bad-token 11
+module m { { } } => bad-token 11
+} => bad-token 0
+; => bad-token 0
+{ => bad-token 0
+module m { x: a; } => bad-keyword 13
+module m { x:1; } => bad-keyword 13
+module m { x:y:z; } => bad-keyword 14
+module m { x:; } => bad-keyword 13
+module m { :x; } => bad-keyword 11
+module m { a+b; } => bad-keyword 12
+module m { a/b; } => bad-keyword 12
+module m { a*b; } => bad-keyword 12
+module m { a$ b; } => bad-keyword 12
+module m { é; } => bad-keyword 11
+module m { aé; } => bad-keyword 12
+module m { a"b"; } => 0 module=[m](11 a=[b])
+module m { a'b'; } => 0 module=[m](11 a=[b])
+module m { a{} } => 0 module=[m](11 a)
+module m { a} } => bad-token 12
+module m { a } => bad-token 13
+module m { a => unclosed-brace 9
+module m { x: => unclosed-brace 9
+modul m; => not-module 0
+ modul m; => not-module 0
+x:module m; => not-module 0
+Module m; => not-module 0
+submodule m; => not-module 0
+module => not-module 0
+module m => not-module 0
+module" => unclosed-quote 6
+modul$ m; => bad-keyword 5
+container c { a $ } => not-module 0
+module; => 0 module
+module { } => 0 module
+"#;
 
 // Arguments without quotes: worked out by hand from RFC 7950 section 6.
-const WORDS: [(&str, &str); 22] = [
-    ("module m { a b; }", "0 module=[m](11 a=[b])"),
-    ("module m { a +; }", "0 module=[m](11 a=[+])"),
-    ("module m { a b+c; }", "0 module=[m](11 a=[b+c])"),
-    ("module m { a /b/c; }", "0 module=[m](11 a=[/b/c])"),
-    ("module m { a b/ ; }", "0 module=[m](11 a=[b/])"),
-    ("module m { a b*c; }", "0 module=[m](11 a=[b*c])"),
-    ("module m { a 1..4|7; }", "0 module=[m](11 a=[1..4|7])"),
-    ("module m { a b//c\n; }", "0 module=[m](11 a=[b])"),
-    ("module m { a b/*c*/; }", "0 module=[m](11 a=[b])"),
-    ("module m { a b*/; }", "bad-token 14"),
-    ("module m { a */; }", "bad-token 13"),
-    ("module m { a b'c'; }", "bad-token 14"),
-    ("module m { a b\"c\"; }", "bad-token 14"),
-    ("module m { a b c; }", "bad-token 15"),
-    ("module m { a b + \"c\"; }", "bad-token 15"),
-    ("module m { a b}", "bad-token 14"),
-    ("module m { a é; }", "0 module=[m](11 a=[é])"),
-    ("module m { a b\\n; }", "0 module=[m](11 a=[b\\n])"),
-    ("module m { a b{ c; } }", "0 module=[m](11 a=[b](16 c))"),
-    ("module m { a b /; }", "bad-token 15"),
-    ("module m { a }; }", "bad-token 13"),
-    ("module m { a /", "unclosed-brace 9"),
-];
+const WORDS: &str = r#"
+module m { a b; } => 0 module=[m](11 a=[b])
+module m { a +; } => 0 module=[m](11 a=[+])
+module m { a b+c; } => 0 module=[m](11 a=[b+c])
+module m { a /b/c; } => 0 module=[m](11 a=[/b/c])
+module m { a b/ ; } => 0 module=[m](11 a=[b/])
+module m { a b*c; } => 0 module=[m](11 a=[b*c])
+module m { a 1..4|7; } => 0 module=[m](11 a=[1..4|7])
+module m { a b/*c*/; } => 0 module=[m](11 a=[b])
+module m { a b*/; } => bad-token 14
+module m { a */; } => bad-token 13
+module m { a b'c'; } => bad-token 14
+module m { a b"c"; } => bad-token 14
+module m { a b c; } => bad-token 15
+module m { a b + "c"; } => bad-token 15
+module m { a b} => bad-token 14
+module m { a é; } => 0 module=[m](11 a=[é])
+module m { a b\n; } => 0 module=[m](11 a=[b\n])
+module m { a b{ c; } } => 0 module=[m](11 a=[b](16 c))
+module m { a b /; } => bad-token 15
+module m { a }; } => bad-token 13
+module m { a / => unclosed-brace 9
+"#;
+
+// The rows with line breaks that a line can't hold.
+const WORDS_IN_LINES: [(&str, &str); 1] = [("module m { a b//c\n; }", "0 module=[m](11 a=[b])")];
 
 // Quoted arguments: worked out by hand from RFC 7950 section 6.
-const QUOTES: [(&str, &str); 26] = [
-    ("module m { a 'b'; }", "0 module=[m](11 a=[b])"),
-    ("module m { a 'b\\n\"'; }", "0 module=[m](11 a=[b\\n\"])"),
+const QUOTES: &str = r#"
+module m { a 'b'; } => 0 module=[m](11 a=[b])
+module m { a 'b\n"'; } => 0 module=[m](11 a=[b\n"])
+module m { a ''; } => 0 module=[m](11 a=[])
+module m { a ""; } => 0 module=[m](11 a=[])
+module m { a 'b' + 'c'; } => 0 module=[m](11 a=[bc])
+module m { a 'b'+"c"+'d'; } => 0 module=[m](11 a=[bcd])
+module m { a 'b' 'c'; } => bad-token 17
+module m { a 'b'c; } => bad-token 16
+module m { a 'b' + c; } => bad-token 19
+module m { a 'b' + ; } => bad-token 19
+module m { a 'b' + => unclosed-brace 9
+module m { a 'b' + + 'c'; } => bad-token 19
+module m { a 'b => unclosed-quote 13
+module m { a "b => unclosed-quote 13
+module m { a 'b' + "c => unclosed-quote 19
+module m { prefix "p => unclosed-quote 18
+module m { a '''; } => bad-token 15
+module m { a """"; } => bad-token 15
+module m { a "b'c"; } => 0 module=[m](11 a=[b'c])
+module m { a '//'; } => 0 module=[m](11 a=[//])
+module m { a "/*"; } => 0 module=[m](11 a=[/*])
+module m { a '{;}'; } => 0 module=[m](11 a=[{;}])
+module m { a "b\ => unclosed-quote 13
+module m { a "b\" => unclosed-quote 13
+"#;
+
+// The rows with line breaks that a line can't hold.
+const QUOTES_IN_LINES: [(&str, &str); 2] = [
     ("module m { a 'b\n  c'; }", "0 module=[m](11 a=[b\n  c])"),
-    ("module m { a ''; }", "0 module=[m](11 a=[])"),
-    ("module m { a \"\"; }", "0 module=[m](11 a=[])"),
-    ("module m { a 'b' + 'c'; }", "0 module=[m](11 a=[bc])"),
-    ("module m { a 'b'+\"c\"+'d'; }", "0 module=[m](11 a=[bcd])"),
     (
         "module m { a 'b' /*x*/ + //y\n 'c'; }",
         "0 module=[m](11 a=[bc])",
     ),
-    ("module m { a 'b' 'c'; }", "bad-token 17"),
-    ("module m { a 'b'c; }", "bad-token 16"),
-    ("module m { a 'b' + c; }", "bad-token 19"),
-    ("module m { a 'b' + ; }", "bad-token 19"),
-    ("module m { a 'b' +", "unclosed-brace 9"),
-    ("module m { a 'b' + + 'c'; }", "bad-token 19"),
-    ("module m { a 'b", "unclosed-quote 13"),
-    ("module m { a \"b", "unclosed-quote 13"),
-    ("module m { a 'b' + \"c", "unclosed-quote 19"),
-    ("module m { prefix \"p", "unclosed-quote 18"),
-    ("module m { a '''; }", "bad-token 15"),
-    ("module m { a \"\"\"\"; }", "bad-token 15"),
-    ("module m { a \"b'c\"; }", "0 module=[m](11 a=[b'c])"),
-    ("module m { a '//'; }", "0 module=[m](11 a=[//])"),
-    ("module m { a \"/*\"; }", "0 module=[m](11 a=[/*])"),
-    ("module m { a '{;}'; }", "0 module=[m](11 a=[{;}])"),
-    ("module m { a \"b\\", "unclosed-quote 13"),
-    ("module m { a \"b\\\"", "unclosed-quote 13"),
 ];
 
 // Escapes in both versions: worked out by hand from RFC 7950 section 6.
-const ESCAPES: [(&str, &str); 13] = [
+const ESCAPES: &str = r#"
+module m { a "b\qc"; } => 0 module=[m](11 a=[b\qc])
+module m { yang-version 1; a "\q"; } => 0 module=[m](11 yang-version=[1])(27 a=[\q])
+module m { yang-version 1.1; a "\q"; } => bad-escape 32
+module m { a "\q"; yang-version 1.1; } => bad-escape 14
+module m { a "\q"; yang-version "1." + '1'; } => bad-escape 14
+module m { b { yang-version 1.1; } a "\q"; } => 0 module=[m](11 b(15 yang-version=[1.1]))(35 a=[\q])
+module m { yang-version 1.1; a '\q'; } => 0 module=[m](11 yang-version=[1.1])(29 a=[\q])
+module m { yang-version 1.1; a "\q" $ => bad-escape 32
+module m { a "\q"; $ yang-version 1.1; } => bad-keyword 19
+module m { a "\q"; yang-version 1.1; $ } => bad-escape 14
+"#;
+
+// The rows with line breaks that a line can't hold.
+const ESCAPES_IN_LINES: [(&str, &str); 3] = [
     (
-        "module m { description 'a' + \"b\\n\" + 'c'; }",
+        r#"module m { description 'a' + "b\n" + 'c'; }"#,
         "0 module=[m](11 description=[ab\nc])",
     ),
     (
-        "module m { a \"\\n\\t\\\"\\\\\"; }",
+        r#"module m { a "\n\t\"\\"; }"#,
         "0 module=[m](11 a=[\n\t\"\\])",
     ),
-    ("module m { a \"b\\qc\"; }", "0 module=[m](11 a=[b\\qc])"),
     (
-        "module m { yang-version 1; a \"\\q\"; }",
-        "0 module=[m](11 yang-version=[1])(27 a=[\\q])",
-    ),
-    ("module m { yang-version 1.1; a \"\\q\"; }", "bad-escape 32"),
-    ("module m { a \"\\q\"; yang-version 1.1; }", "bad-escape 14"),
-    (
-        "module m { a \"\\q\"; yang-version \"1.\" + '1'; }",
-        "bad-escape 14",
-    ),
-    (
-        "module m { b { yang-version 1.1; } a \"\\q\"; }",
-        "0 module=[m](11 b(15 yang-version=[1.1]))(35 a=[\\q])",
-    ),
-    (
-        "module m { yang-version 1.1; a \"\\n\\\\\"; }",
+        r#"module m { yang-version 1.1; a "\n\\"; }"#,
         "0 module=[m](11 yang-version=[1.1])(29 a=[\n\\])",
-    ),
-    (
-        "module m { yang-version 1.1; a '\\q'; }",
-        "0 module=[m](11 yang-version=[1.1])(29 a=[\\q])",
-    ),
-    ("module m { yang-version 1.1; a \"\\q\" $", "bad-escape 32"),
-    (
-        "module m { a \"\\q\"; $ yang-version 1.1; }",
-        "bad-keyword 19",
-    ),
-    (
-        "module m { a \"\\q\"; yang-version 1.1; $ }",
-        "bad-escape 14",
     ),
 ];
 
@@ -343,11 +349,15 @@ const WRITTEN: [(&str, &str); 4] = [
 
 #[test]
 fn reads_texts(rt: HostRuntime) -> Result<(), Fail> {
-    check(&rt, rt.alloc(), &BLANKS)?;
-    check(&rt, rt.alloc(), &KEYWORDS)?;
-    check(&rt, rt.alloc(), &WORDS)?;
-    check(&rt, rt.alloc(), &QUOTES)?;
-    check(&rt, rt.alloc(), &ESCAPES)?;
+    check_lines(&rt, rt.alloc(), BLANKS)?;
+    check(&rt, rt.alloc(), &BLANKS_IN_LINES)?;
+    check_lines(&rt, rt.alloc(), KEYWORDS)?;
+    check_lines(&rt, rt.alloc(), WORDS)?;
+    check(&rt, rt.alloc(), &WORDS_IN_LINES)?;
+    check_lines(&rt, rt.alloc(), QUOTES)?;
+    check(&rt, rt.alloc(), &QUOTES_IN_LINES)?;
+    check_lines(&rt, rt.alloc(), ESCAPES)?;
+    check(&rt, rt.alloc(), &ESCAPES_IN_LINES)?;
     check(&rt, rt.alloc(), &LINES)?;
     check(&rt, rt.alloc(), &STATEMENTS)
 }

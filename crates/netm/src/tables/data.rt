@@ -1,6 +1,6 @@
 //! YANG data that is replayed: change sets and operators' edits (RFC 6241 section 7.2, RFC 7950 section 8).
 
-use super::{Frame, Row, all_answer};
+use super::{Frame, Row, each_answers};
 use std::test::Fail;
 
 static DATA: Frame = Frame {
@@ -113,10 +113,10 @@ static EDITS: [Row; 5] = [
 
 #[test]
 fn choices_are_replayed(rt: HostRuntime) -> Result<(), Fail> {
-    all_answer(rt.alloc(), &CHOICE, &EDITS)
+    each_answers(rt.alloc(), &CHOICE, &EDITS)
 }
 
 #[test]
 fn data_is_replayed(rt: HostRuntime) -> Result<(), Fail> {
-    all_answer(rt.alloc(), &DATA, &RUNS)
+    each_answers(rt.alloc(), &DATA, &RUNS)
 }

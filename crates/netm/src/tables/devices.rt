@@ -1,6 +1,6 @@
 //! The devices of flat contents, and the cells of their running configurations.
 
-use super::{Frame, Row, all_answer};
+use super::{Frame, Row, all_answer, each_answers};
 use std::test::Fail;
 
 static DEVICES: Frame = Frame {
@@ -11,128 +11,47 @@ static DEVICES: Frame = Frame {
     tail: "\nchanges 0 operators 0 events 0\n",
 };
 
-static FORMS: [Row; 28] = [
-    Row("none", "[]", "scenario bad-value /devices"),
-    Row("null", "null", "scenario bad-value /devices"),
-    Row("an object", "{}", "scenario bad-value /devices"),
-    Row(
-        "a device alone",
-        r#"{"running":{}}"#,
-        "scenario bad-value /devices",
-    ),
-    Row("a number", "1", "scenario bad-value /devices"),
-    Row(
-        "a device that is a number",
-        "[7]",
-        "scenario bad-value /devices/0",
-    ),
-    Row(
-        "a device that is null",
-        "[null]",
-        "scenario bad-value /devices/0",
-    ),
-    Row(
-        "a device that is a list",
-        "[[]]",
-        "scenario bad-value /devices/0",
-    ),
-    Row("no running", "[{}]", "scenario missing /devices/0/running"),
-    Row(
-        "no running and another",
-        r#"[{"a":1}]"#,
-        "scenario missing /devices/0/running",
-    ),
-    Row(
-        "another case",
-        r#"[{"Running":{}}]"#,
-        "scenario missing /devices/0/running",
-    ),
-    Row("one device", r#"[{"running":{"7":1}}]"#, "device 1 rows 1"),
-    Row(
-        "two devices",
-        r#"[{"running":{"7":1}},{"running":{"7":1,"8":2}}]"#,
-        "device 1 rows 1\ndevice 2 rows 2",
-    ),
-    Row(
-        "another member",
-        r#"[{"running":{},"x":1}]"#,
-        "scenario unknown /devices/0/x",
-    ),
-    Row(
-        "two other members",
-        r#"[{"running":{},"y":1,"x":1}]"#,
-        "scenario unknown /devices/0/x",
-    ),
-    Row(
-        "others of the second",
-        r#"[{"running":{}},{"running":{},"x":1}]"#,
-        "scenario unknown /devices/1/x",
-    ),
-    Row(
-        "others before the second",
-        r#"[{"running":{},"x":1},{"running":7}]"#,
-        "scenario unknown /devices/0/x",
-    ),
-    Row(
-        "others before a bad device",
-        r#"[{"running":{},"x":1},7]"#,
-        "scenario unknown /devices/0/x",
-    ),
-    Row(
-        "content before others",
-        r#"[{"running":7,"x":1}]"#,
-        "scenario content /devices/0/running",
-    ),
-    Row(
-        "invalid before others",
-        r#"[{"running":{"7":1000001},"x":1}]"#,
-        "scenario invalid /devices/0/running",
-    ),
-    Row(
-        "invalid before the second",
-        r#"[{"running":{"7":1000001}},{}]"#,
-        "scenario invalid /devices/0/running",
-    ),
-    Row(
-        "the second without running",
-        r#"[{"running":{}},{}]"#,
-        "scenario missing /devices/1/running",
-    ),
-    Row(
-        "the second bad",
-        r#"[{"running":{}},7]"#,
-        "scenario bad-value /devices/1",
-    ),
-    Row(
-        "the second unread",
-        r#"[{"running":{}},{"running":{"x":1}}]"#,
-        "scenario content /devices/1/running",
-    ),
-    Row(
-        "the second invalid",
-        r#"[{"running":{}},{"running":{"7":1000001}}]"#,
-        "scenario invalid /devices/1/running",
-    ),
-    Row(
-        "the last running stands",
-        r#"[{"running":7,"running":{}}]"#,
-        "device 1 rows 0",
-    ),
-    Row(
-        "the last running is bad",
-        r#"[{"running":{},"running":7}]"#,
-        "scenario content /devices/0/running",
-    ),
-    Row(
-        "an escaped name",
-        r#"[{"\u0072unning":{}}]"#,
-        "device 1 rows 0",
-    ),
-];
+static FORMS: &str = r#"
+none => [] => scenario bad-value /devices
+null => null => scenario bad-value /devices
+an object => {} => scenario bad-value /devices
+a device alone => {"running":{}} => scenario bad-value /devices
+a number => 1 => scenario bad-value /devices
+a device that is a number => [7] => scenario bad-value /devices/0
+a device that is null => [null] => scenario bad-value /devices/0
+a device that is a list => [[]] => scenario bad-value /devices/0
+no running => [{}] => scenario missing /devices/0/running
+no running and another => [{"a":1}] => scenario missing /devices/0/running
+another case => [{"Running":{}}] => scenario missing /devices/0/running
+one device => [{"running":{"7":1}}] => device 1 rows 1
+another member => [{"running":{},"x":1}] => scenario unknown /devices/0/x
+two other members => [{"running":{},"y":1,"x":1}] => scenario unknown /devices/0/x
+others of the second => [{"running":{}},{"running":{},"x":1}] => scenario unknown /devices/1/x
+others before the second => [{"running":{},"x":1},{"running":7}] => scenario unknown /devices/0/x
+others before a bad device => [{"running":{},"x":1},7] => scenario unknown /devices/0/x
+content before others => [{"running":7,"x":1}] => scenario content /devices/0/running
+invalid before others => [{"running":{"7":1000001},"x":1}] => scenario invalid /devices/0/running
+invalid before the second => [{"running":{"7":1000001}},{}] => scenario invalid /devices/0/running
+the second without running => [{"running":{}},{}] => scenario missing /devices/1/running
+the second bad => [{"running":{}},7] => scenario bad-value /devices/1
+the second unread => [{"running":{}},{"running":{"x":1}}] => scenario content /devices/1/running
+the second invalid => [{"running":{}},{"running":{"7":1000001}}] => scenario invalid /devices/1/running
+the last running stands => [{"running":7,"running":{}}] => device 1 rows 0
+the last running is bad => [{"running":{},"running":7}] => scenario content /devices/0/running
+an escaped name => [{"\u0072unning":{}}] => device 1 rows 0
+"#;
+
+// The rows with line breaks and blanks that a line can't hold.
+static FORMS_IN_LINES: [Row; 1] = [Row(
+    "two devices",
+    r#"[{"running":{"7":1}},{"running":{"7":1,"8":2}}]"#,
+    "device 1 rows 1\ndevice 2 rows 2",
+)];
 
 #[test]
 fn forms(rt: HostRuntime) -> Result<(), Fail> {
-    all_answer(rt.alloc(), &DEVICES, &FORMS)
+    all_answer(rt.alloc(), &DEVICES, FORMS)?;
+    each_answers(rt.alloc(), &DEVICES, &FORMS_IN_LINES)
 }
 
 static RUNNING: Frame = Frame {
@@ -143,186 +62,50 @@ static RUNNING: Frame = Frame {
     tail: "\nchanges 0 operators 0 events 0\n",
 };
 
-static CELLS: [Row; 40] = [
-    Row("no cells", "{}", "0"),
-    Row("the least cell", r#"{"0":0}"#, "1"),
-    Row("the greatest cell", r#"{"4294967295":1000000}"#, "1"),
-    Row("three cells", r#"{"9":1,"10":1,"8":1}"#, "3"),
-    Row(
-        "a key above",
-        r#"{"4294967296":1}"#,
-        "scenario content /devices/0/running",
-    ),
-    Row(
-        "a key of 20 digits",
-        r#"{"18446744073709551623":1}"#,
-        "scenario content /devices/0/running",
-    ),
-    Row(
-        "a key with zeros",
-        r#"{"007":1}"#,
-        "scenario content /devices/0/running",
-    ),
-    Row(
-        "a key of two zeros",
-        r#"{"00":1}"#,
-        "scenario content /devices/0/running",
-    ),
-    Row(
-        "a key with a plus",
-        r#"{"+7":1}"#,
-        "scenario content /devices/0/running",
-    ),
-    Row(
-        "a key with a minus",
-        r#"{"-7":1}"#,
-        "scenario content /devices/0/running",
-    ),
-    Row(
-        "minus zero",
-        r#"{"-0":1}"#,
-        "scenario content /devices/0/running",
-    ),
-    Row(
-        "an empty key",
-        r#"{"":1}"#,
-        "scenario content /devices/0/running",
-    ),
-    Row(
-        "a blank before",
-        r#"{" 7":1}"#,
-        "scenario content /devices/0/running",
-    ),
-    Row(
-        "a blank after",
-        r#"{"7 ":1}"#,
-        "scenario content /devices/0/running",
-    ),
-    Row(
-        "a key with a point",
-        r#"{"7.0":1}"#,
-        "scenario content /devices/0/running",
-    ),
-    Row(
-        "a key with an exponent",
-        r#"{"7e0":1}"#,
-        "scenario content /devices/0/running",
-    ),
-    Row(
-        "a key in hexadecimal",
-        r#"{"0x7":1}"#,
-        "scenario content /devices/0/running",
-    ),
-    Row(
-        "a wide digit",
-        r#"{"７":1}"#,
-        "scenario content /devices/0/running",
-    ),
-    Row(
-        "marks",
-        r#"{"marks":[]}"#,
-        "scenario content /devices/0/running",
-    ),
-    Row(
-        "one bad key of two",
-        r#"{"7":1,"x":1}"#,
-        "scenario content /devices/0/running",
-    ),
-    Row(
-        "invalid",
-        r#"{"7":1000001}"#,
-        "scenario invalid /devices/0/running",
-    ),
-    Row(
-        "the greatest number",
-        r#"{"7":18446744073709551615}"#,
-        "scenario invalid /devices/0/running",
-    ),
-    Row(
-        "a number above",
-        r#"{"7":18446744073709551616}"#,
-        "scenario content /devices/0/running",
-    ),
-    Row(
-        "minus one",
-        r#"{"7":-1}"#,
-        "scenario content /devices/0/running",
-    ),
-    Row(
-        "minus zero as a value",
-        r#"{"7":-0}"#,
-        "scenario content /devices/0/running",
-    ),
-    Row(
-        "a fraction",
-        r#"{"7":1.5}"#,
-        "scenario content /devices/0/running",
-    ),
-    Row(
-        "a fraction of zero",
-        r#"{"7":1.0}"#,
-        "scenario content /devices/0/running",
-    ),
-    Row(
-        "an exponent",
-        r#"{"7":1e2}"#,
-        "scenario content /devices/0/running",
-    ),
-    Row(
-        "null",
-        r#"{"7":null}"#,
-        "scenario content /devices/0/running",
-    ),
-    Row(
-        "a text",
-        r#"{"7":"1"}"#,
-        "scenario content /devices/0/running",
-    ),
-    Row(
-        "true",
-        r#"{"7":true}"#,
-        "scenario content /devices/0/running",
-    ),
-    Row(
-        "a list",
-        r#"{"7":[1]}"#,
-        "scenario content /devices/0/running",
-    ),
-    Row(
-        "an object",
-        r#"{"7":{}}"#,
-        "scenario content /devices/0/running",
-    ),
-    Row(
-        "content before invalid",
-        r#"{"7":1000001,"x":1}"#,
-        "scenario content /devices/0/running",
-    ),
-    Row("the last value stands", r#"{"7":"x","7":1}"#, "1"),
-    Row(
-        "the last value is invalid",
-        r#"{"7":1,"7":1000001}"#,
-        "scenario invalid /devices/0/running",
-    ),
-    Row("an escaped key", r#"{"7":1000001,"\u0037":1}"#, "1"),
-    Row(
-        "a list of cells",
-        r#"[{"7":1}]"#,
-        "scenario content /devices/0/running",
-    ),
-    Row(
-        "running null",
-        "null",
-        "scenario content /devices/0/running",
-    ),
-    Row(
-        "running a text",
-        r#""{}""#,
-        "scenario content /devices/0/running",
-    ),
-];
+static CELLS: &str = r#"
+no cells => {} => 0
+the least cell => {"0":0} => 1
+the greatest cell => {"4294967295":1000000} => 1
+three cells => {"9":1,"10":1,"8":1} => 3
+a key above => {"4294967296":1} => scenario content /devices/0/running
+a key of 20 digits => {"18446744073709551623":1} => scenario content /devices/0/running
+a key with zeros => {"007":1} => scenario content /devices/0/running
+a key of two zeros => {"00":1} => scenario content /devices/0/running
+a key with a plus => {"+7":1} => scenario content /devices/0/running
+a key with a minus => {"-7":1} => scenario content /devices/0/running
+minus zero => {"-0":1} => scenario content /devices/0/running
+an empty key => {"":1} => scenario content /devices/0/running
+a blank before => {" 7":1} => scenario content /devices/0/running
+a blank after => {"7 ":1} => scenario content /devices/0/running
+a key with a point => {"7.0":1} => scenario content /devices/0/running
+a key with an exponent => {"7e0":1} => scenario content /devices/0/running
+a key in hexadecimal => {"0x7":1} => scenario content /devices/0/running
+a wide digit => {"７":1} => scenario content /devices/0/running
+marks => {"marks":[]} => scenario content /devices/0/running
+one bad key of two => {"7":1,"x":1} => scenario content /devices/0/running
+invalid => {"7":1000001} => scenario invalid /devices/0/running
+the greatest number => {"7":18446744073709551615} => scenario invalid /devices/0/running
+a number above => {"7":18446744073709551616} => scenario content /devices/0/running
+minus one => {"7":-1} => scenario content /devices/0/running
+minus zero as a value => {"7":-0} => scenario content /devices/0/running
+a fraction => {"7":1.5} => scenario content /devices/0/running
+a fraction of zero => {"7":1.0} => scenario content /devices/0/running
+an exponent => {"7":1e2} => scenario content /devices/0/running
+null => {"7":null} => scenario content /devices/0/running
+a text => {"7":"1"} => scenario content /devices/0/running
+true => {"7":true} => scenario content /devices/0/running
+a list => {"7":[1]} => scenario content /devices/0/running
+an object => {"7":{}} => scenario content /devices/0/running
+content before invalid => {"7":1000001,"x":1} => scenario content /devices/0/running
+the last value stands => {"7":"x","7":1} => 1
+the last value is invalid => {"7":1,"7":1000001} => scenario invalid /devices/0/running
+an escaped key => {"7":1000001,"\u0037":1} => 1
+a list of cells => [{"7":1}] => scenario content /devices/0/running
+running null => null => scenario content /devices/0/running
+running a text => "{}" => scenario content /devices/0/running
+"#;
 
 #[test]
 fn cells(rt: HostRuntime) -> Result<(), Fail> {
-    all_answer(rt.alloc(), &RUNNING, &CELLS)
+    all_answer(rt.alloc(), &RUNNING, CELLS)
 }

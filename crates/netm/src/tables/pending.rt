@@ -1,6 +1,6 @@
 //! Runs of operators whose commits are pending, and of partial locks. The lines are worked out by hand from docs/FORMATS.md.
 
-use super::{Frame, Row, all_answer};
+use super::{Frame, Row, each_answers};
 use std::test::Fail;
 
 static RUNS: Frame = Frame {
@@ -42,5 +42,5 @@ static PENDING: [Row; 5] = [
 
 #[test]
 fn pending_commits(rt: HostRuntime) -> Result<(), Fail> {
-    all_answer(rt.alloc(), &RUNS, &PENDING)
+    each_answers(rt.alloc(), &RUNS, &PENDING)
 }

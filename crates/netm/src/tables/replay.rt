@@ -1,6 +1,6 @@
 //! Scenarios that are run: the faults that `replay` tells, and what is written of one device.
 
-use super::{Frame, Row, all_answer};
+use super::{Frame, Row, all_answer, each_answers};
 use std::test::Fail;
 
 static WHOLE: Frame = Frame {
@@ -11,69 +11,33 @@ static WHOLE: Frame = Frame {
     tail: "differ none\nunsettled none\n",
 };
 
-static WHOLES: [Row; 16] = [
-    Row("nothing", "", "scenario not-json /"),
-    Row("a list", "[]", "scenario bad-value /"),
-    Row("an object", "{}", "scenario missing /netm"),
-    Row(
-        "version 2",
-        r#"{"netm":2,"contents":"yang"}"#,
-        "scenario bad-value /netm",
-    ),
-    Row(
-        "no contents",
-        r#"{"netm":1,"modules":["x"]}"#,
-        "scenario missing /contents",
-    ),
-    Row(
-        "other contents",
-        r#"{"netm":1,"contents":"text"}"#,
-        "scenario bad-value /contents",
-    ),
+static WHOLES: &str = r#"
+nothing =>  => scenario not-json /
+a list => [] => scenario bad-value /
+an object => {} => scenario missing /netm
+version 2 => {"netm":2,"contents":"yang"} => scenario bad-value /netm
+no contents => {"netm":1,"modules":["x"]} => scenario missing /contents
+other contents => {"netm":1,"contents":"text"} => scenario bad-value /contents
+YANG contents without devices => {"netm":1,"contents":"yang"} => scenario missing /devices
+YANG contents with bad modules => {"netm":1,"contents":"yang","modules":["x",7]} => scenario yang /modules/0
+YANG contents with others => {"a":1,"netm":1,"contents":"yang"} => scenario missing /devices
+no devices => {"netm":1,"contents":"flat"} => scenario missing /devices
+a device without running => {"netm":1,"contents":"flat","devices":[{}]} => scenario missing /devices/0/running
+a module => {"netm":1,"contents":"flat","modules":["x"],"devices":[]} => scenario bad-value /modules
+another member => {"netm":1,"contents":"flat","devices":[{"running":{}}],"a/b":1} => scenario unknown /a~1b
+"#;
+
+// The rows with line breaks and blanks that a line can't hold.
+static WHOLES_IN_LINES: [Row; 3] = [
     Row(
         "YANG contents",
         r#"{"netm":1,"contents":"yang","devices":[{"running":{}}]}"#,
         "running 1 {}\n",
     ),
     Row(
-        "YANG contents without devices",
-        r#"{"netm":1,"contents":"yang"}"#,
-        "scenario missing /devices",
-    ),
-    Row(
-        "YANG contents with bad modules",
-        r#"{"netm":1,"contents":"yang","modules":["x",7]}"#,
-        "scenario yang /modules/0",
-    ),
-    Row(
-        "YANG contents with others",
-        r#"{"a":1,"netm":1,"contents":"yang"}"#,
-        "scenario missing /devices",
-    ),
-    Row(
-        "no devices",
-        r#"{"netm":1,"contents":"flat"}"#,
-        "scenario missing /devices",
-    ),
-    Row(
-        "a device without running",
-        r#"{"netm":1,"contents":"flat","devices":[{}]}"#,
-        "scenario missing /devices/0/running",
-    ),
-    Row(
-        "a module",
-        r#"{"netm":1,"contents":"flat","modules":["x"],"devices":[]}"#,
-        "scenario bad-value /modules",
-    ),
-    Row(
         "drain",
         r#"{"netm":1,"contents":"flat","devices":[{"running":{}}],"drain":true}"#,
         "running 1 {\"marks\":[]}\n",
-    ),
-    Row(
-        "another member",
-        r#"{"netm":1,"contents":"flat","devices":[{"running":{}}],"a/b":1}"#,
-        "scenario unknown /a~1b",
     ),
     Row(
         "two devices",
@@ -84,7 +48,8 @@ static WHOLES: [Row; 16] = [
 
 #[test]
 fn wholes(rt: HostRuntime) -> Result<(), Fail> {
-    all_answer(rt.alloc(), &WHOLE, &WHOLES)
+    all_answer(rt.alloc(), &WHOLE, WHOLES)?;
+    each_answers(rt.alloc(), &WHOLE, &WHOLES_IN_LINES)
 }
 
 static RUNNING: Frame = Frame {
@@ -96,45 +61,24 @@ static RUNNING: Frame = Frame {
 };
 
 // Cells are written with ascending numbers, and last the marks.
-static CELLS: [Row; 9] = [
-    Row("no cells", "{}", r#"{"marks":[]}"#),
-    Row("one cell", r#"{"7":1}"#, r#"{"7":1,"marks":[]}"#),
-    Row(
-        "numbers ascend",
-        r#"{"10":1,"9":2,"4294967295":3,"0":4}"#,
-        r#"{"0":4,"9":2,"10":1,"4294967295":3,"marks":[]}"#,
-    ),
-    Row(
-        "the greatest value",
-        r#"{"7":1000000}"#,
-        r#"{"7":1000000,"marks":[]}"#,
-    ),
-    Row(
-        "the last value stands",
-        r#"{"7":1,"7":0}"#,
-        r#"{"7":0,"marks":[]}"#,
-    ),
-    Row("blanks", "{ \"7\" :\n1\t}", r#"{"7":1,"marks":[]}"#),
-    Row(
-        "a value above",
-        r#"{"7":1000001}"#,
-        "scenario invalid /devices/0/running",
-    ),
-    Row(
-        "a key with zeros",
-        r#"{"07":1}"#,
-        "scenario content /devices/0/running",
-    ),
-    Row(
-        "marks",
-        r#"{"7":1,"marks":[]}"#,
-        "scenario content /devices/0/running",
-    ),
-];
+static CELLS: &str = r#"
+no cells => {} => {"marks":[]}
+one cell => {"7":1} => {"7":1,"marks":[]}
+numbers ascend => {"10":1,"9":2,"4294967295":3,"0":4} => {"0":4,"9":2,"10":1,"4294967295":3,"marks":[]}
+the greatest value => {"7":1000000} => {"7":1000000,"marks":[]}
+the last value stands => {"7":1,"7":0} => {"7":0,"marks":[]}
+a value above => {"7":1000001} => scenario invalid /devices/0/running
+a key with zeros => {"07":1} => scenario content /devices/0/running
+marks => {"7":1,"marks":[]} => scenario content /devices/0/running
+"#;
+
+// The rows with line breaks and blanks that a line can't hold.
+static CELLS_IN_LINES: [Row; 1] = [Row("blanks", "{ \"7\" :\n1\t}", r#"{"7":1,"marks":[]}"#)];
 
 #[test]
 fn cells(rt: HostRuntime) -> Result<(), Fail> {
-    all_answer(rt.alloc(), &RUNNING, &CELLS)
+    all_answer(rt.alloc(), &RUNNING, CELLS)?;
+    each_answers(rt.alloc(), &RUNNING, &CELLS_IN_LINES)
 }
 
 static SECOND: Frame = Frame {
@@ -146,80 +90,32 @@ static SECOND: Frame = Frame {
 };
 
 // What comes of the second event, after the operator alice opened a session.
-static REPLIES: [Row; 20] = [
-    Row(
-        "lock running",
-        r#"["foreign",1,1,["lock","running"]]"#,
-        "reply ok",
-    ),
-    Row(
-        "lock candidate",
-        r#"["foreign",1,1,["lock","candidate"]]"#,
-        "reply ok",
-    ),
-    Row(
-        "unlock running",
-        r#"["foreign",1,1,["unlock","running"]]"#,
-        "reply error operation-failed",
-    ),
-    Row(
-        "unlock candidate",
-        r#"["foreign",1,1,["unlock","candidate"]]"#,
-        "reply error operation-failed",
-    ),
-    Row(
-        "edit",
-        r#"["foreign",1,1,["edit",{"edit":{"7":2}}]]"#,
-        "reply ok",
-    ),
-    Row(
-        "an edit that isn't valid",
-        r#"["foreign",1,1,["edit",{"edit":{"7":1000001}}]]"#,
-        "reply ok",
-    ),
-    Row("validate", r#"["foreign",1,1,["validate"]]"#, "reply ok"),
-    Row("commit", r#"["foreign",1,1,["commit"]]"#, "reply ok"),
-    Row("discard", r#"["foreign",1,1,["discard"]]"#, "reply ok"),
-    Row(
-        "has-mark",
-        r#"["foreign",1,1,["has-mark",64]]"#,
-        "reply mark false",
-    ),
-    Row(
-        "get-config",
-        r#"["foreign",1,1,["get-config"]]"#,
-        "reply rows 1",
-    ),
-    Row(
-        "close-session",
-        r#"["foreign",1,1,["close-session"]]"#,
-        "reply ok",
-    ),
-    Row("open again", r#"["foreign",1,1,["open"]]"#, "idle"),
-    Row(
-        "open by another",
-        r#"["foreign",2,1,["open"]]"#,
-        "reply opened 2",
-    ),
-    Row("commit by another", r#"["foreign",2,1,["commit"]]"#, "idle"),
-    Row("leave", r#"["leave",1,1]"#, "left"),
-    Row("leave by another", r#"["leave",2,1]"#, "idle"),
-    Row(
-        "kill",
-        r#"["foreign",1,1,["kill",1]]"#,
-        "reply error invalid-value",
-    ),
-    Row("restart", r#"["restart",1]"#, "restarted"),
-    Row(
-        "a bad store",
-        r#"["foreign",1,1,["lock","startup"]]"#,
-        "scenario bad-value /events/1/3/1",
-    ),
-];
+static REPLIES: &str = r#"
+lock running => ["foreign",1,1,["lock","running"]] => reply ok
+lock candidate => ["foreign",1,1,["lock","candidate"]] => reply ok
+unlock running => ["foreign",1,1,["unlock","running"]] => reply error operation-failed
+unlock candidate => ["foreign",1,1,["unlock","candidate"]] => reply error operation-failed
+edit => ["foreign",1,1,["edit",{"edit":{"7":2}}]] => reply ok
+an edit that isn't valid => ["foreign",1,1,["edit",{"edit":{"7":1000001}}]] => reply ok
+validate => ["foreign",1,1,["validate"]] => reply ok
+commit => ["foreign",1,1,["commit"]] => reply ok
+discard => ["foreign",1,1,["discard"]] => reply ok
+has-mark => ["foreign",1,1,["has-mark",64]] => reply mark false
+get-config => ["foreign",1,1,["get-config"]] => reply rows 1
+close-session => ["foreign",1,1,["close-session"]] => reply ok
+open again => ["foreign",1,1,["open"]] => idle
+open by another => ["foreign",2,1,["open"]] => reply opened 2
+commit by another => ["foreign",2,1,["commit"]] => idle
+leave => ["leave",1,1] => left
+leave by another => ["leave",2,1] => idle
+kill => ["foreign",1,1,["kill",1]] => reply error invalid-value
+restart => ["restart",1] => restarted
+a bad store => ["foreign",1,1,["lock","startup"]] => scenario bad-value /events/1/3/1
+"#;
 
 #[test]
 fn replies(rt: HostRuntime) -> Result<(), Fail> {
-    all_answer(rt.alloc(), &SECOND, &REPLIES)
+    all_answer(rt.alloc(), &SECOND, REPLIES)
 }
 
 // Edits of change sets and of operators are those of their own device and session.
@@ -243,5 +139,5 @@ static EDITS: [Row; 3] = [
 
 #[test]
 fn edits(rt: HostRuntime) -> Result<(), Fail> {
-    all_answer(rt.alloc(), &WHOLE, &EDITS)
+    each_answers(rt.alloc(), &WHOLE, &EDITS)
 }

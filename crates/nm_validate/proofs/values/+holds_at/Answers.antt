@@ -1,6 +1,6 @@
 use Rattle.std.proofs.Common.{ap, sym, ◌∙◌, arith, rules}
 use Rattle.nm_rules.specs.Guards.{front, holds_at}
-use Rattle.nm_validate.specs.Repeated.{is_open}
+use Rattle.nm_validate.specs.Leafs.{is_open}
 use Rattle.nm_validate.proofs.InUse.{front_less, some_steps, holds_top, holds_own, holds_other, never, as_first}
 use Rattle.nm_validate.proofs.values.+holds_at.Goals as goal
 
@@ -33,4 +33,4 @@ holds_at-requires g t c κs h =
     let some = sym c.is_top.ensures ∙ c.if-is_top.false in
     let less = c.decreases in
     let more = some_steps c.args.count c.args.path.now c.requires.counted some in
-    (omega (arith, less, more), (search rules, (c.requires.grouped, front_less c.args.count c.args.path.now c.in_ok-above.above c.requires.counted some c.in_ok-above.ensures)))
+    (omega (arith, less, more), (search rules, (c.requires.cases, (c.requires.rows, front_less c.args.count c.args.path.now c.in_ok-above.above c.requires.counted some c.in_ok-above.ensures))))

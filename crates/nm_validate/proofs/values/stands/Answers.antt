@@ -1,6 +1,6 @@
 use Rattle.std.proofs.Common.{ap, sym, ◌∙◌}
 use Rattle.nm_rules.specs.Guards.{front, holds_at}
-use Rattle.nm_validate.specs.Repeated.{is_open}
+use Rattle.nm_validate.specs.Leafs.{is_open}
 use Rattle.nm_validate.proofs.InUse.{stands_top, stands_last, never, as_first}
 use Rattle.nm_validate.proofs.values.stands.Goals as goal
 

@@ -11,5 +11,5 @@ use Rattle.nm_config.proofs.config.Config.of_rows.Goals as goal
 pub returns : goal.returns
 returns c =
     let ran = c.in_ok-tree.ensures.ran in
-    let items = sym (map-id ran.1) ∙ items_from_drains ran.1 ran.3 (YieldsList-from_vec c.args.rows.items ran.2.0 (ran.2.1 ∙ search rules)) in
-    collected paths_total path_cmp-IsAntisymmetric ran.1 c.in_ok-tree.tree.entries ran.4.0 ∙ ap (with_entries map.empty) items
+    let items = sym (map-id ran.1) ∙ items_from_drains ran.1 ran.3 (YieldsList-from_vec c.in_ok-near.near.items ran.2.0 (ran.2.1 ∙ search rules)) in
+    collected paths_total path_cmp-IsAntisymmetric ran.1 c.in_ok-tree.tree.entries ran.4.0 ∙ ap (with_entries map.empty) items ∙ c.in_ok-near.ensures

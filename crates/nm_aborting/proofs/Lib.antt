@@ -1,0 +1,12 @@
+pub mod Links
+pub mod Tables
+pub mod Course
+pub mod Slots
+pub mod Keeping
+pub mod Managed
+pub mod Others
+pub mod Ends
+pub mod Operators
+pub mod Told
+pub mod Deliver
+pub mod Runs

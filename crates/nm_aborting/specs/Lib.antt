@@ -1,0 +1,2 @@
+pub mod Aborts
+pub mod Support

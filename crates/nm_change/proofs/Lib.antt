@@ -1,0 +1,4 @@
+pub mod Nodes
+pub mod Paths
+pub mod Exact
+pub mod Outcome

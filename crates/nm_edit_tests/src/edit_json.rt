@@ -1,0 +1,125 @@
+mod faults;
+mod nodes;
+mod said;
+mod tree;
+
+use nm_base::{Label, NoMemory};
+use nm_edit::{Edit, EditFault, EditNode, Operation};
+use nm_edit_json::read_edit;
+use nm_path::write_path;
+use nm_tree::Schema;
+use nm_types::{LeafType, TypeKind, Value, write_value};
+use serde_json::Value as Json;
+use std::alloc::Global;
+use std::test::Fail;
+use tree::sample;
+
+/// An edit, and what is read: its nodes with what is said and with their values, or a tag and a path.
+pub type Case = (&'static str, &'static str);
+
+fn word_of(operation: Option<Operation>) -> &'static str {
+    match operation {
+        None => "-",
+        Some(Operation::Merge) => "merge",
+        Some(Operation::Replace) => "replace",
+        Some(Operation::Create) => "create",
+        Some(Operation::Delete) => "delete",
+        Some(Operation::Remove) => "remove",
+    }
+}
+
+// The text of a value: a plus for a row that is present alone, and a dash for none.
+fn value_text(alloc: Global, value: &Option<Value>) -> Result<Label, NoMemory> {
+    let any = LeafType {
+        kind: TypeKind::Text,
+        limits: Vec::new(alloc),
+    };
+    match value {
+        None => Label::new(alloc, "-"),
+        Some(Value::Present) => Label::new(alloc, "+"),
+        Some(value) => write_value(alloc, &any, value),
+    }
+}
+
+fn node_text(alloc: Global, schema: &Schema, node: &EditNode) -> Result<String, NoMemory> {
+    let path = write_path(alloc, schema, &node.path)?;
+    let value = value_text(alloc, &node.value)?;
+    let word = word_of(node.operation);
+    Ok(format!(in alloc; "{path} {word} {value}; ")?)
+}
+
+fn edit_text(alloc: Global, schema: &Schema, edit: &Edit) -> Result<String, NoMemory> {
+    let mut text = String::new(alloc);
+    for node in &edit.nodes {
+        text.push_str(node_text(alloc, schema, node)?.as_str())?;
+    }
+    Ok(text)
+}
+
+// What is read of a text.
+fn read(alloc: Global, schema: &Schema, text: &str) -> Result<String, NoMemory> {
+    let Ok(value) = Json::from_str(alloc, text) else {
+        return Ok(String::from_str(alloc, "no JSON")?);
+    };
+    match read_edit(alloc, schema, &value) {
+        Ok(edit) => edit_text(alloc, schema, &edit),
+        Err(EditFault::Refused { tag, path }) => Ok(format!(in alloc; "{} {path}", tag.text())?),
+        Err(EditFault::NoMemory) => Err(NoMemory),
+    }
+}
+
+// Notes what is read of a text, where that isn't what is expected.
+fn note(
+    alloc: Global,
+    text: &str,
+    once: &str,
+    expected: &str,
+    out: &mut String,
+) -> Result<(), NoMemory> {
+    if once != expected {
+        let line = format!(in alloc; "{text}: {once}, expected {expected}\n")?;
+        out.push_str(line.as_str())?;
+    }
+    Ok(())
+}
+
+// What of a table is read otherwise than expected.
+fn differences(alloc: Global, table: &[Case]) -> Result<String, NoMemory> {
+    let schema = sample(alloc)?;
+    let mut out = String::new(alloc);
+    for (text, expected) in table {
+        let once = read(alloc, &schema, text)?;
+        note(alloc, text, once.as_str(), expected, &mut out)?;
+    }
+    Ok(out)
+}
+
+#[test]
+fn nodes_are_read(rt: HostRuntime) -> Result<(), Fail> {
+    assert_eq!(rt; differences(rt.alloc(), nodes::NODES)?.as_str(), "");
+    Ok(())
+}
+
+#[test]
+fn annotations_are_read(rt: HostRuntime) -> Result<(), Fail> {
+    assert_eq!(rt; differences(rt.alloc(), nodes::SAID)?.as_str(), "");
+    Ok(())
+}
+
+#[test]
+fn faults_are_told(rt: HostRuntime) -> Result<(), Fail> {
+    assert_eq!(rt; differences(rt.alloc(), faults::FAULTS)?.as_str(), "");
+    Ok(())
+}
+
+#[test]
+fn annotations_may_be_faulty(rt: HostRuntime) -> Result<(), Fail> {
+    assert_eq!(rt; differences(rt.alloc(), faults::ANNOTATIONS)?.as_str(), "");
+    Ok(())
+}
+
+#[test]
+fn least_faults_answer(rt: HostRuntime) -> Result<(), Fail> {
+    assert_eq!(rt; differences(rt.alloc(), faults::SEVERAL)?.as_str(), "");
+    Ok(())
+}

@@ -1,0 +1,2 @@
+pub mod Lapses
+pub mod Support

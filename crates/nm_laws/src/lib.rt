@@ -1,0 +1,7 @@
+//! Calls each law of the safety proof once.
+//!
+//! The crates of laws have no tests of their own: a crate's tests are proved together with the crate, so each would be proved twice.
+#![tactic(auto)]
+
+#[cfg(test)]
+mod tests;

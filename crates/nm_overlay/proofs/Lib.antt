@@ -1,0 +1,12 @@
+pub mod Order
+pub mod Sorted
+pub mod Changed
+pub mod Fronts
+pub mod Following
+pub mod Replaced
+pub mod Mapped
+pub mod Seek
+pub mod Below
+pub mod Count
+pub mod Merge
+pub mod Said

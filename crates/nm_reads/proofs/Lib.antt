@@ -1,0 +1,14 @@
+pub mod Lists
+pub mod Agreeing
+pub mod Guarded
+pub mod Local
+pub mod Entries
+pub mod Chains
+pub mod References
+pub mod Repeats
+pub mod Joined
+pub mod Concerned
+pub mod Fronts
+pub mod Placed
+pub mod Others
+pub mod Reached

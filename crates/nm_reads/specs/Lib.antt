@@ -1,0 +1,4 @@
+pub mod Reads
+pub mod Concerns
+pub mod Reaches
+pub mod Candidates

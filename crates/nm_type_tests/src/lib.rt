@@ -1,0 +1,17 @@
+//! Tests of types, values, schema trees and paths.
+//!
+//! They stand apart from the crates that they test, since a crate's functions are proved once more with its tests.
+#![tactic(auto)]
+
+#[cfg(test)]
+mod derive;
+#[cfg(test)]
+mod leafref;
+#[cfg(test)]
+mod path;
+#[cfg(test)]
+mod tree;
+#[cfg(test)]
+mod types;
+#[cfg(test)]
+mod typing;

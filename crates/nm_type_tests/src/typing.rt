@@ -1,0 +1,277 @@
+use nm_base::{Label, NoMemory};
+use nm_derive::Derived;
+use nm_grammar::{Flaw, Rows, Word, rows_of};
+use nm_typing::{
+    Start, cycle_flaw, default_flaw, defaults_of, has_predicate, judgements_of, read_path,
+    restrictions_of, type_flaw, type_graph, types_of,
+};
+use nm_yang::read_module;
+use std::alloc::{AllocError, Global};
+use std::test::Fail;
+
+// Paths after RFC 7950 section 9.9.2 and the grammar of section 14.
+#[test]
+fn paths_are_read(rt: HostRuntime) -> Result<(), Fail> {
+    for (text, ups, nodes) in [
+        ("/p:a/p:b", 0, 2),
+        ("/a", 0, 1),
+        ("../a", 1, 1),
+        ("../../if:interface/if:name", 2, 2),
+        ("", 9, 0),
+        ("/", 9, 0),
+        ("a", 9, 0),
+        ("..", 9, 0),
+        ("../", 9, 0),
+        ("../a/..", 9, 0),
+        ("../a/", 9, 0),
+        ("/a//b", 9, 0),
+        ("/../a", 9, 0),
+        ("../ a", 9, 0),
+        ("/a:b:c", 9, 0),
+        ("../a[k = current()/../k]/b", 9, 0),
+    ]
+    .as_slice()
+    {
+        let (found, count) = match read_path(rt.alloc(), text)? {
+            None => (9, 0),
+            Some(path) => match path.start {
+                Start::Root => (0, path.nodes.len()),
+                Start::Up(up) => (up, path.nodes.len()),
+            },
+        };
+        assert_eq!(rt; found, *ups, "{text}");
+        assert_eq!(rt; count, *nodes, "{text}");
+    }
+    assert!(rt; has_predicate("../a[k = current()/../k]/b"));
+    assert!(rt; !has_predicate("../a/b"));
+    Ok(())
+}
+
+fn has_name(rows: &Rows, at: usize, word: Word, name: &Option<Label>) -> bool {
+    match rows.row(at) {
+        None => false,
+        Some(row) => row.word.same(word) && row.argument == *name,
+    }
+}
+
+// The typedef of a name, of which there is one at most.
+fn typedef_named(rows: &Rows, name: &Option<Label>) -> Option<usize> {
+    for at in 0..rows.len() {
+        if has_name(rows, at, Word::Typedef, name) {
+            return Some(at);
+        }
+    }
+    None
+}
+
+// The typedefs that the `type` statements of a module name.
+fn typedefs_of(alloc: Global, rows: &Rows) -> Result<Vec<Option<usize>>, AllocError> {
+    let mut typedefs = Vec::new(alloc);
+    for at in 0..rows.len() {
+        match rows.row(at) {
+            None => typedefs.push(None)?,
+            Some(row) => {
+                if row.word.same(Word::Type) {
+                    typedefs.push(typedef_named(rows, &row.argument))?;
+                } else {
+                    typedefs.push(None)?;
+                }
+            }
+        }
+    }
+    Ok(typedefs)
+}
+
+fn flaw_text(alloc: Global, flaw: &Flaw, place: u32) -> Result<String, AllocError> {
+    match flaw {
+        Flaw::Unsupported(name) => format!(in alloc; "unsupported {name} {place}"),
+        Flaw::Unknown(name) => format!(in alloc; "unknown {name} {place}"),
+        Flaw::Duplicate(name) => format!(in alloc; "duplicate {name} {place}"),
+        Flaw::BadReference(name) => format!(in alloc; "bad-reference {name} {place}"),
+        Flaw::BadArgument(name) => format!(in alloc; "bad-argument {name} {place}"),
+        Flaw::Cycle(name) => format!(in alloc; "cycle {name} {place}"),
+    }
+}
+
+// The flaw of a row.
+fn flaw_at(
+    alloc: Global,
+    rows: &Rows,
+    typedefs: &[Option<usize>],
+    at: usize,
+) -> Result<Option<Flaw>, NoMemory> {
+    let types = types_of(alloc, rows, typedefs)?;
+    let judgements = judgements_of(alloc, rows, typedefs, &types)?;
+    if let Some(flaw) = cycle_flaw(alloc, rows, &types, at)? {
+        return Ok(Some(flaw));
+    }
+    if let Some(flaw) = type_flaw(alloc, rows, typedefs, &types, &judgements, at)? {
+        return Ok(Some(flaw));
+    }
+    default_flaw(alloc, rows, typedefs, &types, at)
+}
+
+// The first flaw of a module, as its kind, its name and its place.
+fn first_flaw(
+    alloc: Global,
+    rows: &Rows,
+    typedefs: &[Option<usize>],
+) -> Result<String, AllocError> {
+    for at in 0..rows.len() {
+        let Some(row) = rows.row(at) else {
+            return String::from_str(alloc, "no row");
+        };
+        match flaw_at(alloc, rows, typedefs, at) {
+            Ok(None) => {}
+            Ok(Some(flaw)) => return flaw_text(alloc, &flaw, row.place.saturating_sub(11)),
+            Err(NoMemory) => return String::from_str(alloc, "no memory"),
+        }
+    }
+    String::from_str(alloc, "none")
+}
+
+// What stands in a module `m`, and its first flaw, whose place counts from there (RFC 7950 sections 7.3, 7.4 and 9).
+const FLAWS: &str = r#"
+leaf a { type int8 { range 1..4; } } => none
+leaf a { type int8 { range 1..400; } } => bad-argument range 21
+leaf a { type string { range 1..4; } } => unknown range 23
+leaf a { type string { length 1..4; } } => none
+leaf a { type int8 { length 1..4; } } => unknown length 21
+leaf a { type string { length x; } } => bad-argument length 23
+leaf a { type decimal64; } => bad-argument fraction-digits 9
+leaf a { type decimal64 { range 1.5..2; fraction-digits 1; } } => none
+leaf a { type decimal64 { range 1.55; fraction-digits 1; } } => bad-argument range 26
+leaf a { type int8 { fraction-digits 1; } } => unknown fraction-digits 21
+leaf a { type t; } typedef t { type int8 { range 1..4; } } => none
+leaf a { type t { range 2..3; } } typedef t { type int8 { range 1..4; } } => none
+leaf a { type t { range 2..5; } } typedef t { type int8 { range 1..4; } } => bad-argument range 18
+typedef t { type decimal64 { fraction-digits 1; } } leaf a { type t { fraction-digits 1; } } => unknown fraction-digits 70
+leaf a { type nothing { range x; } } => none
+leaf a { type enumeration; } => bad-argument enum 9
+leaf a { type bits; } => bad-argument bit 9
+leaf a { type enumeration { enum a; enum a; } } => duplicate a 36
+leaf a { type enumeration { enum a { value 2; } enum b { value 2; } } } => duplicate 2 57
+leaf a { type enumeration { enum a { value x; } enum a; } } => bad-argument value 37
+leaf a { type enumeration { enum a { value 2147483647; } enum b; } } => bad-argument enum 57
+leaf a { type string { enum a; } } => unknown enum 23
+leaf a { type bits { bit a { position 1; } bit b; } } => none
+leaf a { type bits { bit a { position -1; } } } => bad-argument position 29
+typedef t { type bits { bit a; bit b; } } leaf a { type t { bit b { position 0; } } } => bad-argument position 68
+typedef t { type enumeration { enum a; } } leaf a { type t { enum b; } } => bad-argument enum 61
+leaf a { type leafref; } => bad-argument path 9
+leaf a { type leafref { path ../b; } } => none
+leaf a { type leafref { path b; } } => bad-argument path 24
+leaf a { type leafref { path "../b[c = 1]"; } } => unsupported path 24
+leaf a { type leafref { range 1..4; path ../b; } } => unknown range 24
+leaf a { type int8 { path ../b; } } => unknown path 21
+typedef t { type leafref { path /a; } } leaf a { type t { path /b; } } => unknown path 58
+typedef t { type leafref { path /a; } } leaf a { type t { length 1; } } => unknown length 58
+typedef t { type t; } => cycle t 0
+leaf a { type t; } typedef t { type u; } typedef u { type t { range x; } } => cycle t 19
+leaf a { type int8; default 4; } => none
+leaf a { type int8; default 400; } => bad-argument default 20
+leaf a { type int8 { range 1..4; } default 5; } => bad-argument default 35
+typedef t { type empty; default ""; } => bad-argument default 24
+leaf a { type leafref { path /b; } default x; } => none
+leaf a { type nothing; default x; } => none
+"#;
+
+#[test]
+fn flaws_are_found(rt: HostRuntime) -> Result<(), Fail> {
+    let alloc = rt.alloc();
+    for row in FLAWS.lines().skip(1) {
+        let (within, expected) = row.split_once(" => ").ok_or("no row")?;
+        let text = format!(in alloc; "module m {{ {within} }}")?;
+        let modules = [read_module(alloc, text.as_str().as_bytes())?];
+        let rows = rows_of(alloc, &modules)?;
+        let typedefs = typedefs_of(alloc, &rows)?;
+        let found = first_flaw(alloc, &rows, &typedefs)?;
+        assert_eq!(rt; found.as_str(), expected, "{within}");
+    }
+    Ok(())
+}
+
+// A row of a module: whether it has a type of its own, the row of its leafref's path, and its default.
+fn leaf_text(
+    alloc: Global,
+    rows: &Rows,
+    typedefs: &[Option<usize>],
+    at: usize,
+) -> Result<String, AllocError> {
+    let (Ok(types), Ok(defaults)) = (
+        types_of(alloc, rows, typedefs),
+        defaults_of(alloc, rows, typedefs),
+    ) else {
+        return String::from_str(alloc, "no memory");
+    };
+    let (plain, path) = match types.meaning(at) {
+        None => (false, 0),
+        Some(meaning) => (meaning.derived().is_some(), meaning.path().unwrap_or(0)),
+    };
+    match defaults.text(at) {
+        None => format!(in alloc; "{plain} {path}"),
+        Some(text) => format!(in alloc; "{plain} {path} {text}"),
+    }
+}
+
+// RFC 7950 sections 7.3.4, 7.6.1 and 9.9: types and defaults come through typedefs. The first statement in the module is row 1.
+const LEAFS: &[(&str, &str)] = &[
+    ("leaf a { type int8; default 4; }", "true 0 4"),
+    (
+        "leaf a { type t; } typedef t { type int8; default 4; }",
+        "true 0 4",
+    ),
+    (
+        "leaf a { type t; default 5; } typedef t { type int8; default 4; }",
+        "true 0 5",
+    ),
+    (
+        "leaf a { type t; } typedef t { type u; } typedef u { type int8; default 4; }",
+        "true 0 4",
+    ),
+    ("leaf a { type leafref { path /b; } }", "false 3"),
+    (
+        "leaf a { type t; } typedef t { type leafref { path /b; } }",
+        "false 5",
+    ),
+    ("leaf a { type nothing; }", "false 0"),
+    ("leaf a { type decimal64; }", "false 0"),
+    ("container a;", "false 0"),
+];
+
+#[test]
+fn leafs_have_types(rt: HostRuntime) -> Result<(), Fail> {
+    let alloc = rt.alloc();
+    for (within, expected) in LEAFS {
+        let text = format!(in alloc; "module m {{ {within} }}")?;
+        let modules = [read_module(alloc, text.as_str().as_bytes())?];
+        let rows = rows_of(alloc, &modules)?;
+        let typedefs = typedefs_of(alloc, &rows)?;
+        let found = leaf_text(alloc, &rows, &typedefs, 1)?;
+        assert_eq!(rt; found.as_str(), *expected, "{within}");
+    }
+    Ok(())
+}
+
+// What stands in row 2, and where the rows lead (RFC 7950 section 7.4).
+#[test]
+fn rows_are_read(rt: HostRuntime) -> Result<(), Fail> {
+    let alloc = rt.alloc();
+    let text =
+        "module m { leaf a { type t { range 1; enum a; enum b; bit c; } } typedef t { type int8; } }";
+    let modules = [read_module(alloc, text.as_bytes())?];
+    let rows = rows_of(alloc, &modules)?;
+    let restrictions = restrictions_of(alloc, &rows, 2)?;
+    assert!(rt; restrictions.digits.is_none());
+    assert!(rt; restrictions.range.is_some());
+    assert!(rt; restrictions.length.is_none());
+    assert_eq!(rt; restrictions.names.len(), 2);
+    assert_eq!(rt; restrictions.bits.len(), 1);
+    let typedefs = typedefs_of(alloc, &rows)?;
+    let graph = type_graph(alloc, &rows, &typedefs)?;
+    for (at, expected) in [(0, 0), (1, 1), (2, 1), (7, 1), (8, 0)].as_slice() {
+        let found = graph.get(*at).map(|nexts| nexts.len());
+        assert_eq!(rt; found, Some(*expected), "{at}");
+    }
+    Ok(())
+}

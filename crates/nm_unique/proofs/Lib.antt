@@ -1,0 +1,3 @@
+pub mod AllThere
+pub mod Repeated
+pub mod Apart
