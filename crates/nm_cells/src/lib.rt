@@ -15,8 +15,6 @@ pub mod kept;
 pub mod pass;
 pub mod serve;
 pub mod state;
-#[cfg(test)]
-mod tests;
 
 pub use asked::Asked;
 pub use cell::DeviceCell;

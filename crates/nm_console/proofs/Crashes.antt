@@ -8,7 +8,7 @@ use Rattle.nm_scenario.specs.declared.scenario.Scenario.{Scenario}
 use Rattle.nm_scenario.specs.declared.scenario.Body.TheVariants.{Flat, Yang}
 use Rattle.nm_scenario.specs.Scenario.{ReadsBytes}
 use Rattle.nm_scenario.proofs.Single.{one_of_bytes}
-use Rattle.nm_reading.specs.declared.fault.Fault.{Fault}
+use Rattle.nm_scenario_parts.specs.declared.fault.Fault.{Fault}
 use Rattle.nm_proto.specs.FlatContent.{flat_meaning}
 use Rattle.nm_content.specs.Meaning.{yang_meaning}
 use Rattle.nm_network.specs.Runs.{GoesOnAs, IsBetween}

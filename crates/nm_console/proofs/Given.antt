@@ -7,8 +7,8 @@ use Rattle.std.proofs.lemmas.List.Elements.{All-tail}
 use Rattle.std.proofs.lemmas.Option.{slice_get_cases}
 use Rattle.nm_base.specs.Words.{manager}
 use Rattle.nm_device.specs.Device.{is_manager}
-use Rattle.nm_events.specs.declared.arguments.Counts.{Counts}
-use Rattle.nm_events.specs.Kept.{EventKeeps, weight}
+use Rattle.nm_scenario_events.specs.declared.arguments.Counts.{Counts}
+use Rattle.nm_scenario_events.specs.Kept.{EventKeeps, weight}
 use Rattle.nm_manager.specs.Requests.{IsWellFormed, ascend_above}
 use Rattle.nm_network.specs.Runs.{IsNumbered}
 use Rattle.nm_network.specs.Drain.{drain_event, drain_limit}

@@ -4,7 +4,7 @@ use Rattle.std.proofs.lemmas.List.{length-replicate}
 use Rattle.nm_proto.specs.declared.journal.Entry.{Entry}
 use Rattle.nm_journal.specs.declared.fault.JournalFault.{JournalFault}
 use Rattle.nm_journal.specs.declared.fault.JournalFault.TheVariants.{NotEmpty, Damaged, DiskFault, Stopped, NoMemory}
-use Rattle.nm_reading.specs.declared.fault.Fault.{Fault}
+use Rattle.nm_scenario_parts.specs.declared.fault.Fault.{Fault}
 use Rattle.nm_scenario.specs.declared.scenario.Scenario.{Scenario}
 use Rattle.nm_scenario.specs.Scenario.{ReadsBytes}
 use Rattle.nm_scenario.specs.declared.scenario.Body.{Body}

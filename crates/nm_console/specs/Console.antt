@@ -12,7 +12,7 @@ use Rattle.nm_proto.specs.FlatContent.{flat_meaning}
 use Rattle.nm_proto.specs.declared.flat.FlatNode.{FlatNode}
 use Rattle.nm_content.specs.declared.place.YangNode.{YangNode}
 use Rattle.nm_content.specs.Meaning.{yang_meaning, yang_text}
-use Rattle.nm_reading.specs.declared.fault.Fault.{Fault}
+use Rattle.nm_scenario_parts.specs.declared.fault.Fault.{Fault}
 use Rattle.nm_scenario.specs.declared.scenario.Body.{Body}
 use Rattle.nm_scenario.specs.declared.scenario.Body.TheVariants.{Flat, Yang}
 use Rattle.nm_scenario.specs.declared.scenario.Scenario.{Scenario}

@@ -5,25 +5,11 @@
 #![tactic(auto)]
 
 pub mod check;
-#[cfg(test)]
-mod check_tests;
 pub mod command;
 pub mod console;
 pub mod journal;
-#[cfg(test)]
-mod journal_tests;
-#[cfg(test)]
-mod limit_tests;
 pub mod refusal;
 pub mod replay;
-#[cfg(test)]
-mod replay_tests;
 mod rows;
-#[cfg(test)]
-mod run_tests;
 pub mod said;
 pub mod status;
-#[cfg(test)]
-mod tests;
-#[cfg(test)]
-mod trace_tests;

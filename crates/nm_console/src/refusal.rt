@@ -2,8 +2,8 @@ ghost use Rattle.std.specs.Prelude.{◌≡◌, ◌++◌, OnOk};
 ghost use Rattle.nm_console.specs.Refusal.{damaged_text, fault_text, not_empty_text, offset_text};
 
 use nm_base::{NoMemory, write_decimal};
-use nm_reading::{Fault, write_place};
 use nm_report::text::put;
+use nm_scenario_parts::{Fault, write_place};
 use std::alloc::Global;
 
 /// The usage line.

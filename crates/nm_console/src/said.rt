@@ -6,7 +6,7 @@ use crate::refusal::write_fault;
 use crate::status::Status;
 use nm_base::NoMemory;
 use nm_proto::Listed;
-use nm_reading::{Cause, Fault, ScenarioKind};
+use nm_scenario_parts::{Cause, Fault, ScenarioKind};
 use std::alloc::Global;
 
 /// A status and a text.

@@ -10,8 +10,6 @@ pub mod course;
 pub mod laws;
 pub mod seat;
 pub mod stage;
-#[cfg(test)]
-mod tests;
 
 pub use course::{Course, NextAction};
 pub use laws::{

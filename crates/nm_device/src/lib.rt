@@ -11,8 +11,6 @@ pub mod device;
 mod edits;
 mod partials;
 mod sessions;
-#[cfg(test)]
-mod tests;
 mod undoing;
 
 pub use device::Device;

@@ -16,8 +16,6 @@ pub mod listed;
 pub mod message;
 pub mod number_map;
 pub mod plan;
-#[cfg(test)]
-mod tests;
 
 pub use ask::Ask;
 pub use content::{ApplyFault, CheckFault, Content, FindFault, Show, Tables};

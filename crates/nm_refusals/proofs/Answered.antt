@@ -1,9 +1,9 @@
 -- What is known of the answers of reading.
 use Rattle.std.proofs.Common.{◌≡◌, ℕ, List, Result, Ok, Err, subst}
 use Rattle.std.specs.Prelude.{IfOk}
-use Rattle.nm_reading.specs.declared.fault.Fault.{Fault}
-use Rattle.nm_reading.specs.declared.fault.ReadError.{ReadError}
-use Rattle.nm_reading.specs.declared.fault.ReadError.TheVariants.{Bad}
+use Rattle.nm_scenario_parts.specs.declared.fault.Fault.{Fault}
+use Rattle.nm_scenario_parts.specs.declared.fault.ReadError.{ReadError}
+use Rattle.nm_scenario_parts.specs.declared.fault.ReadError.TheVariants.{Bad}
 use Rattle.nm_scenario.specs.declared.scenario.Scenario.{Scenario}
 use Rattle.nm_scenario.specs.Scenario.{Answers, ReadsBytes}
 use Rattle.nm_refusals.specs.Told.{ToldOfBytes}

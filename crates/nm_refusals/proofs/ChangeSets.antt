@@ -7,13 +7,13 @@ use Rattle.serde_json.specs.Find.{get, at, as_str}
 use Rattle.nm_base.specs.Words.{default_timeout}
 use Rattle.nm_proto.specs.declared.message.DefaultOperation.TheVariants.{Merge, Replace, Nothing}
 use Rattle.nm_proto.specs.declared.kind.ScenarioKind.TheVariants as kind
-use Rattle.nm_reading.specs.declared.fault.Step.TheVariants.{Name, Item}
-use Rattle.nm_reading.specs.declared.fault.Fault.{Fault}
-use Rattle.nm_reading.specs.Reading.{here, under, required_from, required, optional, object_at, only_known, list_at, natural_of, in_range, number_within, some_of}
-use Rattle.nm_events.specs.Limits.{change_limit, device_limit}
-use Rattle.nm_form.specs.Form.{Form}
-use Rattle.nm_form.specs.Read.{read, told}
-use Rattle.nm_events.specs.Arguments.{operation_of, operation_said, operation}
+use Rattle.nm_scenario_parts.specs.declared.fault.Step.TheVariants.{Name, Item}
+use Rattle.nm_scenario_parts.specs.declared.fault.Fault.{Fault}
+use Rattle.nm_scenario_parts.specs.Reading.{here, under, required_from, required, optional, object_at, only_known, list_at, natural_of, in_range, number_within, some_of}
+use Rattle.nm_scenario_events.specs.Limits.{change_limit, device_limit}
+use Rattle.nm_scenario_form.specs.Form.{Form}
+use Rattle.nm_scenario_form.specs.Read.{read, told}
+use Rattle.nm_scenario_events.specs.Arguments.{operation_of, operation_said, operation}
 use Rattle.nm_scenario.specs.declared.scenario.ReadChange.{ReadChange}
 use Rattle.nm_scenario.specs.declared.scenario.ReadEdit.{ReadEdit}
 use Rattle.nm_scenario.specs.Changes.{knows_change, knows_edit, device_of, last_device, device_within, entry_at, entries_at, change_at, changes_read_at}

@@ -17,7 +17,7 @@ use Rattle.nm_check.specs.Told.{violation_told}
 use Rattle.nm_edit.specs.declared.edit.EditNode.{EditNode}
 use Rattle.nm_edit_json.specs.Whole.{edit_read}
 use Rattle.nm_proto.specs.declared.kind.ScenarioKind.TheVariants as kind
-use Rattle.nm_form.specs.Read.{read, told}
+use Rattle.nm_scenario_form.specs.Read.{read, told}
 use Rattle.nm_scenario.specs.Yang.{rows_from, holds_marks, valid_rows, data_at, edit_cause, edit_from, data_edit_said, data_edit}
 use Rattle.nm_refusals.specs.Roles.{running, data_of, change_edit}
 use Rattle.nm_refusals.specs.Wrong.{no_data, too_many_rows, marked_data, invalid_data, too_many_named, no_data_edit}

@@ -1,14 +1,14 @@
 -- What is told of events: the first fault by their table.
 use Rattle.std.proofs.Common.{Err}
 use Rattle.serde_json.specs.Data.{Data}
-use Rattle.nm_reading.specs.declared.fault.Fault.{Fault}
-use Rattle.nm_reading.specs.declared.fault.ReadError.TheVariants.{Bad}
-use Rattle.nm_form.specs.Form.{Form}
-use Rattle.nm_form.specs.Read.{read}
-use Rattle.nm_form.specs.Exact.{IsFirstOf}
-use Rattle.nm_form.proofs.Exact.{reads}
-use Rattle.nm_events.specs.declared.arguments.Counts.{Counts}
-use Rattle.nm_events.specs.Events.{events_form}
+use Rattle.nm_scenario_parts.specs.declared.fault.Fault.{Fault}
+use Rattle.nm_scenario_parts.specs.declared.fault.ReadError.TheVariants.{Bad}
+use Rattle.nm_scenario_form.specs.Form.{Form}
+use Rattle.nm_scenario_form.specs.Read.{read}
+use Rattle.nm_scenario_form.specs.Exact.{IsFirstOf}
+use Rattle.nm_scenario_form.proofs.Exact.{reads}
+use Rattle.nm_scenario_events.specs.declared.arguments.Counts.{Counts}
+use Rattle.nm_scenario_events.specs.Events.{events_form}
 use Rattle.nm_refusals.specs.Roles as role
 use Rattle.nm_refusals.specs.Roles.{Contents}
 use Rattle.nm_refusals.specs.Told.{Told, OfEvents, in_events}

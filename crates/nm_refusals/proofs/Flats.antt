@@ -9,9 +9,9 @@ use Rattle.serde_json.specs.Find.{as_object}
 use Rattle.nm_proto.specs.Content.{Refusal}
 use Rattle.nm_proto.specs.Flat.{flat_violation}
 use Rattle.nm_proto.specs.declared.kind.ScenarioKind.TheVariants as kind
-use Rattle.nm_reading.specs.declared.fault.Fault.{Fault}
-use Rattle.nm_reading.specs.Reading.{◌>>=◌, here, natural_of}
-use Rattle.nm_form.specs.Read.{read, told}
+use Rattle.nm_scenario_parts.specs.declared.fault.Fault.{Fault}
+use Rattle.nm_scenario_parts.specs.Reading.{◌>>=◌, here, natural_of}
+use Rattle.nm_scenario_form.specs.Read.{read, told}
 use Rattle.nm_scenario.specs.Flat.{row_limit, node_limit, key_of, or_unread, member_count, cells_after, cells_at, is_change, all_members, flat_edit_of, flat_edit_said, flat_edit}
 use Rattle.nm_scenario.specs.Devices.{valid_only, running_at}
 use Rattle.nm_refusals.specs.Roles.{Role, running, cells, change_edit}

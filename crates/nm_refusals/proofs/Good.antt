@@ -6,10 +6,10 @@ use Rattle.std.proofs.lemmas.List.Elements.{All-nil, All-push}
 use Rattle.serde_json.specs.Data.{Data, null, boolean, number, string, array, object, Items, no_items, item}
 use Rattle.serde_json.specs.Find.{get}
 use Rattle.nm_proto.specs.declared.kind.ScenarioKind.TheVariants as kind
-use Rattle.nm_reading.specs.declared.fault.Step.{Step}
-use Rattle.nm_reading.specs.declared.fault.Step.TheVariants.{Name, Item}
-use Rattle.nm_reading.specs.declared.fault.Fault.{Fault}
-use Rattle.nm_reading.specs.Reading.{◌>>=◌, here, under, required_from, required, optional_from, optional, count_of, items_after, list_at, some_of}
+use Rattle.nm_scenario_parts.specs.declared.fault.Step.{Step}
+use Rattle.nm_scenario_parts.specs.declared.fault.Step.TheVariants.{Name, Item}
+use Rattle.nm_scenario_parts.specs.declared.fault.Fault.{Fault}
+use Rattle.nm_scenario_parts.specs.Reading.{◌>>=◌, here, under, required_from, required, optional_from, optional, count_of, items_after, list_at, some_of}
 
 -- what was read, if anything was, is so
 pub record IsGood {A : Type 0} (Q : A → Type 0) (r : Result A Fault) : Type 0 where

@@ -11,8 +11,8 @@ use Rattle.nm_proto.specs.Flat.{FlatState}
 use Rattle.nm_tree.specs.Nodes.{SchemaTree}
 use Rattle.nm_config.specs.Rows.{Rows}
 use Rattle.nm_proto.specs.declared.kind.ScenarioKind.TheVariants as kind
-use Rattle.nm_reading.specs.Reading.{here, required, object_at, only_known, list_at, some_of}
-use Rattle.nm_events.specs.Limits.{device_limit}
+use Rattle.nm_scenario_parts.specs.Reading.{here, required, object_at, only_known, list_at, some_of}
+use Rattle.nm_scenario_events.specs.Limits.{device_limit}
 use Rattle.nm_scenario.specs.declared.head.Form.TheVariants as form
 use Rattle.nm_scenario.specs.declared.head.ReadModule.{ReadModule}
 use Rattle.nm_scenario.specs.Head.{form_of, form_at, module_limit, module_read, module_of, module_at, modules_at}

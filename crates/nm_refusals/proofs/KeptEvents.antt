@@ -5,24 +5,24 @@ use Rattle.std.specs.List.{All, sum_by}
 use Rattle.std.proofs.lemmas.List.Elements.{All-nil, All-cons, All-head, All-tail}
 use Rattle.std.proofs.lemmas.List.Sums.{sum_by-append}
 use Rattle.serde_json.specs.Data.{Data}
-use Rattle.nm_form.specs.Form.{Form}
-use Rattle.nm_form.specs.Kept.{Holds}
-use Rattle.nm_form.specs.Read.{read}
-use Rattle.nm_form.specs.Says.{Says}
-use Rattle.nm_form.proofs.Exact.{reads}
+use Rattle.nm_scenario_form.specs.Form.{Form}
+use Rattle.nm_scenario_form.specs.Kept.{Holds}
+use Rattle.nm_scenario_form.specs.Read.{read}
+use Rattle.nm_scenario_form.specs.Says.{Says}
+use Rattle.nm_scenario_form.proofs.Exact.{reads}
 use Rattle.nm_proto.specs.declared.message.Request.{Request}
 use Rattle.nm_proto.specs.declared.message.Request.TheVariants.{OpenSession, Lock, Unlock, PartialLock, PartialUnlock, Edit, Validate, Commit, CancelCommit, Discard, HasMark, GetConfig, Kill, CloseSession}
 use Rattle.nm_proto.specs.declared.plan.Event.{Event}
 use Rattle.nm_proto.specs.declared.plan.Event.TheVariants.{Submit, Turn, Deliver, Answer, Break, Lose, Advance, Restart, Forget, Crash, Renew, Foreign, Leave, Round}
-use Rattle.nm_events.specs.declared.arguments.Counts.{Counts}
-use Rattle.nm_events.specs.declared.event.ReadRequest.{ReadRequest}
-use Rattle.nm_events.specs.declared.event.ReadRequest.TheVariants.{Open, Known, WithEdit, WithSelect}
-use Rattle.nm_events.specs.declared.event.ReadEvent.{ReadEvent}
-use Rattle.nm_events.specs.declared.event.ReadEvent.TheVariants.{Other, Asked}
-use Rattle.nm_events.specs.Events.{events_form}
-use Rattle.nm_events.specs.Kept.{IsWithin, EventKeeps, is_asked, opens, OpensUnsaid, ReadKeeps, EventsKeep, weight, read_weight}
-use Rattle.nm_events.specs.Numbered.{user_of, numbered_request, numbered_event, edit_of_event, select_of_event, events_from, edits_of_events}
-use Rattle.nm_events.proofs.Weights.{events_keep, edits_keep}
+use Rattle.nm_scenario_events.specs.declared.arguments.Counts.{Counts}
+use Rattle.nm_scenario_events.specs.declared.event.ReadRequest.{ReadRequest}
+use Rattle.nm_scenario_events.specs.declared.event.ReadRequest.TheVariants.{Open, Known, WithEdit, WithSelect}
+use Rattle.nm_scenario_events.specs.declared.event.ReadEvent.{ReadEvent}
+use Rattle.nm_scenario_events.specs.declared.event.ReadEvent.TheVariants.{Other, Asked}
+use Rattle.nm_scenario_events.specs.Events.{events_form}
+use Rattle.nm_scenario_events.specs.Kept.{IsWithin, EventKeeps, is_asked, opens, OpensUnsaid, ReadKeeps, EventsKeep, weight, read_weight}
+use Rattle.nm_scenario_events.specs.Numbered.{user_of, numbered_request, numbered_event, edit_of_event, select_of_event, events_from, edits_of_events}
+use Rattle.nm_scenario_events.proofs.Weights.{events_keep, edits_keep}
 use Rattle.nm_refusals.specs.Kept.{IsOwnOpening, OpensOwn}
 use Rattle.nm_refusals.proofs.Good.{IsGood}
 

@@ -33,15 +33,15 @@ use Rattle.nm_edit_json.specs.Laws.{HasNodes}
 use Rattle.nm_edit_json.proofs.Edits.{given_law}
 use Rattle.nm_edit_json.proofs.Least.{nodes_law}
 use Rattle.nm_proto.specs.declared.kind.ScenarioKind.TheVariants as kind
-use Rattle.nm_reading.specs.declared.fault.Cause.{Cause}
-use Rattle.nm_reading.specs.declared.fault.Fault.{Fault}
-use Rattle.nm_reading.specs.Reading.{◌>>=◌, here, plain, required, optional, object_at, only_known, list_at, natural_of, in_range, number_within, some_of, empty_list_at}
-use Rattle.nm_events.specs.Limits.{device_limit, change_limit, operator_limit}
-use Rattle.nm_form.specs.Form.{Form}
-use Rattle.nm_form.specs.Read.{read, told}
-use Rattle.nm_form.specs.Kept.{Holds, OfResult}
-use Rattle.nm_events.specs.Arguments.{operation}
-use Rattle.nm_events.specs.Kept.{IsWithin}
+use Rattle.nm_scenario_parts.specs.declared.fault.Cause.{Cause}
+use Rattle.nm_scenario_parts.specs.declared.fault.Fault.{Fault}
+use Rattle.nm_scenario_parts.specs.Reading.{◌>>=◌, here, plain, required, optional, object_at, only_known, list_at, natural_of, in_range, number_within, some_of, empty_list_at}
+use Rattle.nm_scenario_events.specs.Limits.{device_limit, change_limit, operator_limit}
+use Rattle.nm_scenario_form.specs.Form.{Form}
+use Rattle.nm_scenario_form.specs.Read.{read, told}
+use Rattle.nm_scenario_form.specs.Kept.{Holds, OfResult}
+use Rattle.nm_scenario_events.specs.Arguments.{operation}
+use Rattle.nm_scenario_events.specs.Kept.{IsWithin}
 use Rattle.nm_scenario.specs.declared.scenario.ReadChange.{ReadChange}
 use Rattle.nm_scenario.specs.declared.scenario.ReadEdit.{ReadEdit}
 use Rattle.nm_scenario.specs.Flat.{row_limit, node_limit, key_of, or_unread, member_count, cells_after, cells_at, change_of, is_change, all_members, changes_after, flat_edit_of, flat_edit_said, flat_edit}

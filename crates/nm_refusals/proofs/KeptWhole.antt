@@ -11,19 +11,19 @@ use Rattle.nm_schema.proofs.Sound.{modules_sound}
 use Rattle.nm_schema.proofs.Marked.{modules_marked}
 use Rattle.nm_edit.specs.declared.edit.EditNode.{EditNode}
 use Rattle.nm_edit.specs.EditOf.{IsEditOf}
-use Rattle.nm_flaws.specs.declared.fault.Fault.{Fault as SchemaFault}
-use Rattle.nm_flaws.specs.declared.fault.Fault.TheVariants.{Flawed, TooLarge}
+use Rattle.nm_schema_flaws.specs.declared.fault.Fault.{Fault as SchemaFault}
+use Rattle.nm_schema_flaws.specs.declared.fault.Fault.TheVariants.{Flawed, TooLarge}
 use Rattle.nm_proto.specs.declared.kind.ScenarioKind.TheVariants as kind
-use Rattle.nm_reading.specs.declared.fault.Fault.{Fault}
-use Rattle.nm_reading.specs.Reading.{here, required, optional, object_at, number_within, only_known, empty_list_at, switch_at}
-use Rattle.nm_events.specs.Limits.{device_limit, change_limit, operator_limit}
-use Rattle.nm_form.specs.Form.{Form as PartForm}
-use Rattle.nm_form.specs.Read.{read}
-use Rattle.nm_form.specs.Kept.{Holds}
-use Rattle.nm_events.specs.declared.arguments.Counts.{Counts}
-use Rattle.nm_events.specs.Events.{events_form}
-use Rattle.nm_events.specs.Kept.{IsWithin, EventKeeps, EventsKeep}
-use Rattle.nm_events.specs.Numbered.{events_from, edits_of_events}
+use Rattle.nm_scenario_parts.specs.declared.fault.Fault.{Fault}
+use Rattle.nm_scenario_parts.specs.Reading.{here, required, optional, object_at, number_within, only_known, empty_list_at, switch_at}
+use Rattle.nm_scenario_events.specs.Limits.{device_limit, change_limit, operator_limit}
+use Rattle.nm_scenario_form.specs.Form.{Form as PartForm}
+use Rattle.nm_scenario_form.specs.Read.{read}
+use Rattle.nm_scenario_form.specs.Kept.{Holds}
+use Rattle.nm_scenario_events.specs.declared.arguments.Counts.{Counts}
+use Rattle.nm_scenario_events.specs.Events.{events_form}
+use Rattle.nm_scenario_events.specs.Kept.{IsWithin, EventKeeps, EventsKeep}
+use Rattle.nm_scenario_events.specs.Numbered.{events_from, edits_of_events}
 use Rattle.nm_scenario.specs.declared.head.Head.{Head}
 use Rattle.nm_scenario.specs.declared.head.Head.TheVariants as head
 use Rattle.nm_scenario.specs.declared.head.Form.{Form}

@@ -6,17 +6,17 @@ use Rattle.std.specs.List.{All, range_with_len}
 use Rattle.std.proofs.lemmas.List.Elements.{All-nil, All-cons, All-append, All-head, All-tail, All-weaker}
 use Rattle.nm_yang.specs.Tree.{Tree, Trees, statement, none, more}
 use Rattle.nm_yang.specs.Grammar.{keyword_of}
-use Rattle.nm_grammar.specs.declared.row.Row.{Row}
-use Rattle.nm_grammar.specs.declared.flaw.Flaw.{Flaw}
-use Rattle.nm_grammar.specs.Rows.{is_skipped, is_opened, row_for, rows_from, rows_within, rows_after, rows_of}
-use Rattle.nm_grammar.specs.Word.{word_of}
-use Rattle.nm_names.specs.Named.{row_at, top}
-use Rattle.nm_typing.specs.Listing.{is_at}
-use Rattle.nm_expansion.specs.Expansion.{first_large}
-use Rattle.nm_flaws.specs.declared.fault.Fault.{Fault}
-use Rattle.nm_flaws.specs.Facts.{Facts, definitions}
-use Rattle.nm_flaws.specs.Flaw.{flaw_at}
-use Rattle.nm_flaws.specs.Fault.{first_some, flawed, is_last, large_by, large_in, large_at, fault_at, first_fault}
+use Rattle.nm_schema_rows.specs.declared.row.Row.{Row}
+use Rattle.nm_schema_rows.specs.declared.flaw.Flaw.{Flaw}
+use Rattle.nm_schema_rows.specs.Rows.{is_skipped, is_opened, row_for, rows_from, rows_within, rows_after, rows_of}
+use Rattle.nm_schema_rows.specs.Word.{word_of}
+use Rattle.nm_schema_names.specs.Named.{row_at, top}
+use Rattle.nm_schema_typing.specs.Listing.{is_at}
+use Rattle.nm_schema_expansion.specs.Expansion.{first_large}
+use Rattle.nm_schema_flaws.specs.declared.fault.Fault.{Fault}
+use Rattle.nm_schema_flaws.specs.Facts.{Facts, definitions}
+use Rattle.nm_schema_flaws.specs.Flaw.{flaw_at}
+use Rattle.nm_schema_flaws.specs.Fault.{first_some, flawed, is_last, large_by, large_in, large_at, fault_at, first_fault}
 use Rattle.nm_schema.specs.Built.{outcome, built, Builds}
 use Rattle.nm_refusals.specs.Told.{module_of_fault}
 

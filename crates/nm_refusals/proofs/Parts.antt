@@ -12,15 +12,15 @@ use Rattle.serde_json.specs.Data.{Data, null, boolean, number, string, array, ob
 use Rattle.serde_json.specs.Find.{get, get_member, get_item, at, as_object}
 use Rattle.nm_proto.specs.declared.kind.ScenarioKind.{ScenarioKind}
 use Rattle.nm_proto.specs.declared.kind.ScenarioKind.TheVariants as kind
-use Rattle.nm_reading.specs.declared.fault.Step.{Step}
-use Rattle.nm_reading.specs.declared.fault.Step.TheVariants.{Name, Item}
-use Rattle.nm_reading.specs.declared.fault.Fault.{Fault}
-use Rattle.nm_reading.specs.Reading.{under, required_from, required, optional_from, optional, first_unknown, none_unknown, only_known, object_at, count_of, items_after, list_at, natural_of, in_range, number_within, some_of, empty_list_at, here}
-use Rattle.nm_reading.specs.Words.{item_count}
-use Rattle.nm_events.specs.Events.{is_within}
+use Rattle.nm_scenario_parts.specs.declared.fault.Step.{Step}
+use Rattle.nm_scenario_parts.specs.declared.fault.Step.TheVariants.{Name, Item}
+use Rattle.nm_scenario_parts.specs.declared.fault.Fault.{Fault}
+use Rattle.nm_scenario_parts.specs.Reading.{under, required_from, required, optional_from, optional, first_unknown, none_unknown, only_known, object_at, count_of, items_after, list_at, natural_of, in_range, number_within, some_of, empty_list_at, here}
+use Rattle.nm_scenario_parts.specs.Words.{item_count}
+use Rattle.nm_scenario_events.specs.Events.{is_within}
 use Rattle.nm_refusals.specs.Roles.{Role, number, no_modules, nothing}
 use Rattle.nm_refusals.specs.Members.{knows, Requires}
-use Rattle.nm_form.specs.Places.{stepped}
+use Rattle.nm_scenario_form.specs.Places.{stepped}
 use Rattle.nm_refusals.specs.Steps.{Below}
 use Rattle.nm_refusals.specs.Wrong.{Wrong, is_object_role, is_list_role, needs_item, limit_of, no_object, no_list, no_item, no_number, some_module, too_many_items, unbuilt_list}
 use Rattle.nm_refusals.specs.Told.{AllAbove, Ascending, missing, unknown, inside, Told}

@@ -13,20 +13,20 @@ use Rattle.nm_proto.specs.Content.{Refusal}
 use Rattle.nm_proto.specs.declared.flat.FlatEdit.{FlatEdit}
 use Rattle.nm_proto.specs.declared.kind.ScenarioKind.{ScenarioKind}
 use Rattle.nm_proto.specs.declared.kind.ScenarioKind.TheVariants as kind
-use Rattle.nm_reading.specs.declared.fault.Step.{Step}
-use Rattle.nm_reading.specs.declared.fault.Step.TheVariants.{Name, Item}
-use Rattle.nm_reading.specs.declared.fault.Fault.{Fault}
-use Rattle.nm_reading.specs.Reading.{under, optional_from, count_of, plain}
-use Rattle.nm_reading.specs.Words.{item_count}
+use Rattle.nm_scenario_parts.specs.declared.fault.Step.{Step}
+use Rattle.nm_scenario_parts.specs.declared.fault.Step.TheVariants.{Name, Item}
+use Rattle.nm_scenario_parts.specs.declared.fault.Fault.{Fault}
+use Rattle.nm_scenario_parts.specs.Reading.{under, optional_from, count_of, plain}
+use Rattle.nm_scenario_parts.specs.Words.{item_count}
 use Rattle.nm_scenario.specs.declared.head.ReadModule.{ReadModule}
 use Rattle.nm_scenario.specs.Head.{module_limit, module_at, modules_at, statement_of, statements_of}
 use Rattle.nm_refusals.specs.Roles.{Role, Contents, cells, data_of}
-use Rattle.nm_form.proofs.InOrder.{leaf_in_order}
-use Rattle.nm_events.specs.declared.arguments.Counts.{Counts}
-use Rattle.nm_events.proofs.Order.{events_placed}
+use Rattle.nm_scenario_form.proofs.InOrder.{leaf_in_order}
+use Rattle.nm_scenario_events.specs.declared.arguments.Counts.{Counts}
+use Rattle.nm_scenario_events.proofs.Order.{events_placed}
 use Rattle.nm_scenario.specs.Flat.{node_limit, member_count, is_change, all_members, flat_edit_of, flat_edit_said, flat_edit}
 use Rattle.nm_scenario.specs.Yang.{edit_cause, edit_from, data_edit_said, data_edit}
-use Rattle.nm_form.specs.Places.{stepped, walked, LacksMember, IsPlace, IsThere, InOrder}
+use Rattle.nm_scenario_form.specs.Places.{stepped, walked, LacksMember, IsPlace, IsThere, InOrder}
 use Rattle.nm_refusals.specs.Wrong as wrong
 use Rattle.nm_refusals.specs.Wrong.{Wrong}
 use Rattle.nm_refusals.specs.Told.{OfEvents, Tells, here, missing, unknown, in_events, inside, TellsWhole, in_part, in_module, module_of_fault}

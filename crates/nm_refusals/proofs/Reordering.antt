@@ -11,9 +11,9 @@ use Rattle.std.proofs.lemmas.Slice.Eq.{bytes_eq-Decides}
 use Rattle.json.specs.Json as json
 use Rattle.serde_json.specs.Data.{Data, array, object, Items, item, Members, no_members, member, put}
 use Rattle.serde_json.specs.Read.{of_json, of_items, of_members, read}
-use Rattle.nm_reading.specs.declared.fault.Fault.{Fault}
+use Rattle.nm_scenario_parts.specs.declared.fault.Fault.{Fault}
 use Rattle.nm_proto.specs.declared.kind.ScenarioKind.TheVariants as kind
-use Rattle.nm_reading.specs.Reading.{here}
+use Rattle.nm_scenario_parts.specs.Reading.{here}
 use Rattle.nm_scenario.specs.declared.scenario.Scenario.{Scenario}
 use Rattle.nm_scenario.specs.Scenario.{byte_limit, json_of, parsed, whole_of, ReadsWhole, ReadsBytes}
 use Rattle.nm_refusals.specs.Order.{spelled, Reordered, ReorderedItems, ReorderedMembers, same, in_array, in_object, no_more, another, as_before, neighbours, within, further, Spells}

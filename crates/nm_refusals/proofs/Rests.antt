@@ -6,14 +6,14 @@ use Rattle.serde_json.specs.Data.{Data}
 use Rattle.serde_json.specs.Find.{get, as_bool, as_str}
 use Rattle.nm_base.specs.Words.{manager}
 use Rattle.nm_proto.specs.declared.kind.ScenarioKind.TheVariants as kind
-use Rattle.nm_reading.specs.declared.fault.Step.TheVariants.{Name}
-use Rattle.nm_reading.specs.declared.fault.Fault.{Fault}
-use Rattle.nm_reading.specs.Reading.{here, under, required_from, required, optional_from, optional, object_at, only_known, some_of, empty_list_at, switch_of, switch_at}
-use Rattle.nm_reading.specs.Words.{item_count}
-use Rattle.nm_events.specs.Limits.{operator_limit}
-use Rattle.nm_form.specs.Form.{Form}
-use Rattle.nm_form.specs.Read.{read}
-use Rattle.nm_events.specs.Events.{events_form}
+use Rattle.nm_scenario_parts.specs.declared.fault.Step.TheVariants.{Name}
+use Rattle.nm_scenario_parts.specs.declared.fault.Fault.{Fault}
+use Rattle.nm_scenario_parts.specs.Reading.{here, under, required_from, required, optional_from, optional, object_at, only_known, some_of, empty_list_at, switch_of, switch_at}
+use Rattle.nm_scenario_parts.specs.Words.{item_count}
+use Rattle.nm_scenario_events.specs.Limits.{operator_limit}
+use Rattle.nm_scenario_form.specs.Form.{Form}
+use Rattle.nm_scenario_form.specs.Read.{read}
+use Rattle.nm_scenario_events.specs.Events.{events_form}
 use Rattle.nm_scenario.specs.Operators.{user_limit, knows_operator, user_of, user_at, operator_at, operators_at}
 use Rattle.nm_scenario.specs.Changes.{changes_read_at}
 use Rattle.nm_scenario.specs.Scenario.{knows_scenario, rest_at, changes_in}

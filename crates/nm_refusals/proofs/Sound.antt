@@ -1,10 +1,10 @@
 -- Readers whose faults are told so.
 use Rattle.std.proofs.Common.{◌≡◌, Bool, true, false, Result, Ok, Err, refl, subst}
 use Rattle.std.specs.Prelude.{if◌then◌else◌}
-use Rattle.nm_reading.specs.declared.fault.Cause.{Cause}
-use Rattle.nm_reading.specs.declared.fault.Fault.{Fault}
-use Rattle.nm_reading.specs.Reading.{◌>>=◌}
-use Rattle.nm_form.specs.Read.{told}
+use Rattle.nm_scenario_parts.specs.declared.fault.Cause.{Cause}
+use Rattle.nm_scenario_parts.specs.declared.fault.Fault.{Fault}
+use Rattle.nm_scenario_parts.specs.Reading.{◌>>=◌}
+use Rattle.nm_scenario_form.specs.Read.{told}
 
 -- the fault of what was read, if it has one, is so
 pub record IsSound {A : Type 0} (P : Fault → Type 0) (r : Result A Fault) : Type 0 where

@@ -9,10 +9,10 @@ use Rattle.json.specs.Json as json
 use Rattle.serde_json.specs.Data.{Num, Data, null, boolean, number, string, array, object, Items, no_items, item, Members, no_members, member, put}
 use Rattle.serde_json.specs.Find.{get_member, get_item, as_object}
 use Rattle.serde_json.specs.Read.{of_json, of_items, of_members, read, number_of}
-use Rattle.nm_reading.specs.declared.fault.Step.{Step}
-use Rattle.nm_reading.specs.declared.fault.Step.TheVariants.{Name, Item}
+use Rattle.nm_scenario_parts.specs.declared.fault.Step.{Step}
+use Rattle.nm_scenario_parts.specs.declared.fault.Step.TheVariants.{Name, Item}
 use Rattle.nm_scenario.specs.Scenario.{json_of}
-use Rattle.nm_form.specs.Places.{stepped, walked}
+use Rattle.nm_scenario_form.specs.Places.{stepped, walked}
 use Rattle.nm_refusals.specs.Told.{AllAbove, Ascending}
 
 mutual

@@ -6,13 +6,13 @@ use Rattle.serde_json.specs.Data.{Data}
 use Rattle.nm_proto.specs.Flat.{FlatState}
 use Rattle.nm_tree.specs.Nodes.{SchemaTree}
 use Rattle.nm_config.specs.Rows.{Rows}
-use Rattle.nm_flaws.specs.declared.fault.Fault.{Fault as SchemaFault}
-use Rattle.nm_flaws.specs.declared.fault.Fault.TheVariants.{Flawed, TooLarge}
+use Rattle.nm_schema_flaws.specs.declared.fault.Fault.{Fault as SchemaFault}
+use Rattle.nm_schema_flaws.specs.declared.fault.Fault.TheVariants.{Flawed, TooLarge}
 use Rattle.nm_proto.specs.declared.kind.ScenarioKind.TheVariants as kind
-use Rattle.nm_reading.specs.declared.fault.Fault.{Fault}
-use Rattle.nm_reading.specs.Reading.{here, required, optional, object_at, list_at, number_within, some_of, empty_list_at}
-use Rattle.nm_reading.specs.Words.{item_count}
-use Rattle.nm_events.specs.Limits.{device_limit, change_limit}
+use Rattle.nm_scenario_parts.specs.declared.fault.Fault.{Fault}
+use Rattle.nm_scenario_parts.specs.Reading.{here, required, optional, object_at, list_at, number_within, some_of, empty_list_at}
+use Rattle.nm_scenario_parts.specs.Words.{item_count}
+use Rattle.nm_scenario_events.specs.Limits.{device_limit, change_limit}
 use Rattle.nm_scenario.specs.declared.head.Form.{Form}
 use Rattle.nm_scenario.specs.declared.head.Form.TheVariants as form
 use Rattle.nm_scenario.specs.declared.head.Head.{Head}
@@ -22,7 +22,7 @@ use Rattle.nm_scenario.specs.declared.scenario.Scenario.{Scenario}
 use Rattle.nm_scenario.specs.declared.scenario.ReadChange.{ReadChange}
 use Rattle.nm_scenario.specs.Head.{form_at, modules_at, texts_of, yang_head_at, head_in, head_at}
 use Rattle.nm_scenario.specs.Flat.{flat_edit}
-use Rattle.nm_form.specs.Form.{Form as EditForm}
+use Rattle.nm_scenario_form.specs.Form.{Form as EditForm}
 use Rattle.nm_scenario.specs.Devices.{device_at, devices_at}
 use Rattle.nm_scenario.specs.Yang.{data_edit, yang_device_at, yang_devices_at}
 use Rattle.nm_scenario.specs.Changes.{change_at, changes_read_at}

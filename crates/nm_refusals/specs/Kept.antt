@@ -19,9 +19,9 @@ use Rattle.nm_rules.specs.Standing.{StandsIn}
 use Rattle.nm_check.specs.Told.{violation_told}
 use Rattle.nm_edit.specs.declared.edit.EditNode.{EditNode}
 use Rattle.nm_edit.specs.EditOf.{IsEditOf}
-use Rattle.nm_events.specs.declared.arguments.Counts.{Counts}
-use Rattle.nm_events.specs.Limits.{device_limit, change_limit, operator_limit, event_limit}
-use Rattle.nm_events.specs.Kept.{IsWithin, EventKeeps, weight}
+use Rattle.nm_scenario_events.specs.declared.arguments.Counts.{Counts}
+use Rattle.nm_scenario_events.specs.Limits.{device_limit, change_limit, operator_limit, event_limit}
+use Rattle.nm_scenario_events.specs.Kept.{IsWithin, EventKeeps, weight}
 use Rattle.nm_scenario.specs.declared.scenario.Body.{Body}
 use Rattle.nm_scenario.specs.declared.scenario.Body.TheVariants.{Flat, Yang}
 use Rattle.nm_scenario.specs.declared.scenario.Scenario.{Scenario}

@@ -1,7 +1,7 @@
 -- What stands where in a scenario (this project's own): the role of each part.
 use Rattle.std.specs.Prelude.{ℕ}
 use Rattle.nm_tree.specs.Nodes.{SchemaTree}
-use Rattle.nm_events.specs.declared.arguments.Counts.{Counts}
+use Rattle.nm_scenario_events.specs.declared.arguments.Counts.{Counts}
 
 -- how a configuration stands in JSON: as numbered cells, or as data of a schema tree (RFC 7951)
 pub data Contents : Type 0 where

@@ -3,10 +3,10 @@ use Rattle.std.specs.Prelude.{ℕ, zero, suc, ◌+◌, ◌-◌, ◌^◌, List, m
 use Rattle.serde_json.specs.Data.{Data}
 use Rattle.serde_json.specs.Find.{get, at}
 use Rattle.nm_tree.specs.Nodes.{SchemaTree}
-use Rattle.nm_reading.specs.declared.fault.Step.{Step}
-use Rattle.nm_reading.specs.declared.fault.Step.TheVariants.{Name, Item}
-use Rattle.nm_reading.specs.Reading.{natural_of}
-use Rattle.nm_events.specs.Limits.{device_limit}
+use Rattle.nm_scenario_parts.specs.declared.fault.Step.{Step}
+use Rattle.nm_scenario_parts.specs.declared.fault.Step.TheVariants.{Name, Item}
+use Rattle.nm_scenario_parts.specs.Reading.{natural_of}
+use Rattle.nm_scenario_events.specs.Limits.{device_limit}
 use Rattle.nm_scenario.specs.Counts.{count_in, counts_of}
 use Rattle.nm_refusals.specs.Roles.{Contents, cells, data_of, Frame, flat, yang, with_tree, Role}
 use Rattle.nm_refusals.specs.Roles as role

@@ -21,10 +21,10 @@ use Rattle.nm_edit_json.specs.Whole.{edit_read}
 use Rattle.nm_scenario.specs.Yang.{holds_marks}
 use Rattle.nm_proto.specs.declared.kind.ScenarioKind.{ScenarioKind}
 use Rattle.nm_proto.specs.declared.kind.ScenarioKind.TheVariants as kind
-use Rattle.nm_reading.specs.Reading.{natural_of}
-use Rattle.nm_reading.specs.Words.{item_count}
-use Rattle.nm_events.specs.Limits.{device_limit, change_limit, operator_limit}
-use Rattle.nm_events.specs.Events.{is_within}
+use Rattle.nm_scenario_parts.specs.Reading.{natural_of}
+use Rattle.nm_scenario_parts.specs.Words.{item_count}
+use Rattle.nm_scenario_events.specs.Limits.{device_limit, change_limit, operator_limit}
+use Rattle.nm_scenario_events.specs.Events.{is_within}
 use Rattle.nm_scenario.specs.Flat.{row_limit, node_limit, key_of, member_count, cells_at, is_change, all_members}
 use Rattle.nm_scenario.specs.Head.{module_limit}
 use Rattle.nm_scenario.specs.Operators.{user_limit}

@@ -4,13 +4,13 @@ ghost use Rattle.std.specs.Prelude.{◌≡◌, ◌↔◌, ℕ, List, true, Some,
 ghost use Rattle.json.specs.Json.{Json};
 ghost use Rattle.serde_json.specs.Data.{Data, Members};
 ghost use Rattle.serde_json.specs.Find.{as_object};
-ghost use Rattle.nm_reading.specs.declared.fault.Fault.{Fault};
+ghost use Rattle.nm_scenario_parts.specs.declared.fault.Fault.{Fault};
 ghost use Rattle.nm_proto.specs.declared.kind.ScenarioKind.{ScenarioKind};
 ghost use Rattle.nm_proto.specs.declared.kind.ScenarioKind.TheVariants.{Missing};
-ghost use Rattle.nm_reading.specs.declared.fault.Step.{Step};
+ghost use Rattle.nm_scenario_parts.specs.declared.fault.Step.{Step};
 ghost use Rattle.nm_scenario.specs.declared.scenario.Scenario.{Scenario};
 ghost use Rattle.nm_scenario.specs.Scenario.{Reads, ReadsBytes, json_of};
-ghost use Rattle.nm_form.specs.Places.{walked, LacksMember};
+ghost use Rattle.nm_scenario_form.specs.Places.{walked, LacksMember};
 ghost use Rattle.nm_refusals.specs.Told.{Ascending, TellsWhole, ToldOfWhole};
 ghost use Rattle.nm_refusals.specs.Kept.{ScenarioKeeps};
 ghost use Rattle.nm_refusals.specs.Order.{Reordered, Spells};

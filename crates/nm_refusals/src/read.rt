@@ -1,8 +1,8 @@
 //! Reading the scenario of bytes, with what is known of the answer.
 
 ghost use Rattle.std.specs.Prelude.{◌≡◌, IfOk, Err};
-ghost use Rattle.nm_reading.specs.declared.fault.Fault.{Fault as Refused};
-ghost use Rattle.nm_reading.specs.declared.fault.ReadError.TheVariants.{Bad};
+ghost use Rattle.nm_scenario_parts.specs.declared.fault.Fault.{Fault as Refused};
+ghost use Rattle.nm_scenario_parts.specs.declared.fault.ReadError.TheVariants.{Bad};
 ghost use Rattle.nm_scenario.specs.Scenario.{Answers, ReadsBytes};
 ghost use Rattle.nm_refusals.specs.Told.{ToldOfBytes};
 ghost use Rattle.nm_refusals.specs.Kept.{ScenarioKeeps};

@@ -3,11 +3,11 @@ use Rattle.std.proofs.Common.{◌≡◌, ℕ, List, Result, Ok, Err, refl, ap, s
 use Rattle.serde_json.specs.Data.{Data}
 use Rattle.nm_yang.specs.Tree.{Tree}
 use Rattle.nm_tree.specs.Nodes.{SchemaTree}
-use Rattle.nm_flaws.specs.declared.fault.Fault.{Fault as SchemaFault}
+use Rattle.nm_schema_flaws.specs.declared.fault.Fault.{Fault as SchemaFault}
 use Rattle.nm_schema.specs.Built.{Builds}
-use Rattle.nm_reading.specs.declared.fault.ReadError.{ReadError}
-use Rattle.nm_reading.specs.declared.fault.ReadError.TheVariants.{Bad, NoMemory}
-use Rattle.nm_reading.specs.Reading.{Gives, ◌>>=◌}
+use Rattle.nm_scenario_parts.specs.declared.fault.ReadError.{ReadError}
+use Rattle.nm_scenario_parts.specs.declared.fault.ReadError.TheVariants.{Bad, NoMemory}
+use Rattle.nm_scenario_parts.specs.Reading.{Gives, ◌>>=◌}
 use Rattle.nm_scenario.specs.declared.scenario.Scenario.{Scenario}
 use Rattle.nm_scenario.specs.declared.head.ReadModule.{ReadModule}
 use Rattle.nm_scenario.specs.Head.{texts_of, statements_of}

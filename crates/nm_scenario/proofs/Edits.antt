@@ -6,10 +6,10 @@ use Rattle.std.specs.FinMap.{FinMap, insert, empty}
 use Rattle.serde_json.specs.Data.{Members, no_members, member}
 use Rattle.nm_proto.specs.declared.flat.FlatEdit.{FlatEdit}
 use Rattle.nm_proto.specs.declared.kind.ScenarioKind.TheVariants.{Content, TooMany}
-use Rattle.nm_reading.specs.declared.fault.Fault.{Fault}
-use Rattle.nm_reading.specs.declared.fault.ReadError.{ReadError}
-use Rattle.nm_reading.specs.Reading.{◌>>=◌, Gives, here, plain}
-use Rattle.nm_form.specs.Read.{told}
+use Rattle.nm_scenario_parts.specs.declared.fault.Fault.{Fault}
+use Rattle.nm_scenario_parts.specs.declared.fault.ReadError.{ReadError}
+use Rattle.nm_scenario_parts.specs.Reading.{◌>>=◌, Gives, here, plain}
+use Rattle.nm_scenario_form.specs.Read.{told}
 use Rattle.nm_scenario.specs.Flat.{node_limit, key_of, change_of, or_unread, member_count, changes_read, flat_edit_read, is_change, all_members, changes_after, flat_edit_of}
 
 changes_one : (found : FinMap nat_cmp (Option ℕ)) (rest : Members)

@@ -8,12 +8,12 @@ use Rattle.nm_base.specs.Words.{default_timeout}
 use Rattle.nm_proto.specs.declared.message.DefaultOperation.TheVariants.{Merge}
 use Rattle.nm_proto.specs.declared.plan.ChangePlan.{ChangePlan}
 use Rattle.nm_proto.specs.declared.plan.PlannedEdit.{PlannedEdit}
-use Rattle.nm_reading.specs.declared.fault.Fault.{Fault}
-use Rattle.nm_reading.specs.Reading.{◌>>=◌, required, optional, object_at, only_known, list_at, natural_of, in_range, number_within, some_of}
-use Rattle.nm_events.specs.Limits.{change_limit, device_limit}
-use Rattle.nm_form.specs.Form.{Form}
-use Rattle.nm_form.specs.Read.{read}
-use Rattle.nm_events.specs.Arguments.{operation as default_operation}
+use Rattle.nm_scenario_parts.specs.declared.fault.Fault.{Fault}
+use Rattle.nm_scenario_parts.specs.Reading.{◌>>=◌, required, optional, object_at, only_known, list_at, natural_of, in_range, number_within, some_of}
+use Rattle.nm_scenario_events.specs.Limits.{change_limit, device_limit}
+use Rattle.nm_scenario_form.specs.Form.{Form}
+use Rattle.nm_scenario_form.specs.Read.{read}
+use Rattle.nm_scenario_events.specs.Arguments.{operation as default_operation}
 use Rattle.nm_scenario.specs.declared.scenario.ReadChange.{ReadChange}
 use Rattle.nm_scenario.specs.declared.scenario.ReadEdit.{ReadEdit}
 

@@ -2,8 +2,8 @@
 use Rattle.std.specs.Prelude.{ℕ, List, Option, Some, None, codes}
 use Rattle.serde_json.specs.Data.{Data}
 use Rattle.serde_json.specs.Find.{get}
-use Rattle.nm_reading.specs.Words.{item_count}
-use Rattle.nm_events.specs.declared.arguments.Counts.{Counts}
+use Rattle.nm_scenario_parts.specs.Words.{item_count}
+use Rattle.nm_scenario_events.specs.declared.arguments.Counts.{Counts}
 
 -- how many items a member has
 abbrev pub items_of : Option Data → ℕ

@@ -6,9 +6,9 @@ use Rattle.serde_json.specs.Data.{Data}
 use Rattle.nm_proto.specs.Content.{Refusal}
 use Rattle.nm_proto.specs.Flat.{FlatState, flat_violation}
 use Rattle.nm_proto.specs.declared.kind.ScenarioKind.TheVariants.{Invalid}
-use Rattle.nm_reading.specs.declared.fault.Fault.{Fault}
-use Rattle.nm_reading.specs.Reading.{◌>>=◌, here, required, object_at, only_known, list_at, some_of}
-use Rattle.nm_events.specs.Limits.{device_limit}
+use Rattle.nm_scenario_parts.specs.declared.fault.Fault.{Fault}
+use Rattle.nm_scenario_parts.specs.Reading.{◌>>=◌, here, required, object_at, only_known, list_at, some_of}
+use Rattle.nm_scenario_events.specs.Limits.{device_limit}
 use Rattle.nm_scenario.specs.Flat.{cells_at}
 
 abbrev pub knows_device : List ℕ → Bool

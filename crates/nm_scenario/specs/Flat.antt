@@ -7,10 +7,10 @@ use Rattle.serde_json.specs.Find.{as_u64, as_object}
 use Rattle.nm_base.specs.Decimal.{number_of}
 use Rattle.nm_proto.specs.declared.flat.FlatEdit.{FlatEdit}
 use Rattle.nm_proto.specs.declared.kind.ScenarioKind.TheVariants.{Content, TooMany}
-use Rattle.nm_reading.specs.declared.fault.Cause.{Cause}
-use Rattle.nm_reading.specs.declared.fault.Fault.{Fault}
-use Rattle.nm_reading.specs.Reading.{◌>>=◌, here, natural_of, plain}
-use Rattle.nm_form.specs.Form.{Form, leaf}
+use Rattle.nm_scenario_parts.specs.declared.fault.Cause.{Cause}
+use Rattle.nm_scenario_parts.specs.declared.fault.Fault.{Fault}
+use Rattle.nm_scenario_parts.specs.Reading.{◌>>=◌, here, natural_of, plain}
+use Rattle.nm_scenario_form.specs.Form.{Form, leaf}
 
 -- the greatest number of rows of one device, and of nodes of one edit
 abbrev pub row_limit : ℕ

@@ -7,8 +7,8 @@ use Rattle.nm_yang.specs.Tree.{Tree}
 use Rattle.nm_yang.specs.Module.{reading}
 use Rattle.nm_yang.specs.declared.fault.Fault.{Fault as TextFault}
 use Rattle.nm_proto.specs.declared.kind.ScenarioKind.TheVariants as kind
-use Rattle.nm_reading.specs.declared.fault.Fault.{Fault}
-use Rattle.nm_reading.specs.Reading.{◌>>=◌, here, required, optional, object_at, list_at, number_within}
+use Rattle.nm_scenario_parts.specs.declared.fault.Fault.{Fault}
+use Rattle.nm_scenario_parts.specs.Reading.{◌>>=◌, here, required, optional, object_at, list_at, number_within}
 use Rattle.nm_scenario.specs.declared.head.Form.{Form}
 use Rattle.nm_scenario.specs.declared.head.Form.TheVariants as form
 use Rattle.nm_scenario.specs.declared.head.Head.{Head}

@@ -1,6 +1,6 @@
 -- What is numbered in a scenario: the edits of its change sets and then those of its events, and its selections (this project's own).
 use Rattle.std.specs.Prelude.{List, ◌++◌, length}
-use Rattle.nm_events.specs.Numbered.{events_from, edits_of_events, selects_of_events}
+use Rattle.nm_scenario_events.specs.Numbered.{events_from, edits_of_events, selects_of_events}
 use Rattle.nm_scenario.specs.declared.numbering.Numbered.{Numbered}
 use Rattle.nm_scenario.specs.declared.scenario.ReadChange.{ReadChange}
 use Rattle.nm_scenario.specs.declared.rest.Rest.{Rest}

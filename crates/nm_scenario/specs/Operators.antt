@@ -5,9 +5,9 @@ use Rattle.serde_json.specs.Data.{Data}
 use Rattle.serde_json.specs.Find.{as_str}
 use Rattle.nm_base.specs.Words.{manager}
 use Rattle.nm_proto.specs.declared.kind.ScenarioKind.TheVariants.{NotBuilt, BadValue}
-use Rattle.nm_reading.specs.declared.fault.Fault.{Fault}
-use Rattle.nm_reading.specs.Reading.{◌>>=◌, here, required, optional, object_at, only_known, list_at, empty_list_at}
-use Rattle.nm_events.specs.Limits.{operator_limit}
+use Rattle.nm_scenario_parts.specs.declared.fault.Fault.{Fault}
+use Rattle.nm_scenario_parts.specs.Reading.{◌>>=◌, here, required, optional, object_at, only_known, list_at, empty_list_at}
+use Rattle.nm_scenario_events.specs.Limits.{operator_limit}
 
 -- the greatest length of a user's name, in bytes
 abbrev pub user_limit : ℕ

@@ -5,18 +5,18 @@ use Rattle.std.specs.Str.{bytes_eq, is_utf8}
 use Rattle.serde_json.specs.Data.{Data}
 use Rattle.serde_json.specs.Read.{read}
 use Rattle.nm_tree.specs.Nodes.{SchemaTree}
-use Rattle.nm_flaws.specs.declared.fault.Fault.{Fault as SchemaFault}
-use Rattle.nm_flaws.specs.declared.fault.Fault.TheVariants.{Flawed, TooLarge}
+use Rattle.nm_schema_flaws.specs.declared.fault.Fault.{Fault as SchemaFault}
+use Rattle.nm_schema_flaws.specs.declared.fault.Fault.TheVariants.{Flawed, TooLarge}
 use Rattle.nm_schema.specs.Built.{Builds}
 use Rattle.nm_proto.specs.declared.kind.ScenarioKind.TheVariants as kind
-use Rattle.nm_reading.specs.declared.fault.Step.TheVariants.{Name, Item}
-use Rattle.nm_reading.specs.declared.fault.Fault.{Fault}
-use Rattle.nm_reading.specs.declared.fault.ReadError.{ReadError}
-use Rattle.nm_reading.specs.declared.fault.ReadError.TheVariants as error
-use Rattle.nm_reading.specs.Reading.{◌>>=◌, here, there, under, required, optional, only_known, empty_list_at, switch_at}
-use Rattle.nm_form.specs.Form.{Form}
-use Rattle.nm_form.specs.Read.{read as form_read}
-use Rattle.nm_events.specs.Events.{events_form}
+use Rattle.nm_scenario_parts.specs.declared.fault.Step.TheVariants.{Name, Item}
+use Rattle.nm_scenario_parts.specs.declared.fault.Fault.{Fault}
+use Rattle.nm_scenario_parts.specs.declared.fault.ReadError.{ReadError}
+use Rattle.nm_scenario_parts.specs.declared.fault.ReadError.TheVariants as error
+use Rattle.nm_scenario_parts.specs.Reading.{◌>>=◌, here, there, under, required, optional, only_known, empty_list_at, switch_at}
+use Rattle.nm_scenario_form.specs.Form.{Form}
+use Rattle.nm_scenario_form.specs.Read.{read as form_read}
+use Rattle.nm_scenario_events.specs.Events.{events_form}
 use Rattle.nm_scenario.specs.declared.scenario.Body.{Body}
 use Rattle.nm_scenario.specs.declared.scenario.Body.TheVariants.{Flat, Yang}
 use Rattle.nm_scenario.specs.declared.scenario.Scenario.{Scenario}

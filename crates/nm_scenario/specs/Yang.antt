@@ -15,11 +15,11 @@ use Rattle.nm_check.specs.Told.{violation_told}
 use Rattle.nm_edit.specs.declared.edit.EditNode.{EditNode}
 use Rattle.nm_edit_json.specs.Whole.{edit_read}
 use Rattle.nm_content.specs.Mark.{changes_step}
-use Rattle.nm_reading.specs.declared.fault.Cause.{Cause}
-use Rattle.nm_reading.specs.declared.fault.Fault.{Fault}
-use Rattle.nm_reading.specs.Reading.{◌>>=◌, here, plain, required, object_at, only_known, list_at, some_of}
-use Rattle.nm_form.specs.Form.{Form, leaf}
-use Rattle.nm_events.specs.Limits.{device_limit}
+use Rattle.nm_scenario_parts.specs.declared.fault.Cause.{Cause}
+use Rattle.nm_scenario_parts.specs.declared.fault.Fault.{Fault}
+use Rattle.nm_scenario_parts.specs.Reading.{◌>>=◌, here, plain, required, object_at, only_known, list_at, some_of}
+use Rattle.nm_scenario_form.specs.Form.{Form, leaf}
+use Rattle.nm_scenario_events.specs.Limits.{device_limit}
 use Rattle.nm_scenario.specs.Devices.{knows_device}
 
 -- ---- running configurations

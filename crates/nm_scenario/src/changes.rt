@@ -1,20 +1,20 @@
 ghost use Rattle.std.specs.Prelude.{◌≡◌, ◌-◌, ◌^◌, ◌≤◌, min};
-ghost use Rattle.nm_reading.specs.Reading.{number_within};
-ghost use Rattle.nm_events.specs.Limits.{device_limit};
+ghost use Rattle.nm_scenario_parts.specs.Reading.{number_within};
+ghost use Rattle.nm_scenario_events.specs.Limits.{device_limit};
 ghost use Rattle.nm_scenario.specs.Changes.{knows_change, knows_edit, last_device, device_within, entry_at, entries_at, change_at, changes_read_at};
 
 use crate::scenario::{ReadChange, ReadEdit};
 use nm_base::{DEFAULT_TIMEOUT, DeviceNo};
-use nm_events::Operation;
-use nm_events::limits::{CHANGE_LIMIT, DEVICE_LIMIT};
-use nm_form::{ByForm, Reader as FormReader};
 use nm_proto::{DefaultOperation, Listed};
-use nm_reading::reader::{
+use nm_scenario_events::Operation;
+use nm_scenario_events::limits::{CHANGE_LIMIT, DEVICE_LIMIT};
+use nm_scenario_form::{ByForm, Reader as FormReader};
+use nm_scenario_parts::reader::{
     ItemReader, Names, Reader, fault_here, optional_member, read_list, read_object,
     read_only_known, required_member,
 };
-use nm_reading::values::at_least_one;
-use nm_reading::{ReadError, ScenarioKind};
+use nm_scenario_parts::values::at_least_one;
+use nm_scenario_parts::{ReadError, ScenarioKind};
 use serde_json::Value;
 use std::alloc::Global;
 
@@ -163,7 +163,7 @@ impl Reader for Timeout {
 
     ghost reads = { λ _. number_within 1 (2 ^ 32 - 1) };
 
-    #[tactic(auto, unfolding(nm_reading::specs::Reading::number_within))]
+    #[tactic(auto, unfolding(nm_scenario_parts::specs::Reading::number_within))]
     fn read(&self, alloc: Global, part: &Value) -> Result<u32, ReadError> {
         match part.as_u64() {
             Some(number) if 1 <= number && number <= u64::from(u32::MAX) => Ok(number as u32),

@@ -1,17 +1,17 @@
 ghost use Rattle.std.specs.Prelude.{◌≡◌};
 ghost use Rattle.serde_json.specs.View.{view};
 ghost use Rattle.nm_proto.specs.Flat.{flat_violation};
-ghost use Rattle.nm_reading.specs.Reading.{Gives};
+ghost use Rattle.nm_scenario_parts.specs.Reading.{Gives};
 ghost use Rattle.nm_scenario.specs.Devices.{knows_device, running_at, device_at, devices_at, valid_only};
 
 use crate::flat::read_cells;
-use nm_events::limits::DEVICE_LIMIT;
 use nm_proto::{CheckFault, Content, FlatConfig, FlatContent, Listed};
-use nm_reading::reader::{
+use nm_scenario_events::limits::DEVICE_LIMIT;
+use nm_scenario_parts::reader::{
     ItemReader, Names, Reader, fault_here, read_list, read_object, read_only_known, required_member,
 };
-use nm_reading::values::at_least_one;
-use nm_reading::{ReadError, ScenarioKind};
+use nm_scenario_parts::values::at_least_one;
+use nm_scenario_parts::{ReadError, ScenarioKind};
 use serde_json::Value;
 use std::alloc::Global;
 

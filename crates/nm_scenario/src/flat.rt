@@ -1,15 +1,15 @@
 ghost use Rattle.std.specs.Prelude.{◌≡◌, ℕ, if◌then◌else◌, nat_lt, Some, string_bytes};
 ghost use Rattle.std.specs.FinMap.{empty};
 ghost use Rattle.serde_json.specs.View.{view, members_view};
-ghost use Rattle.nm_reading.specs.Reading.{Gives, here, natural_of};
-ghost use Rattle.nm_form.specs.Read.{told};
+ghost use Rattle.nm_scenario_parts.specs.Reading.{Gives, here, natural_of};
+ghost use Rattle.nm_scenario_form.specs.Read.{told};
 ghost use Rattle.nm_scenario.specs.Flat.{flat_edit, flat_edit_of, flat_edit_read, row_limit, key_of, change_of, or_unread, member_count, cells_after, cells_at, changes_read};
 
 use nm_base::read_decimal;
-use nm_form::Reader;
 use nm_proto::{FlatEdit, NumberMap};
-use nm_reading::reader::fault_here;
-use nm_reading::{ReadError, ScenarioKind};
+use nm_scenario_form::Reader;
+use nm_scenario_parts::reader::fault_here;
+use nm_scenario_parts::{ReadError, ScenarioKind};
 use serde_json::{Map, Value};
 use std::alloc::Global;
 

@@ -1,7 +1,7 @@
 //! A scenario of flat contents, after its head.
 
 ghost use Rattle.serde_json.specs.View.{view};
-ghost use Rattle.nm_reading.specs.Reading.{Gives};
+ghost use Rattle.nm_scenario_parts.specs.Reading.{Gives};
 ghost use Rattle.nm_scenario.specs.Scenario.{flat_scenario_at};
 
 use crate::devices::Devices;
@@ -9,9 +9,9 @@ use crate::flat::FlatEdits;
 use crate::numbering::{Numbered, number_all};
 use crate::rest::{read_changes, read_rest};
 use crate::scenario::{Body, Scenario};
-use nm_reading::reader::{optional_member, required_member};
-use nm_reading::values::EmptyList;
-use nm_reading::{ReadError, ScenarioKind};
+use nm_scenario_parts::reader::{optional_member, required_member};
+use nm_scenario_parts::values::EmptyList;
+use nm_scenario_parts::{ReadError, ScenarioKind};
 use serde_json::Value;
 use std::alloc::Global;
 

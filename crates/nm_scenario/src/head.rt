@@ -3,16 +3,16 @@
 ghost use Rattle.std.specs.Prelude.{◌≡◌, IfOk};
 ghost use Rattle.serde_json.specs.View.{view};
 ghost use Rattle.nm_yang.specs.Module.{reading};
-ghost use Rattle.nm_reading.specs.Reading.{Gives};
+ghost use Rattle.nm_scenario_parts.specs.Reading.{Gives};
 ghost use Rattle.nm_scenario.specs.Head.{form_at, head_at, head_in, module_at, module_read, modules_at, statements_of, texts_of, yang_head_at};
 
 use nm_base::{Label, NoMemory};
 use nm_proto::Listed;
-use nm_reading::reader::{
+use nm_scenario_parts::reader::{
     ItemReader, Reader, fault_here, optional_member, read_list, read_object, required_member,
 };
-use nm_reading::values::NumberWithin;
-use nm_reading::{ReadError, ScenarioKind};
+use nm_scenario_parts::values::NumberWithin;
+use nm_scenario_parts::{ReadError, ScenarioKind};
 use nm_yang::{Statement, YangFault, read_module};
 use serde_json::Value;
 use std::alloc::Global;

@@ -1,7 +1,7 @@
 //! Laws of reading. Each function does nothing: its contract is the law.
 
 ghost use Rattle.std.specs.Prelude.{◌≡◌, ℕ, List, Result};
-ghost use Rattle.nm_reading.specs.declared.fault.Fault.{Fault};
+ghost use Rattle.nm_scenario_parts.specs.declared.fault.Fault.{Fault};
 ghost use Rattle.nm_scenario.specs.declared.scenario.Scenario.{Scenario};
 ghost use Rattle.nm_scenario.specs.Scenario.{ReadsBytes};
 

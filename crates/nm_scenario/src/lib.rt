@@ -1,7 +1,7 @@
 //! The scenario of a run, read from JSON: contents, change sets, operators and events, or the first fault with its kind and
 //! place.
 //!
-//! Stands on the messages and the flat contents of `nm_proto`, on `nm_reading` and `nm_events`, which read the parts of JSON
+//! Stands on the messages and the flat contents of `nm_proto`, on `nm_scenario_parts` and `nm_scenario_events`, which read the parts of JSON
 //! values and events, and for YANG contents on `nm_yang`, `nm_schema`, `nm_json`, `nm_edit_json` and `nm_check`. The layer
 //! above relies on `read_scenario`, which answers what `specs/Scenario.antt` reads of the bytes.
 #![tactic(auto)]
@@ -18,10 +18,8 @@ mod operators;
 mod read;
 mod rest;
 pub mod scenario;
-#[cfg(test)]
-mod tests;
 mod yang;
 
-pub use nm_reading::{Fault, ReadError, ScenarioKind, Step};
+pub use nm_scenario_parts::{Fault, ReadError, ScenarioKind, Step};
 pub use read::{BYTE_LIMIT, read_scenario};
 pub use scenario::{Body, Scenario};

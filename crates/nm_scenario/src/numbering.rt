@@ -7,8 +7,8 @@ ghost use Rattle.nm_scenario.specs.Numbered as spec;
 use crate::rest::Rest;
 use crate::scenario::{ReadChange, ReadEdit};
 use nm_base::{Label, NoMemory};
-use nm_events::{edit_number, with_event_numbers};
 use nm_proto::{ChangePlan, Event, Listed, PlannedEdit};
+use nm_scenario_events::{edit_number, with_event_numbers};
 use std::alloc::Global;
 
 /// A scenario but for its contents: what is numbered there, and the edits in the order of their numbers.

@@ -1,16 +1,16 @@
 ghost use Rattle.std.specs.Prelude.{Some};
-ghost use Rattle.nm_reading.specs.Reading.{Gives};
+ghost use Rattle.nm_scenario_parts.specs.Reading.{Gives};
 ghost use Rattle.nm_scenario.specs.Operators.{knows_operator, user_of, user_at, operator_at, operators_at};
 
 use nm_base::{Label, MANAGER};
-use nm_events::limits::OPERATOR_LIMIT;
 use nm_proto::Listed;
-use nm_reading::reader::{
+use nm_scenario_events::limits::OPERATOR_LIMIT;
+use nm_scenario_parts::reader::{
     ItemReader, Names, Reader, fault_here, optional_member, read_list, read_object,
     read_only_known, required_member,
 };
-use nm_reading::values::EmptyList;
-use nm_reading::{ReadError, ScenarioKind};
+use nm_scenario_parts::values::EmptyList;
+use nm_scenario_parts::{ReadError, ScenarioKind};
 use serde_json::Value;
 use std::alloc::Global;
 

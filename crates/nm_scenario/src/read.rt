@@ -2,17 +2,17 @@
 
 ghost use Rattle.std.specs.Prelude.{◌≡◌, IfOk, Ok, Err};
 ghost use Rattle.serde_json.specs.View.{view};
-ghost use Rattle.nm_reading.specs.declared.fault.Fault.{Fault as Told};
-ghost use Rattle.nm_reading.specs.declared.fault.ReadError.TheVariants.{Bad};
-ghost use Rattle.nm_reading.specs.Reading.{Gives};
+ghost use Rattle.nm_scenario_parts.specs.declared.fault.Fault.{Fault as Told};
+ghost use Rattle.nm_scenario_parts.specs.declared.fault.ReadError.TheVariants.{Bad};
+ghost use Rattle.nm_scenario_parts.specs.Reading.{Gives};
 ghost use Rattle.nm_scenario.specs.Scenario.{Answers, Reads, ReadsBytes, json_of, parsed, whole_of};
 
 use crate::flat_scenario::read_flat;
 use crate::head::{Head, read_head};
 use crate::scenario::Scenario;
 use crate::yang::read_yang;
-use nm_reading::reader::fault_here;
-use nm_reading::{ReadError, ScenarioKind};
+use nm_scenario_parts::reader::fault_here;
+use nm_scenario_parts::{ReadError, ScenarioKind};
 use serde_json::Value;
 use std::alloc::Global;
 

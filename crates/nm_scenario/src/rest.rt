@@ -2,7 +2,7 @@
 
 ghost use Rattle.std.specs.Prelude.{◌≡◌};
 ghost use Rattle.serde_json.specs.View.{view};
-ghost use Rattle.nm_reading.specs.Reading.{Gives};
+ghost use Rattle.nm_scenario_parts.specs.Reading.{Gives};
 ghost use Rattle.nm_scenario.specs.Counts.{count_in, counts_of};
 ghost use Rattle.nm_scenario.specs.Scenario.{changes_in, knows_scenario, rest_at};
 
@@ -10,13 +10,13 @@ use crate::changes::Changes;
 use crate::operators::Operators;
 use crate::scenario::ReadChange;
 use nm_base::Label;
-use nm_events::{Counts, Events, ReadEvent};
-use nm_form::{ByForm, Reader};
 use nm_proto::Listed;
-use nm_reading::reader::{Names, optional_member, read_only_known};
-use nm_reading::values::{EmptyList, Switch};
-use nm_reading::words::item_count;
-use nm_reading::{ReadError, ScenarioKind};
+use nm_scenario_events::{Counts, Events, ReadEvent};
+use nm_scenario_form::{ByForm, Reader};
+use nm_scenario_parts::reader::{Names, optional_member, read_only_known};
+use nm_scenario_parts::values::{EmptyList, Switch};
+use nm_scenario_parts::words::item_count;
+use nm_scenario_parts::{ReadError, ScenarioKind};
 use serde_json::Value;
 use std::alloc::Global;
 

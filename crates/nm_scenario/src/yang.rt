@@ -1,7 +1,7 @@
 //! A scenario of YANG contents, after its head.
 
 ghost use Rattle.serde_json.specs.View.{view};
-ghost use Rattle.nm_reading.specs.Reading.{Gives};
+ghost use Rattle.nm_scenario_parts.specs.Reading.{Gives};
 ghost use Rattle.nm_scenario.specs.Yang.{yang_device_at, yang_devices_at};
 ghost use Rattle.nm_scenario.specs.Scenario.{Answers, ReadsYang, at_module, yang_rest_at};
 
@@ -14,14 +14,14 @@ use crate::scenario::{Body, Scenario};
 use nm_base::Label;
 use nm_config::Config;
 use nm_content::{YangContent, yang_content};
-use nm_events::limits::DEVICE_LIMIT;
 use nm_proto::Listed;
-use nm_reading::reader::{
+use nm_scenario_events::limits::DEVICE_LIMIT;
+use nm_scenario_parts::reader::{
     ItemReader, Reader, fault_at, read_list, read_object, read_only_known, required_member,
     seen_from_outside,
 };
-use nm_reading::values::at_least_one;
-use nm_reading::{ReadError, ScenarioKind, Step};
+use nm_scenario_parts::values::at_least_one;
+use nm_scenario_parts::{ReadError, ScenarioKind, Step};
 use nm_schema::{SchemaFault, build};
 use serde_json::Value;
 use std::alloc::Global;

@@ -4,40 +4,40 @@ use Rattle.std.specs.Prelude.{Contains, ⊤}
 use Rattle.std.specs.Option.{option_and_then}
 use Rattle.std.specs.List.{position_from}
 use Rattle.std.proofs.lemmas.Option.{same_Some}
-use Rattle.nm_grammar.specs.declared.row.Row.{Row}
-use Rattle.nm_grammar.specs.declared.word.Word.{Word}
-use Rattle.nm_grammar.specs.declared.word.Word.TheVariants as word
-use Rattle.nm_grammar.specs.Rows.{roots, module_at}
+use Rattle.nm_schema_rows.specs.declared.row.Row.{Row}
+use Rattle.nm_schema_rows.specs.declared.word.Word.{Word}
+use Rattle.nm_schema_rows.specs.declared.word.Word.TheVariants as word
+use Rattle.nm_schema_rows.specs.Rows.{roots, module_at}
 use Rattle.nm_graph.specs.Value.{strict, all_there}
-use Rattle.nm_names.specs.Named.{prefix_leads}
+use Rattle.nm_schema_names.specs.Named.{prefix_leads}
 use Rattle.nm_types.specs.LeafType.{TypeOfLeaf}
-use Rattle.nm_shape.specs.Config.{LeadsBy}
-use Rattle.nm_shape.specs.Worth.{worth_within, worth_of}
-use Rattle.nm_typing.specs.declared.leafref.NodeName.{NodeName}
-use Rattle.nm_typing.specs.declared.leafref.Start.{Start}
-use Rattle.nm_typing.specs.declared.leafref.Start.TheVariants.{Root, Up}
-use Rattle.nm_typing.specs.Leafref.{LeafrefPath}
-use Rattle.nm_typing.specs.TypeGraph.{is_typed, leads}
-use Rattle.nm_typing.specs.Meaning.{Meaning, plain, reference}
-use Rattle.nm_typing.specs.Along.{meaning_of}
-use Rattle.nm_expansion.specs.declared.instance.Instance.{Instance}
-use Rattle.nm_expansion.specs.Expansion.{Expanded, row_in, row_of, owner_in, owner_of}
-use Rattle.nm_expansion.specs.Named.{is_child_named, is_top_named, child_named, top_named}
-use Rattle.nm_expansion.proofs.Unfolding.{split}
+use Rattle.nm_schema_shape.specs.Config.{LeadsBy}
+use Rattle.nm_schema_shape.specs.Worth.{worth_within, worth_of}
+use Rattle.nm_schema_typing.specs.declared.leafref.NodeName.{NodeName}
+use Rattle.nm_schema_typing.specs.declared.leafref.Start.{Start}
+use Rattle.nm_schema_typing.specs.declared.leafref.Start.TheVariants.{Root, Up}
+use Rattle.nm_schema_typing.specs.Leafref.{LeafrefPath}
+use Rattle.nm_schema_typing.specs.TypeGraph.{is_typed, leads}
+use Rattle.nm_schema_typing.specs.Meaning.{Meaning, plain, reference}
+use Rattle.nm_schema_typing.specs.Along.{meaning_of}
+use Rattle.nm_schema_expansion.specs.declared.instance.Instance.{Instance}
+use Rattle.nm_schema_expansion.specs.Expansion.{Expanded, row_in, row_of, owner_in, owner_of}
+use Rattle.nm_schema_expansion.specs.Named.{is_child_named, is_top_named, child_named, top_named}
+use Rattle.nm_schema_expansion.proofs.Unfolding.{split}
 use Rattle.nm_tree.proofs.Positions.{first_passes}
-use Rattle.nm_leafref.specs.declared.led.Led.{Led}
-use Rattle.nm_leafref.specs.declared.led.Led.TheVariants as led
-use Rattle.nm_leafref.specs.declared.led.Spot.{Spot}
-use Rattle.nm_leafref.specs.declared.led.Spot.TheVariants as spot
-use Rattle.nm_leafref.specs.declared.fault.PathFault.{PathFault}
-use Rattle.nm_leafref.specs.declared.fault.PathFault.TheVariants as fault
-use Rattle.nm_leafref.specs.Place.{parent_in, parent_of, is_leaf, is_leaf_in, is_leaf_at, is_leaf_node, is_known_node, is_known_module, is_of_module}
-use Rattle.nm_leafref.specs.Walk.{spot_at, above, raised, begun, module_led, named_module, found_or, into_module, into_node, down, stepped, walked, ended, led_along, path_at, path_row_of, meaning_at, path_row, led_if, led_by, led_from, led_to}
-use Rattle.nm_leafref.specs.Target.{target_in, targets, plain_in, plain_type, plain_at, type_step, type_of_node}
-use Rattle.nm_leafref.specs.Fault.{IsSound, HasFault, flaw_from, flaw_in}
-use Rattle.nm_leafref.proofs.Faults.{leads_nowhere}
-use Rattle.nm_flaws.specs.Facts.{Facts, AreFacts, definitions, tree}
-use Rattle.nm_flaws.specs.Flaw.{path_flaw}
+use Rattle.nm_schema_leafref.specs.declared.led.Led.{Led}
+use Rattle.nm_schema_leafref.specs.declared.led.Led.TheVariants as led
+use Rattle.nm_schema_leafref.specs.declared.led.Spot.{Spot}
+use Rattle.nm_schema_leafref.specs.declared.led.Spot.TheVariants as spot
+use Rattle.nm_schema_leafref.specs.declared.fault.PathFault.{PathFault}
+use Rattle.nm_schema_leafref.specs.declared.fault.PathFault.TheVariants as fault
+use Rattle.nm_schema_leafref.specs.Place.{parent_in, parent_of, is_leaf, is_leaf_in, is_leaf_at, is_leaf_node, is_known_node, is_known_module, is_of_module}
+use Rattle.nm_schema_leafref.specs.Walk.{spot_at, above, raised, begun, module_led, named_module, found_or, into_module, into_node, down, stepped, walked, ended, led_along, path_at, path_row_of, meaning_at, path_row, led_if, led_by, led_from, led_to}
+use Rattle.nm_schema_leafref.specs.Target.{target_in, targets, plain_in, plain_type, plain_at, type_step, type_of_node}
+use Rattle.nm_schema_leafref.specs.Fault.{IsSound, HasFault, flaw_from, flaw_in}
+use Rattle.nm_schema_leafref.proofs.Faults.{leads_nowhere}
+use Rattle.nm_schema_flaws.specs.Facts.{Facts, AreFacts, definitions, tree}
+use Rattle.nm_schema_flaws.specs.Flaw.{path_flaw}
 use Rattle.nm_schema.specs.Faultless.{AreFaultless}
 use Rattle.nm_schema.proofs.Elements.{nothing, first_or_later}
 use Rattle.nm_schema.proofs.Faultless.{within}

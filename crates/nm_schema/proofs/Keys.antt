@@ -4,23 +4,23 @@ use Rattle.std.specs.Prelude.{Contains, is_some, is_none}
 use Rattle.std.specs.List.{find}
 use Rattle.std.proofs.lemmas.Grind.{common_steps}
 use Rattle.std.proofs.lemmas.Bool.{and_parts}
-use Rattle.nm_grammar.specs.declared.row.Row.{Row}
-use Rattle.nm_grammar.specs.declared.word.Word.{Word}
-use Rattle.nm_grammar.specs.declared.word.Word.TheVariants as word
-use Rattle.nm_grammar.specs.declared.flaw.Flaw.{Flaw}
-use Rattle.nm_grammar.specs.Word.{same_word}
-use Rattle.nm_grammar.specs.Flaw.{text_of}
-use Rattle.nm_grammar.specs.Rows.{has_word, first_with, first_below, children}
+use Rattle.nm_schema_rows.specs.declared.row.Row.{Row}
+use Rattle.nm_schema_rows.specs.declared.word.Word.{Word}
+use Rattle.nm_schema_rows.specs.declared.word.Word.TheVariants as word
+use Rattle.nm_schema_rows.specs.declared.flaw.Flaw.{Flaw}
+use Rattle.nm_schema_rows.specs.Word.{same_word}
+use Rattle.nm_schema_rows.specs.Flaw.{text_of}
+use Rattle.nm_schema_rows.specs.Rows.{has_word, first_with, first_below, children}
 use Rattle.nm_types.specs.Spells.{IsOnce}
-use Rattle.nm_shape.specs.Arguments.{argument_at}
-use Rattle.nm_shape.specs.Passing.{plain_members}
-use Rattle.nm_keys.specs.declared.found.Found.{Found}
-use Rattle.nm_keys.specs.declared.found.Found.TheVariants as found
-use Rattle.nm_keys.specs.Standing.{Standing, loses_state, is_lost}
-use Rattle.nm_keys.specs.Words.{own_name, words_of}
-use Rattle.nm_keys.specs.Found.{is_called, row_or_missing, is_fit, fitting, named_among, fit_among}
-use Rattle.nm_keys.specs.Said.{Said, said_within, said_in, said_at}
-use Rattle.nm_keys.specs.Keys.{key_leaf, has_row, word_flaw, row_found, words_flaw, leafs_named, key_words_flaw, key_words_leafs, said_keys, keys_at, keys_of}
+use Rattle.nm_schema_shape.specs.Arguments.{argument_at}
+use Rattle.nm_schema_shape.specs.Passing.{plain_members}
+use Rattle.nm_schema_keys.specs.declared.found.Found.{Found}
+use Rattle.nm_schema_keys.specs.declared.found.Found.TheVariants as found
+use Rattle.nm_schema_keys.specs.Standing.{Standing, loses_state, is_lost}
+use Rattle.nm_schema_keys.specs.Words.{own_name, words_of}
+use Rattle.nm_schema_keys.specs.Found.{is_called, row_or_missing, is_fit, fitting, named_among, fit_among}
+use Rattle.nm_schema_keys.specs.Said.{Said, said_within, said_in, said_at}
+use Rattle.nm_schema_keys.specs.Keys.{key_leaf, has_row, word_flaw, row_found, words_flaw, leafs_named, key_words_flaw, key_words_leafs, said_keys, keys_at, keys_of}
 use Rattle.nm_schema.proofs.Elements.{here, later, nothing, first_or_later, of_map, finds_some}
 use Rattle.nm_schema.proofs.Onces.{same_bytes}
 use Rattle.nm_schema.proofs.Faultless.{or_none}

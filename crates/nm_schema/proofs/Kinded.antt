@@ -2,30 +2,30 @@
 use Rattle.std.proofs.Common.{◌≡◌, ◌<◌, ℕ, ℤ, zero, suc, List, [], ◌∷◌, length, map, Bool, true, false, cond, Option, Some, None, Result, Ok, Err, slice_get, refl, sym, subst}
 use Rattle.std.specs.Prelude.{is_some, is_none, ⊤}
 use Rattle.std.specs.Option.{option_and_then}
-use Rattle.nm_grammar.specs.declared.row.Row.{Row}
-use Rattle.nm_grammar.specs.declared.word.Word.TheVariants as word
-use Rattle.nm_grammar.specs.Rows.{first_below}
+use Rattle.nm_schema_rows.specs.declared.row.Row.{Row}
+use Rattle.nm_schema_rows.specs.declared.word.Word.TheVariants as word
+use Rattle.nm_schema_rows.specs.Rows.{first_below}
 use Rattle.nm_graph.specs.Value.{strict, all_there}
 use Rattle.nm_types.specs.LeafType.{Kind, TypeOfLeaf}
-use Rattle.nm_derive.specs.declared.names.BuiltIn.{BuiltIn}
-use Rattle.nm_derive.specs.declared.names.BuiltIn.TheVariants.{Leafref}
-use Rattle.nm_derive.specs.declared.members.Listed.{Listed}
-use Rattle.nm_derive.specs.declared.members.Member.{Member}
-use Rattle.nm_derive.specs.declared.members.Numbering.TheVariants.{Values, Positions}
-use Rattle.nm_derive.specs.declared.members.ListFault.{ListFault}
-use Rattle.nm_derive.specs.declared.derived.StepFault.{StepFault}
-use Rattle.nm_derive.specs.declared.derived.Lacking.{Lacking}
-use Rattle.nm_derive.specs.Members.{members_of}
-use Rattle.nm_derive.specs.Built.{Built, Derivation}
-use Rattle.nm_derive.specs.Built as built
-use Rattle.nm_derive.specs.Kinds.{kind_made, with_limits, leaf_type_of}
-use Rattle.nm_derive.specs.Step.{start, limited, digits_put, digits_read, digits_on, range_on, length_on, names_on, bits_on, named, flagged, lacking}
-use Rattle.nm_derive.specs.Restricted.{digits_if, range_if, length_if, names_if, bits_if}
-use Rattle.nm_typing.specs.Restricting.{TypeRestrictions, restrictions_of}
-use Rattle.nm_typing.specs.TypeGraph.{is_typed, is_type, leads}
-use Rattle.nm_typing.specs.Meaning.{Meaning, plain, reference, then_bits, then_names, then_length, then_range, restricted, is_unrestricted, whole, restricted_at, is_path, leads_to, leafref_at, kept_at, narrowed_at, is_leafref, bare, built_in_at, built_in_named, type_meaning, meaning_from, meaning_at, first_known, meaning_step}
-use Rattle.nm_typing.specs.Along.{within as within_steps, meaning_of}
-use Rattle.nm_expansion.proofs.Unfolding.{split}
+use Rattle.nm_schema_derive.specs.declared.names.BuiltIn.{BuiltIn}
+use Rattle.nm_schema_derive.specs.declared.names.BuiltIn.TheVariants.{Leafref}
+use Rattle.nm_schema_derive.specs.declared.members.Listed.{Listed}
+use Rattle.nm_schema_derive.specs.declared.members.Member.{Member}
+use Rattle.nm_schema_derive.specs.declared.members.Numbering.TheVariants.{Values, Positions}
+use Rattle.nm_schema_derive.specs.declared.members.ListFault.{ListFault}
+use Rattle.nm_schema_derive.specs.declared.derived.StepFault.{StepFault}
+use Rattle.nm_schema_derive.specs.declared.derived.Lacking.{Lacking}
+use Rattle.nm_schema_derive.specs.Members.{members_of}
+use Rattle.nm_schema_derive.specs.Built.{Built, Derivation}
+use Rattle.nm_schema_derive.specs.Built as built
+use Rattle.nm_schema_derive.specs.Kinds.{kind_made, with_limits, leaf_type_of}
+use Rattle.nm_schema_derive.specs.Step.{start, limited, digits_put, digits_read, digits_on, range_on, length_on, names_on, bits_on, named, flagged, lacking}
+use Rattle.nm_schema_derive.specs.Restricted.{digits_if, range_if, length_if, names_if, bits_if}
+use Rattle.nm_schema_typing.specs.Restricting.{TypeRestrictions, restrictions_of}
+use Rattle.nm_schema_typing.specs.TypeGraph.{is_typed, is_type, leads}
+use Rattle.nm_schema_typing.specs.Meaning.{Meaning, plain, reference, then_bits, then_names, then_length, then_range, restricted, is_unrestricted, whole, restricted_at, is_path, leads_to, leafref_at, kept_at, narrowed_at, is_leafref, bare, built_in_at, built_in_named, type_meaning, meaning_from, meaning_at, first_known, meaning_step}
+use Rattle.nm_schema_typing.specs.Along.{within as within_steps, meaning_of}
+use Rattle.nm_schema_expansion.proofs.Unfolding.{split}
 use Rattle.nm_schema.proofs.Faultless.{within}
 use Rattle.nm_schema.proofs.Listings.{first_stands}
 

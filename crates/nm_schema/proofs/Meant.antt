@@ -3,44 +3,44 @@ use Rattle.std.proofs.Common.{◌≡◌, ◌∙◌, ◌<◌, ◌⊎◌, inl, inr
 use Rattle.std.specs.Prelude.{Contains, is_some, is_none}
 use Rattle.std.specs.Option.{option_map, option_and_then}
 use Rattle.std.specs.Str.{bytes_eq}
-use Rattle.nm_grammar.specs.declared.row.Row.{Row}
-use Rattle.nm_grammar.specs.declared.word.Word.{Word}
-use Rattle.nm_grammar.specs.declared.word.Word.TheVariants as word
-use Rattle.nm_grammar.specs.declared.flaw.Flaw.TheVariants as flaw
-use Rattle.nm_grammar.specs.declared.fault.Fault.{Fault}
-use Rattle.nm_grammar.specs.declared.fault.Fault.TheVariants as fault
-use Rattle.nm_grammar.specs.Word.{word_text}
-use Rattle.nm_grammar.specs.Text.{is_number_type, is_plain_type, is_left_out_type, is_builtin}
-use Rattle.nm_grammar.specs.Flaw.{is_there, lack, lack_fault, text_of, left_out, word_above}
-use Rattle.nm_grammar.specs.Rows.{has_word, children, first_below}
-use Rattle.nm_grammar.proofs.Words.{same_words, same_itself}
+use Rattle.nm_schema_rows.specs.declared.row.Row.{Row}
+use Rattle.nm_schema_rows.specs.declared.word.Word.{Word}
+use Rattle.nm_schema_rows.specs.declared.word.Word.TheVariants as word
+use Rattle.nm_schema_rows.specs.declared.flaw.Flaw.TheVariants as flaw
+use Rattle.nm_schema_rows.specs.declared.fault.Fault.{Fault}
+use Rattle.nm_schema_rows.specs.declared.fault.Fault.TheVariants as fault
+use Rattle.nm_schema_rows.specs.Word.{word_text}
+use Rattle.nm_schema_rows.specs.Text.{is_number_type, is_plain_type, is_left_out_type, is_builtin}
+use Rattle.nm_schema_rows.specs.Flaw.{is_there, lack, lack_fault, text_of, left_out, word_above}
+use Rattle.nm_schema_rows.specs.Rows.{has_word, children, first_below}
+use Rattle.nm_schema_rows.proofs.Words.{same_words, same_itself}
 use Rattle.nm_graph.specs.Value.{strict, all_there}
-use Rattle.nm_names.specs.Leads.{definition, argument_leads, row_leads, leads_to as names_to}
-use Rattle.nm_names.specs.Flaw.{type_flaw as name_type_flaw, reference_flaw, text_flaw, argument_flaw, row_flaw, name_flaw}
-use Rattle.nm_shape.specs.Config.{LeadsBy}
-use Rattle.nm_shape.specs.Worth.{worth_within}
-use Rattle.nm_derive.specs.declared.names.BuiltIn.{BuiltIn}
-use Rattle.nm_derive.specs.declared.names.BuiltIn.TheVariants.{Leafref}
-use Rattle.nm_derive.specs.declared.members.Listed.{Listed}
-use Rattle.nm_derive.specs.declared.members.Numbering.TheVariants.{Values, Positions}
-use Rattle.nm_derive.specs.declared.derived.StepFault.{StepFault}
-use Rattle.nm_derive.specs.declared.derived.Lacking.{Lacking}
-use Rattle.nm_derive.specs.BuiltIn.{integer_named, other_named, first_of, built_in_of}
-use Rattle.nm_derive.specs.Built.{Built, Derivation}
-use Rattle.nm_derive.specs.Built as built
-use Rattle.nm_derive.specs.Step.{with_digits, with_range, with_length}
-use Rattle.nm_derive.specs.Restricted.{digits_if, names_if, bits_if}
-use Rattle.nm_typing.specs.Restricting.{argument_in, argument_at, argument_below, rows_with, listed_at, restrictions_of}
-use Rattle.nm_typing.specs.TypeGraph.{is_typed, is_type, typedef_at, named_typedef, at_most_one, type_below, leads}
-use Rattle.nm_typing.specs.Leafref.{LeafrefPath, path_read, has_predicate}
-use Rattle.nm_typing.specs.Meaning.{Meaning, plain, reference, is_unrestricted, whole, restricted, restricted_at, is_present, is_path, leads_to, leafref_at, kept_at, narrowed_at, is_leafref, bare, built_in_at, built_in_named, named_built_in, type_meaning, meaning_from, meaning_at, first_known, meaning_step}
-use Rattle.nm_typing.specs.Along.{within as within_steps, meaning_of}
-use Rattle.nm_typing.specs.Flaws.{to_restrict, base_by, base_of, base_above, flaw_on, kept, after_digits, restricted_by, restriction_in, restriction_flaw, takes_path, takes_path_by, is_built_in_leafref, path_form, form_flaw, path_in, path_below, path_flaw, needs, needs_what, lacking_in, lacking_flaw}
-use Rattle.nm_typing.specs.Listing.{with_listed}
-use Rattle.nm_typing.specs.TypeFlaw.{flaw_by, flaw_in, type_flaw}
-use Rattle.nm_flaws.specs.Facts.{Facts, definitions}
+use Rattle.nm_schema_names.specs.Leads.{definition, argument_leads, row_leads, leads_to as names_to}
+use Rattle.nm_schema_names.specs.Flaw.{type_flaw as name_type_flaw, reference_flaw, text_flaw, argument_flaw, row_flaw, name_flaw}
+use Rattle.nm_schema_shape.specs.Config.{LeadsBy}
+use Rattle.nm_schema_shape.specs.Worth.{worth_within}
+use Rattle.nm_schema_derive.specs.declared.names.BuiltIn.{BuiltIn}
+use Rattle.nm_schema_derive.specs.declared.names.BuiltIn.TheVariants.{Leafref}
+use Rattle.nm_schema_derive.specs.declared.members.Listed.{Listed}
+use Rattle.nm_schema_derive.specs.declared.members.Numbering.TheVariants.{Values, Positions}
+use Rattle.nm_schema_derive.specs.declared.derived.StepFault.{StepFault}
+use Rattle.nm_schema_derive.specs.declared.derived.Lacking.{Lacking}
+use Rattle.nm_schema_derive.specs.BuiltIn.{integer_named, other_named, first_of, built_in_of}
+use Rattle.nm_schema_derive.specs.Built.{Built, Derivation}
+use Rattle.nm_schema_derive.specs.Built as built
+use Rattle.nm_schema_derive.specs.Step.{with_digits, with_range, with_length}
+use Rattle.nm_schema_derive.specs.Restricted.{digits_if, names_if, bits_if}
+use Rattle.nm_schema_typing.specs.Restricting.{argument_in, argument_at, argument_below, rows_with, listed_at, restrictions_of}
+use Rattle.nm_schema_typing.specs.TypeGraph.{is_typed, is_type, typedef_at, named_typedef, at_most_one, type_below, leads}
+use Rattle.nm_schema_typing.specs.Leafref.{LeafrefPath, path_read, has_predicate}
+use Rattle.nm_schema_typing.specs.Meaning.{Meaning, plain, reference, is_unrestricted, whole, restricted, restricted_at, is_present, is_path, leads_to, leafref_at, kept_at, narrowed_at, is_leafref, bare, built_in_at, built_in_named, named_built_in, type_meaning, meaning_from, meaning_at, first_known, meaning_step}
+use Rattle.nm_schema_typing.specs.Along.{within as within_steps, meaning_of}
+use Rattle.nm_schema_typing.specs.Flaws.{to_restrict, base_by, base_of, base_above, flaw_on, kept, after_digits, restricted_by, restriction_in, restriction_flaw, takes_path, takes_path_by, is_built_in_leafref, path_form, form_flaw, path_in, path_below, path_flaw, needs, needs_what, lacking_in, lacking_flaw}
+use Rattle.nm_schema_typing.specs.Listing.{with_listed}
+use Rattle.nm_schema_typing.specs.TypeFlaw.{flaw_by, flaw_in, type_flaw}
+use Rattle.nm_schema_flaws.specs.Facts.{Facts, definitions}
 use Rattle.nm_schema.specs.Faultless.{AreFaultless}
-use Rattle.nm_expansion.proofs.Unfolding.{split}
+use Rattle.nm_schema_expansion.proofs.Unfolding.{split}
 use Rattle.nm_schema.proofs.Elements.{nothing, first_or_later}
 use Rattle.nm_schema.proofs.Faultless.{within}
 use Rattle.nm_schema.proofs.Naming.{grammar_parts}

@@ -1,22 +1,22 @@
 -- A type that takes each of its restrictions takes them all (RFC 7950 sections 7.4 and 9).
 use Rattle.std.proofs.Common.{◌≡◌, ◌∙◌, ℕ, ℤ, List, [], ◌∷◌, ◌++◌, Bool, true, false, Option, Some, None, Result, Ok, Err, refl, sym, ap, subst}
 use Rattle.std.specs.Prelude.{is_some, pos}
-use Rattle.nm_derive.specs.declared.members.Listed.{Listed}
-use Rattle.nm_derive.specs.declared.derived.StepFault.{StepFault}
-use Rattle.nm_derive.specs.declared.derived.StepFault.TheVariants.{Misplaced, BadArgument}
-use Rattle.nm_derive.specs.declared.derived.Lacking.TheVariants.{FractionDigits, Enum, Bit}
-use Rattle.nm_derive.specs.Built.{Built, Derivation, integer, bare_decimal, decimal, boolean, string, bare_names, names, bare_bits, bits, empty, reference}
+use Rattle.nm_schema_derive.specs.declared.members.Listed.{Listed}
+use Rattle.nm_schema_derive.specs.declared.derived.StepFault.{StepFault}
+use Rattle.nm_schema_derive.specs.declared.derived.StepFault.TheVariants.{Misplaced, BadArgument}
+use Rattle.nm_schema_derive.specs.declared.derived.Lacking.TheVariants.{FractionDigits, Enum, Bit}
+use Rattle.nm_schema_derive.specs.Built.{Built, Derivation, integer, bare_decimal, decimal, boolean, string, bare_names, names, bare_bits, bits, empty, reference}
 use Rattle.nm_types.specs.Limits.{i64_part}
-use Rattle.nm_derive.specs.declared.form.NumberForm.TheVariants.{Integer, Decimal, Length}
-use Rattle.nm_derive.specs.declared.members.Member.{Member}
-use Rattle.nm_derive.specs.declared.members.Numbering.TheVariants.{Values, Positions}
-use Rattle.nm_derive.specs.declared.members.ListFault.{ListFault}
-use Rattle.nm_derive.specs.Members.{members_of}
-use Rattle.nm_derive.specs.Step.{narrowed, digits_read, step_fault, lacking, limited, digits_put, with_digits, with_range, with_length, named, flagged}
-use Rattle.nm_derive.specs.Restricted.{digits_if, range_if, length_if, names_if, bits_if}
-use Rattle.nm_typing.specs.Flaws.{flaw_on, kept}
-use Rattle.nm_typing.specs.Restricting.{TypeRestrictions}
-use Rattle.nm_typing.specs.Meaning.{then_bits, then_names, then_length, then_range, restricted}
+use Rattle.nm_schema_derive.specs.declared.form.NumberForm.TheVariants.{Integer, Decimal, Length}
+use Rattle.nm_schema_derive.specs.declared.members.Member.{Member}
+use Rattle.nm_schema_derive.specs.declared.members.Numbering.TheVariants.{Values, Positions}
+use Rattle.nm_schema_derive.specs.declared.members.ListFault.{ListFault}
+use Rattle.nm_schema_derive.specs.Members.{members_of}
+use Rattle.nm_schema_derive.specs.Step.{narrowed, digits_read, step_fault, lacking, limited, digits_put, with_digits, with_range, with_length, named, flagged}
+use Rattle.nm_schema_derive.specs.Restricted.{digits_if, range_if, length_if, names_if, bits_if}
+use Rattle.nm_schema_typing.specs.Flaws.{flaw_on, kept}
+use Rattle.nm_schema_typing.specs.Restricting.{TypeRestrictions}
+use Rattle.nm_schema_typing.specs.Meaning.{then_bits, then_names, then_length, then_range, restricted}
 
 -- a restriction that is there has no flaw
 abbrev pub IsFine : List ℕ → (List ℕ → Result Derivation StepFault) → Option (List ℕ) → Type 0

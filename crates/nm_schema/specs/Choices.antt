@@ -1,23 +1,23 @@
 -- The choices of a schema tree and their cases, and the case of each node (RFC 7950 sections 7.9, 7.13 and 7.21.1).
 use Rattle.std.specs.Prelude.{◌≡◌, ℕ, ◌+◌, ◌<◌, ◌≤◌, List, [], ◌∷◌, ◌++◌, length, map, take, ◌==◌, Option, Some, None, All, nat_lt, if◌then◌else◌, unwrap_or, slice_set, get_or, slice_get, slice_index_or}
 use Rattle.std.specs.List.{position_from, range_with_len}
-use Rattle.nm_grammar.specs.declared.row.Row.{Row}
-use Rattle.nm_grammar.specs.declared.word.Word.TheVariants as word
-use Rattle.nm_grammar.specs.Rows.{roots}
-use Rattle.nm_shape.specs.Arguments.{argument_at}
-use Rattle.nm_shape.specs.Sizes.{total_of}
+use Rattle.nm_schema_rows.specs.declared.row.Row.{Row}
+use Rattle.nm_schema_rows.specs.declared.word.Word.TheVariants as word
+use Rattle.nm_schema_rows.specs.Rows.{roots}
+use Rattle.nm_schema_shape.specs.Arguments.{argument_at}
+use Rattle.nm_schema_shape.specs.Sizes.{total_of}
 use Rattle.nm_tree.specs.declared.choice.ChoiceNode.{ChoiceNode}
 use Rattle.nm_tree.specs.declared.choice.CaseNode.{CaseNode}
 use Rattle.nm_tree.specs.Nodes.{SchemaTree}
-use Rattle.nm_typing.specs.Restricting.{argument_below}
-use Rattle.nm_expansion.specs.declared.instance.Instance.{Instance}
-use Rattle.nm_expansion.specs.Expansion.{children, tops}
-use Rattle.nm_choice.specs.declared.fork.Fork.{Fork}
-use Rattle.nm_choice.specs.declared.fork.Branch.{Branch}
-use Rattle.nm_choice.specs.Forks.{Forking, no_forks, shifted, IsRoom}
-use Rattle.nm_choice.specs.Choices.{forks_of}
-use Rattle.nm_flaws.specs.Facts.{Facts, definitions}
-use Rattle.nm_flaws.specs.Grounded.{Grounded}
+use Rattle.nm_schema_typing.specs.Restricting.{argument_below}
+use Rattle.nm_schema_expansion.specs.declared.instance.Instance.{Instance}
+use Rattle.nm_schema_expansion.specs.Expansion.{children, tops}
+use Rattle.nm_schema_choice.specs.declared.fork.Fork.{Fork}
+use Rattle.nm_schema_choice.specs.declared.fork.Branch.{Branch}
+use Rattle.nm_schema_choice.specs.Forks.{Forking, no_forks, shifted, IsRoom}
+use Rattle.nm_schema_choice.specs.Choices.{forks_of}
+use Rattle.nm_schema_flaws.specs.Facts.{Facts, definitions}
+use Rattle.nm_schema_flaws.specs.Grounded.{Grounded}
 use Rattle.nm_schema.specs.Kind.{says_true}
 
 -- the names of the given modules, in order

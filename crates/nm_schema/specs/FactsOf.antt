@@ -1,22 +1,22 @@
 -- What is so in rows, as a function of them.
 use Rattle.std.specs.Prelude.{ℕ, zero, suc, ◌+◌, List, [], ◌++◌, length, map, Bool, false, ◌==◌, ◌&&◌, ◌||◌, Option, Some, None, if◌then◌else◌, slice_get}
 use Rattle.std.specs.List.{find, list_any, range_with_len}
-use Rattle.nm_grammar.specs.declared.row.Row.{Row}
-use Rattle.nm_grammar.specs.Rows.{roots, same_parent}
-use Rattle.nm_names.specs.Graph.{leading}
-use Rattle.nm_shape.specs.Holding.{holding}
-use Rattle.nm_shape.specs.Config.{is_state, configuring}
-use Rattle.nm_keys.specs.Standing.{Standing}
-use Rattle.nm_keys.specs.Keys.{has_known, keys_of}
-use Rattle.nm_expansion.specs.declared.instance.Instance.{Instance}
-use Rattle.nm_expansion.specs.Expansion.{Expanded, expanded, kept_below, grown_members}
-use Rattle.nm_expansion.specs.Growing.{instance}
-use Rattle.nm_leafref.specs.declared.fault.PathFault.{PathFault}
-use Rattle.nm_leafref.specs.Walk.{path_row, led_to}
-use Rattle.nm_leafref.specs.Target.{targets}
-use Rattle.nm_leafref.specs.Known.{fault_of}
-use Rattle.nm_flaws.specs.Fault.{first_some}
-use Rattle.nm_flaws.specs.Facts.{Facts, facts_of, definitions, is_marked}
+use Rattle.nm_schema_rows.specs.declared.row.Row.{Row}
+use Rattle.nm_schema_rows.specs.Rows.{roots, same_parent}
+use Rattle.nm_schema_names.specs.Graph.{leading}
+use Rattle.nm_schema_shape.specs.Holding.{holding}
+use Rattle.nm_schema_shape.specs.Config.{is_state, configuring}
+use Rattle.nm_schema_keys.specs.Standing.{Standing}
+use Rattle.nm_schema_keys.specs.Keys.{has_known, keys_of}
+use Rattle.nm_schema_expansion.specs.declared.instance.Instance.{Instance}
+use Rattle.nm_schema_expansion.specs.Expansion.{Expanded, expanded, kept_below, grown_members}
+use Rattle.nm_schema_expansion.specs.Growing.{instance}
+use Rattle.nm_schema_leafref.specs.declared.fault.PathFault.{PathFault}
+use Rattle.nm_schema_leafref.specs.Walk.{path_row, led_to}
+use Rattle.nm_schema_leafref.specs.Target.{targets}
+use Rattle.nm_schema_leafref.specs.Known.{fault_of}
+use Rattle.nm_schema_flaws.specs.Fault.{first_some}
+use Rattle.nm_schema_flaws.specs.Facts.{Facts, facts_of, definitions, is_marked}
 
 -- ---- what leads where
 

@@ -1,13 +1,13 @@
 -- What the nodes of a schema tree are (RFC 7950 sections 7.5 to 7.8).
 use Rattle.std.specs.Prelude.{ℕ, List, map, fold, Bool, false, Option, Some, None, is_some, Result, Ok, Err, if◌then◌else◌}
 use Rattle.nm_base.specs.Decimal.{number_of}
-use Rattle.nm_grammar.specs.declared.row.Row.{Row}
-use Rattle.nm_grammar.specs.declared.word.Word.{Word}
-use Rattle.nm_grammar.specs.declared.word.Word.TheVariants as word
-use Rattle.nm_grammar.specs.Rows.{first_below}
+use Rattle.nm_schema_rows.specs.declared.row.Row.{Row}
+use Rattle.nm_schema_rows.specs.declared.word.Word.{Word}
+use Rattle.nm_schema_rows.specs.declared.word.Word.TheVariants as word
+use Rattle.nm_schema_rows.specs.Rows.{first_below}
 use Rattle.nm_graph.specs.Value.{all_there}
-use Rattle.nm_shape.specs.Arguments.{argument_at}
-use Rattle.nm_shape.specs.Config.{is_true}
+use Rattle.nm_schema_shape.specs.Arguments.{argument_at}
+use Rattle.nm_schema_shape.specs.Config.{is_true}
 use Rattle.nm_types.specs.declared.value.Value.{Value}
 use Rattle.nm_types.specs.declared.fault.ValueFault.{ValueFault}
 use Rattle.nm_types.specs.LeafType.{TypeOfLeaf}
@@ -16,19 +16,19 @@ use Rattle.nm_tree.specs.declared.node.Elements.{Elements}
 use Rattle.nm_tree.specs.declared.node.NodeKind.{NodeKind}
 use Rattle.nm_tree.specs.declared.node.NodeKind.TheVariants as kind
 use Rattle.nm_tree.specs.declared.node.Reference.{Reference}
-use Rattle.nm_typing.specs.Restricting.{argument_below}
-use Rattle.nm_typing.specs.Defaults.{default_of}
-use Rattle.nm_keys.specs.Keys.{keys_of}
-use Rattle.nm_keys.specs.Uniques.{uniques_of}
-use Rattle.nm_expansion.specs.declared.instance.Instance.{Instance}
-use Rattle.nm_shape.specs.Passing.{kept_members}
-use Rattle.nm_expansion.specs.Named.{child_named}
-use Rattle.nm_leafref.specs.declared.led.Led.{Led}
-use Rattle.nm_leafref.specs.declared.led.Led.TheVariants as led
-use Rattle.nm_leafref.specs.Walk.{led_to}
-use Rattle.nm_leafref.specs.Target.{type_of_node, up_of}
-use Rattle.nm_flaws.specs.Facts.{Facts, definitions, standing, tree}
-use Rattle.nm_flaws.specs.Misfit.{is_key_node}
+use Rattle.nm_schema_typing.specs.Restricting.{argument_below}
+use Rattle.nm_schema_typing.specs.Defaults.{default_of}
+use Rattle.nm_schema_keys.specs.Keys.{keys_of}
+use Rattle.nm_schema_keys.specs.Uniques.{uniques_of}
+use Rattle.nm_schema_expansion.specs.declared.instance.Instance.{Instance}
+use Rattle.nm_schema_shape.specs.Passing.{kept_members}
+use Rattle.nm_schema_expansion.specs.Named.{child_named}
+use Rattle.nm_schema_leafref.specs.declared.led.Led.{Led}
+use Rattle.nm_schema_leafref.specs.declared.led.Led.TheVariants as led
+use Rattle.nm_schema_leafref.specs.Walk.{led_to}
+use Rattle.nm_schema_leafref.specs.Target.{type_of_node, up_of}
+use Rattle.nm_schema_flaws.specs.Facts.{Facts, definitions, standing, tree}
+use Rattle.nm_schema_flaws.specs.Misfit.{is_key_node}
 
 -- ---- leafs
 

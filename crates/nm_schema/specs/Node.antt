@@ -1,12 +1,12 @@
 -- The nodes of a schema tree (RFC 7950 section 3).
 use Rattle.std.specs.Prelude.{◌≡◌, ◌<◌, ℕ, List, length, true, Option, Some, None, is_some, slice_get}
 use Rattle.std.specs.List.{filter_map, range_with_len}
-use Rattle.nm_grammar.specs.declared.row.Row.{Row}
-use Rattle.nm_shape.specs.Arguments.{argument_at}
+use Rattle.nm_schema_rows.specs.declared.row.Row.{Row}
+use Rattle.nm_schema_shape.specs.Arguments.{argument_at}
 use Rattle.nm_tree.specs.declared.node.Node.{Node}
 use Rattle.nm_tree.specs.declared.node.NodeKind.{NodeKind}
-use Rattle.nm_expansion.specs.declared.instance.Instance.{Instance}
-use Rattle.nm_flaws.specs.Facts.{Facts}
+use Rattle.nm_schema_expansion.specs.declared.instance.Instance.{Instance}
+use Rattle.nm_schema_flaws.specs.Facts.{Facts}
 use Rattle.nm_schema.specs.Kind.{kind_of}
 use Rattle.nm_schema.specs.Choices.{module_name, case_of}
 

@@ -4,9 +4,9 @@ ghost use Rattle.std.specs.Prelude.{◌≡◌, ◌↔◌, ◌<◌, ℕ, List, le
 ghost use Rattle.nm_yang.specs.Tree.{Tree};
 ghost use Rattle.nm_tree.specs.Nodes.{SchemaTree, case_at};
 ghost use Rattle.nm_path.specs.Sound.{IsSound};
-ghost use Rattle.nm_flaws.specs.declared.fault.Fault.{Fault};
-ghost use Rattle.nm_grammar.specs.Rows.{rows_of};
-ghost use Rattle.nm_flaws.specs.Facts.{AreFacts};
+ghost use Rattle.nm_schema_flaws.specs.declared.fault.Fault.{Fault};
+ghost use Rattle.nm_schema_rows.specs.Rows.{rows_of};
+ghost use Rattle.nm_schema_flaws.specs.Facts.{AreFacts};
 ghost use Rattle.nm_schema.specs.FactsOf.{facts_in};
 ghost use Rattle.nm_schema.specs.Built as spec;
 ghost use Rattle.nm_schema.specs.Faultless.{HaveNoFault};

@@ -1,11 +1,11 @@
 //! From the statements of modules to their schema tree.
 
 ghost use Rattle.std.specs.Prelude.{◌≡◌, IfOk, OnOk};
-ghost use Rattle.nm_grammar.specs.Rows.{FromModules};
-ghost use Rattle.nm_shape.specs.Holding.{AreNamed};
-ghost use Rattle.nm_shape.specs.Outline.{outline};
-ghost use Rattle.nm_leafref.specs.Known.{ArePaths};
-ghost use Rattle.nm_flaws.specs.Facts as facts;
+ghost use Rattle.nm_schema_rows.specs.Rows.{FromModules};
+ghost use Rattle.nm_schema_shape.specs.Holding.{AreNamed};
+ghost use Rattle.nm_schema_shape.specs.Outline.{outline};
+ghost use Rattle.nm_schema_leafref.specs.Known.{ArePaths};
+ghost use Rattle.nm_schema_flaws.specs.Facts as facts;
 ghost use Rattle.nm_path.specs.Written.{IsWellNamed};
 ghost use Rattle.nm_path.specs.Sound.{IsSound};
 ghost use Rattle.nm_schema.specs.Built as spec;
@@ -16,12 +16,12 @@ ghost use Rattle.nm_schema.specs.Whole.{AreWhole};
 use crate::fault::SchemaFault;
 use crate::tree::schema_of;
 use nm_base::NoMemory;
-use nm_expansion::expand;
-use nm_flaws::{Grounds, definitions};
-use nm_grammar::{Rows, rows_of};
-use nm_leafref::{Paths, paths_of};
-use nm_names::Names;
-use nm_shape::{Shape, shape_of};
+use nm_schema_expansion::expand;
+use nm_schema_flaws::{Grounds, definitions};
+use nm_schema_leafref::{Paths, paths_of};
+use nm_schema_names::Names;
+use nm_schema_rows::{Rows, rows_of};
+use nm_schema_shape::{Shape, shape_of};
 use nm_tree::Schema;
 use nm_yang::Statement;
 use std::alloc::Global;

@@ -1,6 +1,6 @@
 use nm_base::{NoMemory, Numbers};
-use nm_grammar::Flaw;
 use nm_schema::{SchemaFault, build, laws};
+use nm_schema_rows::Flaw;
 use nm_tree::{Elements, Node, NodeKind, Reference, Schema};
 use nm_types::{LeafType, TypeKind, Value, write_value};
 use nm_yang::read_module;

@@ -1,5 +1,5 @@
 use nm_base::{Label, NoMemory};
-use nm_derive::{
+use nm_schema_derive::{
     BuiltIn, Derived, ListFault, ListFlaw, Listed, Member, NumberForm, Numbering, Restrictions,
     StepFault, built_in, numbered, read_parts, restricted, step,
 };

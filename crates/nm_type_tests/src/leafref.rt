@@ -1,11 +1,11 @@
 use nm_base::NoMemory;
-use nm_expansion::{Expansion, expand};
-use nm_grammar::{Flaw, Rows, rows_of};
-use nm_leafref::{Leafrefs, Led, leafrefs_of, paths_of};
-use nm_names::Names;
-use nm_shape::{are_named, shape_of};
+use nm_schema_expansion::{Expansion, expand};
+use nm_schema_leafref::{Leafrefs, Led, leafrefs_of, paths_of};
+use nm_schema_names::Names;
+use nm_schema_rows::{Flaw, Rows, rows_of};
+use nm_schema_shape::{are_named, shape_of};
+use nm_schema_typing::types_of;
 use nm_types::TypeKind;
-use nm_typing::types_of;
 use nm_yang::read_module;
 use std::alloc::{AllocError, Global};
 use std::test::Fail;

@@ -1,7 +1,7 @@
 use nm_base::{Label, NoMemory};
-use nm_derive::Derived;
-use nm_grammar::{Flaw, Rows, Word, rows_of};
-use nm_typing::{
+use nm_schema_derive::Derived;
+use nm_schema_rows::{Flaw, Rows, Word, rows_of};
+use nm_schema_typing::{
     Start, cycle_flaw, default_flaw, defaults_of, has_predicate, judgements_of, read_path,
     restrictions_of, type_flaw, type_graph, types_of,
 };

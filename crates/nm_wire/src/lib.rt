@@ -6,8 +6,6 @@
 
 pub mod laws;
 pub mod link;
-#[cfg(test)]
-mod tests;
 pub mod wire;
 
 pub use laws::{

@@ -21,6 +21,3 @@ pub use fault::{YangFault, YangKind};
 pub use statement::Statement;
 pub use text::read_module;
 pub use writing::write_module;
-
-#[cfg(test)]
-mod tests;

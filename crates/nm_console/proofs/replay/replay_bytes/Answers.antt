@@ -1,5 +1,5 @@
 use Rattle.std.proofs.Common.{◌≡◌, Ok, Err, subst}
-use Rattle.nm_reading.specs.declared.fault.ReadError.TheVariants.{Bad}
+use Rattle.nm_scenario_parts.specs.declared.fault.ReadError.TheVariants.{Bad}
 use Rattle.nm_scenario.specs.Scenario.{Answers, ReadsBytes}
 use Rattle.nm_console.proofs.Crashes.{not_led, read_so}
 use Rattle.nm_console.proofs.Replays.{fault_told, read_told}

@@ -1,8 +1,8 @@
 use Rattle.std.proofs.Common.{refl, ◌∙◌, subst, Err}
 use Rattle.serde_json.specs.View.{view}
-use Rattle.nm_flaws.specs.declared.fault.Fault.TheVariants.{Flawed, TooLarge}
+use Rattle.nm_schema_flaws.specs.declared.fault.Fault.TheVariants.{Flawed, TooLarge}
 use Rattle.nm_schema.specs.Built.{Answers as Built}
-use Rattle.nm_reading.specs.Reading.{Gives}
+use Rattle.nm_scenario_parts.specs.Reading.{Gives}
 use Rattle.nm_scenario.specs.Scenario.{at_module, yang_rest_at}
 use Rattle.nm_scenario.proofs.Answered.{of_tree, of_fault}
 use Rattle.nm_scenario.proofs.yang.read_yang.Goals as goal

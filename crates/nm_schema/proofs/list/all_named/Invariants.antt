@@ -1,6 +1,6 @@
 use Rattle.std.proofs.Common.{◌≡◌, map, drop}
 use Rattle.nm_graph.specs.Value.{all_there}
-use Rattle.nm_keys.proofs.Ways.{in_front}
+use Rattle.nm_schema_keys.proofs.Ways.{in_front}
 use Rattle.nm_schema.specs.Kind as spec
 use Rattle.nm_schema.proofs.list.all_named.Given as goal
 

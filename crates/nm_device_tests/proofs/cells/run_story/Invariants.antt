@@ -1,0 +1,12 @@
+use Rattle.std.proofs.Common.{Some, [], ◌∷◌}
+use Rattle.nm_device_tests.proofs.cells.run_story.Given as goal
+
+-- the run: one device, one change set
+abbrev pub ghosts-story-N-Ledger : goal.ghosts-story-N-Ledger
+ghosts-story-N-Ledger g a = record { name = a.blank.name; parts = a.blank.parts }
+
+abbrev pub ghosts-story-N-RunPlans : goal.ghosts-story-N-RunPlans
+ghosts-story-N-RunPlans g a = record { devices = 1; changes = a.changes.now }
+
+abbrev pub ghosts-story-N-RunName : goal.ghosts-story-N-RunName
+ghosts-story-N-RunName g a = record { run = record { content = Some a.content.now; tables = a.tables.now; starts = a.running ∷ []; faults = a.plan.items ∷ []; disk_faults = 0 } }

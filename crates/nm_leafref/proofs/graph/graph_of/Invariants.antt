@@ -1,7 +1,0 @@
-use Rattle.std.proofs.Common.{length}
-use Rattle.nm_shape.proofs.Graphs.{IsDrawn}
-use Rattle.nm_leafref.specs.Known.{targets_in}
-use Rattle.nm_leafref.proofs.graph.graph_of.Given as goal
-
-abbrev pub invariant-loop-node : goal.invariant-loop-node
-invariant-loop-node l = IsDrawn (targets_in l.leds) (length l.leds) l.graph.items l.node

@@ -1,0 +1,366 @@
+ghost use Rattle.std.specs.Prelude.{◌+◌, ◌≤◌};
+
+use nm_base::{ChangeNo, DeviceMask, DeviceNo, Label, Tag};
+use nm_disk::{Disk, FileDisk, MemoryDisk};
+use nm_journal::{Journal, JournalFault, ends, read_disk, read_entries};
+use nm_proto::{AbortCause, Entry, Verdict};
+use std::alloc::Global;
+use std::fs;
+use std::test::Fail;
+
+// The journal of one change set on devices 1 and 2 that was committed and kept on both, as it is
+// written out by hand from the format. Its timeout is 600 seconds, or 2 times 256 and 88.
+const WHOLE: [u8; 49] = [
+    1, 1, 0, 0, 0, 1, 0, 0, 0, 3, 2, 0, 0, 2, 88, 0, //
+    1, 2, 0, 0, 0, 1, 1, 0, 0, 0, 2, 0, 0, 0, 0, 0, //
+    1, 3, 0, 0, 0, 1, 0, 0, 0, 3, 2, 0, 0, 0, 0, 0, //
+    0,
+];
+
+// The same change set where it was started in version 1.
+const FIRST: [u8; 17] = [1, 1, 0, 0, 0, 1, 0, 0, 0, 3, 0, 0, 0, 0, 0, 0, 0];
+
+// Appends the three entries of that journal to a fresh one, and stops at the first fault.
+#[tactic(auto, unfolding(nm_journal::specs::Entries::is_within))]
+fn run<D: Disk>(alloc: Global, disk: &mut D) -> Result<Journal, JournalFault> {
+    let Some(change) = ChangeNo::new(1) else {
+        return Err(JournalFault::Stopped);
+    };
+    let devices = DeviceMask(3);
+    let timeout = Some(600);
+    let mut journal = Journal::fresh(alloc, disk)?;
+    journal.append(
+        disk,
+        Entry::Started {
+            change,
+            devices,
+            timeout,
+        },
+    )?;
+    let verdict = Verdict::Commit;
+    journal.append(disk, Entry::Decided { change, verdict })?;
+    let kept = devices;
+    journal.append(disk, Entry::Ended { change, kept })?;
+    Ok(journal)
+}
+
+#[test]
+fn a_whole_run_is_written_and_read(rt: HostRuntime) -> Result<(), Fail> {
+    let mut disk = MemoryDisk::with_limit(rt.alloc(), 8192, 100)?;
+    let journal = run(rt.alloc(), &mut disk)?;
+    assert_eq!(rt; disk.bytes(), WHOLE.as_slice());
+    let read = read_entries(rt.alloc(), &WHOLE)?;
+    assert!(rt; read.as_slice() == journal.entries());
+    assert_eq!(rt; read.len(), 3);
+    let looked = read_disk(rt.alloc(), &mut disk)?;
+    assert!(rt; looked.as_slice() == journal.entries());
+    let (_, again) = Journal::reopen(rt.alloc(), &mut disk)?;
+    assert!(rt; again.as_slice() == journal.entries());
+    assert_eq!(rt; disk.bytes(), WHOLE.as_slice());
+    Ok(())
+}
+
+// How many entries the bytes stand for, or the offset at which they are damaged.
+fn count(alloc: Global, bytes: &[u8]) -> Result<usize, JournalFault> {
+    match read_entries(alloc, bytes) {
+        Ok(entries) => Ok(entries.len()),
+        Err(fault) => Err(fault),
+    }
+}
+
+// The run makes 15 disk calls: three to begin, and four for each entry. Each of them fails in turn,
+// and the disk is read after that.
+#[test]
+fn a_run_is_stopped_at_each_call(rt: HostRuntime) -> Result<(), Fail> {
+    let read_after = [0, 0, 0, 0, 0, 0, 1, 1, 1, 1, 2, 2, 2, 2, 3];
+    for (before, expected) in read_after.iter().enumerate() {
+        let call = before as u64 + 1;
+        let mut disk = MemoryDisk::with_limit(rt.alloc(), 8192, 100)?;
+        disk.plan(&[call])?;
+        let stopped = match run(rt.alloc(), &mut disk) {
+            Ok(_) => None,
+            Err(fault) => Some(fault),
+        };
+        assert_eq!(rt; stopped, Some(JournalFault::DiskFault), "call {call}");
+        assert_eq!(rt;
+            count(rt.alloc(), disk.bytes()),
+            Ok(*expected),
+            "call {call}"
+        );
+    }
+    let mut disk = MemoryDisk::with_limit(rt.alloc(), 8192, 100)?;
+    disk.plan(&[16])?;
+    assert!(rt; run(rt.alloc(), &mut disk).is_ok());
+    Ok(())
+}
+
+// The fifth call brings the first record onto the disk. The journal is stopped until it is reopened,
+// and then it takes the entry.
+#[test]
+fn a_stopped_journal_is_reopened(rt: HostRuntime) -> Result<(), Fail> {
+    let change = ChangeNo::new(1).ok_or("1")?;
+    let devices = DeviceMask(3);
+    let timeout = Some(1);
+    let mut disk = MemoryDisk::with_limit(rt.alloc(), 8192, 100)?;
+    disk.plan(&[5])?;
+    let mut journal = Journal::fresh(rt.alloc(), &mut disk)?;
+    let failed = journal.append(
+        &mut disk,
+        Entry::Started {
+            change,
+            devices,
+            timeout,
+        },
+    );
+    assert_eq!(rt; failed, Err(JournalFault::DiskFault));
+    assert!(rt; journal.is_stopped());
+    let stopped = journal.append(
+        &mut disk,
+        Entry::Started {
+            change,
+            devices,
+            timeout,
+        },
+    );
+    assert_eq!(rt; stopped, Err(JournalFault::Stopped));
+    let (mut again, entries) = Journal::reopen(rt.alloc(), &mut disk)?;
+    assert_eq!(rt; entries.len(), 0);
+    assert_eq!(rt; disk.bytes(), [0].as_slice());
+    let added = again.append(
+        &mut disk,
+        Entry::Started {
+            change,
+            devices,
+            timeout,
+        },
+    );
+    assert_eq!(rt; added, Ok(()));
+    assert_eq!(rt; count(rt.alloc(), disk.bytes()), Ok(1));
+    Ok(())
+}
+
+// Three readings by hand: a list that ends after one record, a record behind a closed gate, and a
+// record of no kind behind an open one.
+#[test]
+fn lists_end_or_are_damaged(rt: HostRuntime) {
+    let mut bytes = WHOLE;
+    assert_eq!(rt; count(rt.alloc(), &[]), Ok(0));
+    assert_eq!(rt; count(rt.alloc(), &FIRST), Ok(1));
+    assert_eq!(rt; count(rt.alloc(), &bytes[..16]), Ok(0));
+    assert_eq!(rt; count(rt.alloc(), &bytes[..17]), Ok(1));
+    bytes[16] = 0;
+    assert_eq!(rt; count(rt.alloc(), &bytes[..33]), Ok(1));
+    bytes[16] = 1;
+    bytes[17] = 9;
+    assert_eq!(rt;
+        count(rt.alloc(), &bytes[..33]),
+        Err(JournalFault::Damaged { offset: 16 })
+    );
+    assert_eq!(rt; count(rt.alloc(), &bytes[..32]), Ok(1));
+}
+
+// The journal of version 1 is read, and goes on in version 2.
+#[test]
+#[tactic(auto, unfolding(nm_journal::specs::Entries::is_within))]
+fn version_1_goes_on_in_version_2(rt: HostRuntime) -> Result<(), Fail> {
+    let change = ChangeNo::new(1).ok_or("1")?;
+    let started = Entry::Started {
+        change,
+        devices: DeviceMask(3),
+        timeout: None,
+    };
+    let mut disk = MemoryDisk::with_limit(rt.alloc(), 64, 100)?;
+    assert_eq!(rt; disk.write_at(0, &FIRST), Ok(()));
+    let (mut journal, entries) = Journal::reopen(rt.alloc(), &mut disk)?;
+    assert_eq!(rt; disk.bytes(), FIRST.as_slice());
+    assert!(rt; entries.as_slice() == [started].as_slice());
+    let verdict = Verdict::Commit;
+    journal.append(&mut disk, Entry::Decided { change, verdict })?;
+    let mut expected = [0; 33];
+    expected[..16].copy_from_slice(&FIRST[..16]);
+    expected[16..].copy_from_slice(&WHOLE[16..33]);
+    expected[32] = 0;
+    assert_eq!(rt; disk.bytes(), expected.as_slice());
+    let read = read_entries(rt.alloc(), disk.bytes())?;
+    assert!(rt; read.as_slice() == journal.entries());
+    Ok(())
+}
+
+// One byte of the whole journal is another one: its place, its value, and what is read then.
+#[test]
+fn each_byte_of_a_record_counts(rt: HostRuntime) {
+    let first = Err(JournalFault::Damaged { offset: 0 });
+    let second = Err(JournalFault::Damaged { offset: 16 });
+    let third = Err(JournalFault::Damaged { offset: 32 });
+    let cases: [(&str, usize, u8, Result<usize, JournalFault>); 26] = [
+        ("a closed gate", 0, 0, Ok(0)),
+        ("a gate torn open", 0, 255, Ok(3)),
+        ("no kind", 1, 0, first),
+        ("a kind too high", 1, 4, first),
+        ("a change set far too high", 2, 1, first),
+        ("a change set too high", 5, 65, first),
+        ("no change set", 5, 0, first),
+        ("another change set", 5, 2, second),
+        ("no devices", 9, 0, first),
+        ("fewer devices", 9, 1, third),
+        ("a timeout in version 1", 10, 0, first),
+        ("the version as 1", 10, 1, first),
+        ("a version too high", 10, 3, first),
+        ("another timeout", 11, 1, Ok(3)),
+        ("the last that isn't zero", 15, 1, first),
+        ("a closed gate", 16, 0, Ok(1)),
+        ("a change set that isn't started", 21, 2, second),
+        ("no verdict", 22, 0, second),
+        ("a verdict too high", 22, 6, second),
+        ("a device of a commit", 23, 1, second),
+        ("a tag of a commit", 24, 1, second),
+        ("a byte that isn't zero", 25, 1, second),
+        ("a decision of version 1", 26, 0, Ok(3)),
+        ("a timeout of a decision", 30, 1, second),
+        ("kept devices of others", 41, 4, third),
+        ("an end of version 3", 42, 3, third),
+    ];
+    for (name, place, value, expected) in cases {
+        let mut bytes = WHOLE;
+        if place < 49 {
+            bytes[place] = value;
+        }
+        assert_eq!(rt; count(rt.alloc(), &bytes), expected, "{name}");
+    }
+}
+
+// The value 200 at each place: another open gate is open too, any devices may be started beside the two
+// that are kept, and any timeout may be long.
+#[test]
+fn a_wrong_byte_stands_at_each_place(rt: HostRuntime) {
+    for place in 0..48 {
+        let mut bytes = WHOLE;
+        bytes[place] = 200;
+        let expected = match place {
+            0 | 16 | 32 | 6..=8 | 11..=14 => Ok(3),
+            1..=5 | 10 | 15 => Err(JournalFault::Damaged { offset: 0 }),
+            17..=31 => Err(JournalFault::Damaged { offset: 16 }),
+            _ => Err(JournalFault::Damaged { offset: 32 }),
+        };
+        assert_eq!(rt; count(rt.alloc(), &bytes), expected, "byte {place}");
+    }
+}
+
+// Writes the last six bytes of a record.
+fn put_end(bytes: &mut [u8; 49], place: usize, end: &[u8; 6])
+    requires { place + 6 ≤ 49 }
+{
+    bytes[place..place + 6].copy_from_slice(end);
+}
+
+// The bytes 10 to 15 of each record, as they stand in one of the versions or in none, and what is read.
+#[test]
+fn versions_are_read(rt: HostRuntime) {
+    let one = [0; 6];
+    let two = [2, 0, 0, 0, 0, 0];
+    let timed = [2, 0, 0, 0, 1, 0];
+    let first = Err(JournalFault::Damaged { offset: 0 });
+    let second = Err(JournalFault::Damaged { offset: 16 });
+    let third = Err(JournalFault::Damaged { offset: 32 });
+    let cases: [(&str, [u8; 6], [u8; 6], [u8; 6], Result<usize, JournalFault>); 9] = [
+        ("version 1", one, one, one, Ok(3)),
+        ("version 2", timed, two, two, Ok(3)),
+        ("1, 2, 1", one, two, one, Ok(3)),
+        ("2, 1, 2", timed, one, two, Ok(3)),
+        ("no timeout", two, two, two, first),
+        (
+            "a timeout in version 1",
+            [0, 0, 0, 0, 1, 0],
+            one,
+            one,
+            first,
+        ),
+        (
+            "a byte behind the timeout",
+            [2, 0, 0, 0, 1, 1],
+            two,
+            two,
+            first,
+        ),
+        ("a timeout of a decision", timed, timed, two, second),
+        ("a timeout of an end", timed, one, timed, third),
+    ];
+    for (name, started, decided, ended, expected) in cases {
+        let mut bytes = WHOLE;
+        put_end(&mut bytes, 10, &started);
+        put_end(&mut bytes, 26, &decided);
+        put_end(&mut bytes, 42, &ended);
+        assert_eq!(rt; count(rt.alloc(), &bytes), expected, "{name}");
+    }
+}
+
+// Bytes 22 to 26, the decision and its version, and what is read then: an abort keeps no device.
+#[test]
+fn verdicts_are_read(rt: HostRuntime) {
+    let second = Err(JournalFault::Damaged { offset: 16 });
+    let third = Err(JournalFault::Damaged { offset: 32 });
+    let cases: [(&str, [u8; 5], u8, Result<usize, JournalFault>); 16] = [
+        ("refused", [2, 2, 3, 0, 2], 0, Ok(3)),
+        ("refused, in version 1", [2, 2, 3, 0, 0], 0, Ok(3)),
+        ("refused, and one kept", [2, 2, 3, 0, 2], 1, third),
+        ("refused by another device", [2, 3, 3, 0, 2], 0, second),
+        ("refused by none", [2, 0, 3, 0, 2], 0, second),
+        ("refused by device 33", [2, 33, 3, 0, 2], 0, second),
+        ("no tag", [2, 1, 0, 0, 2], 0, second),
+        ("the greatest tag", [2, 1, 8, 0, 2], 0, Ok(3)),
+        ("a tag too high", [2, 1, 9, 0, 2], 0, second),
+        ("broken", [3, 1, 0, 0, 2], 0, Ok(3)),
+        ("broken, with a tag", [3, 1, 1, 0, 2], 0, second),
+        ("forgotten", [4, 0, 0, 0, 2], 0, Ok(3)),
+        ("lapsed", [5, 2, 0, 0, 2], 0, Ok(3)),
+        ("lapsed, in version 1", [5, 2, 0, 0, 0], 0, second),
+        ("lapsed on another device", [5, 3, 0, 0, 2], 0, second),
+        ("lapsed, with a tag", [5, 2, 1, 0, 2], 0, second),
+    ];
+    for (name, verdict, kept, expected) in cases {
+        let mut bytes = WHOLE;
+        bytes[22..27].copy_from_slice(&verdict);
+        bytes[41] = kept;
+        assert_eq!(rt; count(rt.alloc(), &bytes), expected, "{name}");
+    }
+}
+
+// What a journal of version 2 has behind the record of a change set's start, once that was decided to be aborted.
+#[tactic(auto, unfolding(nm_journal::specs::Entries::is_within))]
+fn aborted(alloc: Global, disk: &mut MemoryDisk, cause: AbortCause) -> Result<(), Fail> {
+    let change = ChangeNo::new(64).ok_or("64")?;
+    let mut journal = Journal::fresh(alloc, disk)?;
+    journal.append(
+        disk,
+        Entry::Started {
+            change,
+            devices: DeviceMask(2),
+            timeout: None,
+        },
+    )?;
+    let verdict = Verdict::Abort(cause);
+    journal.append(disk, Entry::Decided { change, verdict })?;
+    Ok(())
+}
+
+// Aborts are written as they are read: device 2, tag 3.
+#[test]
+fn aborts_are_written(rt: HostRuntime) -> Result<(), Fail> {
+    let device = DeviceNo::new(2).ok_or("2")?;
+    let tag = Tag::LockDenied;
+    let mut disk = MemoryDisk::with_limit(rt.alloc(), 64, 100)?;
+    aborted(rt.alloc(), &mut disk, AbortCause::Refused { device, tag })?;
+    let refused = disk.bytes().get(17..).ok_or("short")?;
+    assert_eq!(rt;
+        refused,
+        [2, 0, 0, 0, 64, 2, 2, 3, 0, 2, 0, 0, 0, 0, 0, 0].as_slice()
+    );
+    let mut disk = MemoryDisk::with_limit(rt.alloc(), 64, 100)?;
+    aborted(rt.alloc(), &mut disk, AbortCause::Lapsed { device })?;
+    let lapsed = disk.bytes().get(17..).ok_or("short")?;
+    assert_eq!(rt;
+        lapsed,
+        [2, 0, 0, 0, 64, 5, 2, 0, 0, 2, 0, 0, 0, 0, 0, 0].as_slice()
+    );
+    Ok(())
+}

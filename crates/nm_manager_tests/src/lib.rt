@@ -1,0 +1,11 @@
+//! Tests of the journal, of links, and of what is asked for a change set.
+//!
+//! They stand apart from the crates that they test, since a crate's functions are proved once more with its tests.
+#![tactic(auto)]
+
+#[cfg(test)]
+mod decider;
+#[cfg(test)]
+mod journal;
+#[cfg(test)]
+mod wire;

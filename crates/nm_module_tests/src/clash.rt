@@ -1,0 +1,133 @@
+use nm_base::NoMemory;
+use nm_schema_clash::{Clashes, clashes_of};
+use nm_schema_rows::{Flaw, Rows, Word, rows_of};
+use nm_schema_shape::are_named;
+use nm_yang::read_module;
+use std::alloc::{AllocError, Global};
+use std::test::Fail;
+
+// The first grouping of the name that a uses has.
+fn grouping_for(rows: &Rows, at: usize) -> Option<usize> {
+    let row = rows.row(at)?;
+    if !row.word.same(Word::Uses) {
+        return None;
+    }
+    for other in 0..rows.len() {
+        if let Some(grouping) = rows.row(other)
+            && grouping.word.same(Word::Grouping)
+            && grouping.argument == row.argument
+        {
+            return Some(other);
+        }
+    }
+    None
+}
+
+fn groupings_of(alloc: Global, rows: &Rows) -> Result<Vec<Option<usize>>, NoMemory> {
+    let mut groupings = Vec::new(alloc);
+    for at in 0..rows.len() {
+        groupings.push(grouping_for(rows, at))?;
+    }
+    Ok(groupings)
+}
+
+// The first clash, and where.
+fn first_clash(alloc: Global, clashes: &Clashes<'_>, count: usize) -> Result<String, AllocError> {
+    for at in 0..count {
+        match clashes.clash_flaw(at) {
+            Ok(None) => {}
+            Ok(Some(Flaw::Duplicate(name))) => return format!(in alloc; "duplicate {name} {at}"),
+            Ok(Some(_)) => return String::from_str(alloc, "other"),
+            Err(NoMemory) => return String::from_str(alloc, "no memory"),
+        }
+    }
+    String::from_str(alloc, "none")
+}
+
+// A module's text; the nodes in it, and the first clash, by the number of its row (RFC 7950 sections 6.2.1, 7.9 and 7.13).
+const CLASHES: &str = r#"
+module m { leaf a; leaf b; } => none
+module m { leaf a; leaf b; container a; } => duplicate a 3
+module m { grouping g { leaf a; leaf b; leaf c; } leaf b; leaf c; uses g; } => duplicate b 7
+module m { grouping g { leaf a; } uses g; uses g; } => duplicate a 4
+module m { grouping g { leaf a; } uses g; container c { uses g; } } => none
+module m { grouping g { uses h; } grouping h { leaf a; } uses g; leaf a; } => duplicate a 6
+module m { grouping g { leaf a; leaf b; leaf c; leaf d; leaf e; leaf f; leaf g; leaf h; leaf i; } leaf i; uses g; } => duplicate i 12
+module m { grouping g { leaf a; leaf b; leaf c; leaf d; leaf e; leaf f; leaf g; leaf h; leaf i; } uses g; leaf i; } => duplicate i 12
+module m { grouping g { leaf a; leaf b; leaf c; leaf d; leaf e; leaf f; leaf g; leaf h; leaf i; } grouping o { leaf j; leaf k; leaf l; leaf m; leaf n; leaf h; leaf i; leaf o; leaf p; leaf q; } uses g; uses o; } => duplicate h 23
+module m { grouping g { leaf a; leaf b; leaf c; leaf d; leaf e; leaf f; leaf g; leaf h; leaf i; } leaf j; uses g; leaf k; container z { uses g; leaf j; } } => none
+module m { leaf a; uses nowhere; leaf a; } => duplicate a 3
+module m { leaf c; container c { uses nowhere; } } => duplicate c 2
+module m { grouping g { leaf a; container c { uses g; } } uses g; leaf a; } => duplicate a 6
+module m { choice c { case c { leaf a; } case a { leaf b; } case e; } leaf e; } => none
+module m { choice c { leaf a; } leaf a; } => duplicate a 3
+module m { leaf c; choice c; } => duplicate c 2
+module m { choice c { leaf c; } } => duplicate c 2
+module m { choice c { case d { choice e { case f { leaf c; } } } } } => duplicate c 5
+module m { choice c { case d { leaf a; } case e { leaf a; } } } => duplicate a 5
+module m { choice c { case d; case d; } } => duplicate d 3
+module m { choice c { case d; leaf d; } } => duplicate d 3
+module m { choice c { case d; choice d; } } => duplicate d 3
+module m { choice c { case d; } choice e { case d; } } => none
+module m { choice c { case d { choice e { case d; } } } } => none
+module m { grouping g { choice c { case a { leaf b; } } } leaf b; uses g; } => duplicate b 6
+module m { grouping g { choice c { case a { leaf b; } } } leaf a; choice d { case e { uses g; } } leaf c; } => duplicate c 9
+module m { grouping g { choice c { case a { uses h; } } } grouping h { leaf c; } } => duplicate c 4
+module m { container c { choice d { config false; leaf e; } leaf e; } } => duplicate e 5
+"#;
+
+#[test]
+fn finds_clashes(rt: HostRuntime) -> Result<(), Fail> {
+    let alloc = rt.alloc();
+    for row in CLASHES.lines().skip(1) {
+        let (text, expected) = row.split_once(" => ").ok_or("no row")?;
+        let modules = [read_module(alloc, text.as_bytes())?];
+        let rows = rows_of(alloc, &modules)?;
+        let groupings = groupings_of(alloc, &rows)?;
+        if are_named(&rows, &groupings) {
+            let clashes = clashes_of(alloc, &rows, &groupings)?;
+            assert_eq!(rt;
+                first_clash(alloc, &clashes, rows.len())?.as_str(),
+                expected,
+                "{text}"
+            );
+        } else {
+            assert!(rt; false, "{text}");
+        }
+    }
+    Ok(())
+}
+
+// A module with a grouping of many leafs and many containers that use it, each with a leaf of its own before or after it.
+fn wide_module(alloc: Global, count: usize) -> Result<String, AllocError> {
+    let mut text = String::from_str(alloc, "module m { grouping g {")?;
+    for number in 0..count {
+        let leaf = format!(in alloc; " leaf l{number};")?;
+        text.push_str(leaf.as_str())?;
+    }
+    text.push_str(" }")?;
+    for number in 0..count {
+        let container = format!(in alloc;
+            " container c{number} {{ leaf a{number}; uses g; leaf b{number}; }}"
+        )?;
+        text.push_str(container.as_str())?;
+    }
+    text.push_str(" }")?;
+    Ok(text)
+}
+
+#[test]
+fn passes_wide_groupings(rt: HostRuntime) -> Result<(), Fail> {
+    let alloc = rt.alloc();
+    let text = wide_module(alloc, 400)?;
+    let modules = [read_module(alloc, text.as_bytes())?];
+    let rows = rows_of(alloc, &modules)?;
+    let groupings = groupings_of(alloc, &rows)?;
+    if are_named(&rows, &groupings) {
+        let clashes = clashes_of(alloc, &rows, &groupings)?;
+        assert_eq!(rt; first_clash(alloc, &clashes, rows.len())?.as_str(), "none");
+    } else {
+        assert!(rt; false);
+    }
+    Ok(())
+}

@@ -1,0 +1,381 @@
+use nm_base::{Label, NoMemory};
+use nm_schema_rows::{
+    Flaw, Row, Rows, Word, grammar_flaw, is_builtin, is_identifier, is_reference, name_of,
+    prefix_of, rows_of, word_of,
+};
+use nm_yang::{Statement, read_module};
+use std::alloc::{AllocError, Global};
+use std::process::Abort;
+use std::test::Fail;
+
+fn kind_name(word: Word) -> &'static str {
+    match word {
+        Word::Skipped => "skipped",
+        Word::Unsupported => "unsupported",
+        Word::Unknown => "unknown",
+        _ => word.text(),
+    }
+}
+
+// The statements that RFC 7950 section 14 lists, and keywords that it doesn't.
+const KEYWORDS: &str = r#"
+module => module
+yang-version => yang-version
+namespace => namespace
+prefix => prefix
+import => import
+container => container
+presence => presence
+leaf => leaf
+leaf-list => leaf-list
+list => list
+fraction-digits => fraction-digits
+typedef => typedef
+grouping => grouping
+uses => uses
+min-elements => min-elements
+ordered-by => ordered-by
+organization => skipped
+description => skipped
+revision-date => skipped
+units => skipped
+error-app-tag => skipped
+notification => skipped
+extension => skipped
+x:leaf => skipped
+must => unsupported
+when => unsupported
+pattern => unsupported
+choice => choice
+case => case
+include => unsupported
+if-feature => unsupported
+require-instance => unknown
+input => unknown
+Leaf => unknown
+ => unknown
+"#;
+
+#[test]
+fn knows_keywords(rt: HostRuntime) -> Result<(), Fail> {
+    for row in KEYWORDS.lines().skip(1) {
+        let (keyword, expected) = row.split_once(" => ").ok_or("no row")?;
+        assert_eq!(rt; kind_name(word_of(keyword)), expected, "{keyword}");
+    }
+    assert_eq!(rt; Word::Leaf.same(Word::Leaf), true);
+    assert_eq!(rt; Word::Leaf.same(Word::LeafList), false);
+    Ok(())
+}
+
+// RFC 7950 sections 6.2, 6.5 and 4.2.4: whether it is an identifier, a reference, a built-in type.
+const NAMES: [(&str, bool, bool, bool); 16] = [
+    ("a", true, true, false),
+    ("_a-b.9", true, true, false),
+    ("A", true, true, false),
+    ("9a", false, false, false),
+    ("-a", false, false, false),
+    (".a", false, false, false),
+    ("a b", false, false, false),
+    ("", false, false, false),
+    ("p:a", false, true, false),
+    ("p:", false, false, false),
+    (":a", false, false, false),
+    ("p:a:b", false, false, false),
+    ("9:a", false, false, false),
+    ("int8", true, true, true),
+    ("instance-identifier", true, true, true),
+    ("p:int8", false, true, false),
+];
+
+#[test]
+fn knows_names(rt: HostRuntime) -> Result<(), Fail> {
+    for (text, identifier, reference, builtin) in &NAMES {
+        assert_eq!(rt; is_identifier(text), *identifier, "{text}");
+        assert_eq!(rt; is_reference(text), *reference, "{text}");
+        assert_eq!(rt; is_builtin(text), *builtin, "{text}");
+    }
+    Ok(())
+}
+
+// RFC 7950 section 6.5: a prefix ends before the first colon.
+const PARTS: [(&str, &str, &str); 4] = [
+    ("p:a", "p", "a"),
+    ("a", "none", "a"),
+    (":a", "", "a"),
+    ("p:a:b", "p", "a:b"),
+];
+
+#[test]
+fn parts_names(rt: HostRuntime) -> Result<(), Fail> {
+    for (text, prefix, name) in &PARTS {
+        assert_eq!(rt; prefix_of(text).unwrap_or("none"), *prefix, "{text}");
+        assert_eq!(rt; name_of(text), *name, "{text}");
+    }
+    Ok(())
+}
+
+// A row as its module, its number, its parent, its keyword and its place.
+fn show_row(alloc: Global, out: &mut String, at: usize, row: &Row) -> Result<(), AllocError> {
+    let text = match row.parent {
+        None => format!(in alloc; "{}:{} - {} {};", row.module, at, row.keyword, row.place)?,
+        Some(parent) => format!(in alloc;
+            "{}:{} {} {} {};",
+            row.module, at, parent, row.keyword, row.place
+        )?,
+    };
+    out.push_str(text.as_str())
+}
+
+fn shown(alloc: Global, rows: &Rows) -> Result<String, AllocError> {
+    let mut out = String::new(alloc);
+    for at in 0..rows.len() {
+        if let Some(row) = rows.row(at) {
+            show_row(alloc, &mut out, at, row)?;
+        }
+    }
+    Ok(out)
+}
+
+// Worked out by hand: skipped statements and what is below them have no rows, nor has what is below unknown ones.
+const ROWS: [(&str, &str, &str); 4] = [
+    ("module a;", "module b;", "0:0 - module 0;1:1 - module 0;"),
+    (
+        "module a { prefix a; leaf x { type int8; } }",
+        "module b { description d; uses g; }",
+        "0:0 - module 0;0:1 0 prefix 11;0:2 0 leaf 21;0:3 2 type 30;1:4 - module 0;1:5 4 uses 26;",
+    ),
+    (
+        "module a { rpc r { leaf x; } x:y { leaf z; } leaf l; }",
+        "module b { foo { leaf x; } must { leaf y; } leaf l; }",
+        "0:0 - module 0;0:1 0 leaf 45;1:2 - module 0;1:3 2 foo 11;1:4 2 must 27;1:5 2 leaf 44;",
+    ),
+    (
+        "module a { list l { leaf x { type t { range r; } } key x; } }",
+        "module b;",
+        "0:0 - module 0;0:1 0 list 11;0:2 1 leaf 20;0:3 2 type 29;0:4 3 range 38;0:5 1 key 51;1:6 - module 0;",
+    ),
+];
+
+#[test]
+fn makes_rows(rt: HostRuntime) -> Result<(), Fail> {
+    let alloc = rt.alloc();
+    for (one, other, expected) in &ROWS {
+        let modules = [
+            read_module(alloc, one.as_bytes())?,
+            read_module(alloc, other.as_bytes())?,
+        ];
+        let rows = rows_of(alloc, &modules)?;
+        assert_eq!(rt; shown(alloc, &rows)?.as_str(), *expected, "{one} {other}");
+    }
+    Ok(())
+}
+
+#[test]
+fn finds_rows(rt: HostRuntime) -> Result<(), Fail> {
+    let alloc = rt.alloc();
+    let text = "module a { prefix a; leaf x { type t; } leaf y; }";
+    let modules = [read_module(alloc, text.as_bytes())?];
+    let rows = rows_of(alloc, &modules)?;
+    assert_eq!(rt; rows.is_empty(), false);
+    assert_eq!(rt; rows.len(), 5);
+    assert_eq!(rt; rows.roots(), [0].as_slice());
+    assert_eq!(rt; rows.below(0), [1, 2, 4].as_slice());
+    assert_eq!(rt; rows.below(5), [].as_slice());
+    assert_eq!(rt; rows.first_below(0, Word::Leaf), Some(2));
+    assert_eq!(rt; rows.first_below(0, Word::Type), None);
+    assert_eq!(rt; rows.first_in(Some(2), Word::Type), Some(3));
+    assert_eq!(rt; rows.first_in(None, Word::Module), Some(0));
+    Ok(())
+}
+
+fn flaw_text(alloc: Global, flaw: &Flaw, place: u32) -> Result<String, AllocError> {
+    match flaw {
+        Flaw::Unsupported(name) => format!(in alloc; "unsupported {name} {place}"),
+        Flaw::Unknown(name) => format!(in alloc; "unknown {name} {place}"),
+        Flaw::Duplicate(name) => format!(in alloc; "duplicate {name} {place}"),
+        Flaw::BadReference(name) => format!(in alloc; "bad-reference {name} {place}"),
+        Flaw::BadArgument(name) => format!(in alloc; "bad-argument {name} {place}"),
+        Flaw::Cycle(name) => format!(in alloc; "cycle {name} {place}"),
+    }
+}
+
+// The first flaw in a module as its kind, its name and its place behind so many bytes.
+fn first_flaw(alloc: Global, rows: &Rows, before: u32) -> Result<String, AllocError> {
+    for at in 0..rows.len() {
+        let Some(row) = rows.row(at) else {
+            return String::from_str(alloc, "no row");
+        };
+        match grammar_flaw(alloc, rows, at) {
+            Ok(None) => {}
+            Ok(Some(flaw)) => return flaw_text(alloc, &flaw, row.place.saturating_sub(before)),
+            Err(NoMemory) => return String::from_str(alloc, "no memory"),
+        }
+    }
+    String::from_str(alloc, "none")
+}
+
+// Each is what stands within a module `m`, behind its namespace and prefix. Places count from there.
+const WITHIN: &str = r#"
+ => none
+leaf a { type int8; } => none
+leaf a; => bad-argument type 0
+leaf a { type int8; type int8; } => duplicate type 20
+leaf a { type int8; mandatory true; config false; default 1; } => none
+leaf a { type int8; mandatory yes; } => bad-argument mandatory 20
+leaf a { type int8; config ""; } => bad-argument config 20
+leaf a { type int8; config; } => bad-argument config 20
+leaf a { type int8; key a; } => unknown key 20
+leaf a { type int8; must x; } => unsupported must 20
+leaf a { type int8; foo; } => unknown foo 20
+leaf a { type int8; description; x:y; } => none
+leaf a { type int8; description { foo; } } => none
+leaf 9 { type int8; } => bad-argument leaf 0
+leaf { type int8; } => bad-argument leaf 0
+leaf { } => bad-argument type 0
+leaf a { type p:t; } => none
+leaf a { type p:; } => bad-argument type 9
+leaf a { type union; } => unsupported union 9
+leaf a { type identityref; } => unsupported identityref 9
+leaf a { type binary; } => unsupported binary 9
+leaf a { type instance-identifier; } => unsupported instance-identifier 9
+leaf a { type p:union; } => none
+leaf a { type t { range x; length y; path z; fraction-digits 18; } } => none
+leaf a { type t { fraction-digits 0; } } => bad-argument fraction-digits 18
+leaf a { type t { fraction-digits 19; } } => bad-argument fraction-digits 18
+leaf a { type t { fraction-digits 01; } } => bad-argument fraction-digits 18
+leaf a { type t { enum "a b" { value 1; } enum b; bit c { position 0; } } } => none
+leaf a { type t { enum ""; } } => bad-argument enum 18
+leaf a { type t { enum " a"; } } => bad-argument enum 18
+leaf a { type t { enum "a\n"; } } => bad-argument enum 18
+leaf a { type t { bit 9; } } => bad-argument bit 18
+leaf a { type t { pattern p; } } => unsupported pattern 18
+leaf a { type t { require-instance true; } } => unknown require-instance 18
+leaf-list a { type int8; min-elements 0; max-elements 1; ordered-by system; } => none
+leaf-list a { type int8; max-elements unbounded; } => none
+leaf-list a { type int8; max-elements 0; } => bad-argument max-elements 25
+leaf-list a { type int8; min-elements 4294967295; } => none
+leaf-list a { type int8; min-elements 4294967296; } => bad-argument min-elements 25
+leaf-list a { type int8; min-elements 01; } => bad-argument min-elements 25
+leaf-list a { type int8; ordered-by user; } => unsupported ordered-by 25
+leaf-list a { type int8; ordered-by me; } => bad-argument ordered-by 25
+leaf-list a { type int8; default 1; default 2; } => unsupported default 25
+leaf-list a { type int8; default; } => bad-argument default 25
+list a { key k; unique u; unique v; leaf k { type int8; } uses p:g; } => none
+list a { key k; key k; } => duplicate key 16
+list a { mandatory true; } => unknown mandatory 9
+container a { presence x; presence y; } => duplicate presence 26
+container a { presence x; config true; typedef t { type t; } grouping g; } => none
+typedef t { type int8; default 1; } => none
+typedef t; => bad-argument type 0
+typedef string { type int8; } => bad-argument typedef 0
+typedef union { type int8; } => bad-argument typedef 0
+grouping g { config true; } => unknown config 13
+uses g { leaf a; } => unknown leaf 9
+choice c; => none
+choice c { case a; } => none
+choice 9; => bad-argument choice 0
+choice; => bad-argument choice 0
+case c; => unknown case 0
+choice c { case 9; } => bad-argument case 11
+choice c { leaf a; } => bad-argument type 11
+choice c { leaf a { type t; } leaf-list b { type t; } container d; list e; } => none
+choice c { choice d { choice e; } case f { choice g; } } => none
+choice c { mandatory true; config false; } => none
+choice c { mandatory; } => bad-argument mandatory 11
+choice c { mandatory true; mandatory true; } => duplicate mandatory 27
+choice c { config true; config true; } => duplicate config 24
+choice c { default a; } => unsupported default 11
+choice c { case a { default b; } } => unknown default 20
+choice c { description d; reference r; status s; } => none
+choice c { when w; } => unsupported when 11
+choice c { if-feature f; } => unsupported if-feature 11
+choice c { uses g; } => unknown uses 11
+choice c { typedef t { type u; } } => unknown typedef 11
+choice c { grouping g; } => unknown grouping 11
+choice c { key k; } => unknown key 11
+choice c { case a { uses g; container d; list e; } } => none
+choice c { case a { case b; } } => unknown case 20
+choice c { case a { mandatory true; } } => unknown mandatory 20
+choice c { case a { config true; } } => unknown config 20
+choice c { case a { typedef t { type u; } } } => unknown typedef 20
+grouping g { choice c { case a { leaf b { type t; } } } } => none
+list l { choice c; } container d { choice e { anydata f; } } => unsupported anydata 46
+import x { prefix x; } => none
+import x; => bad-argument prefix 0
+prefix q; => duplicate prefix 0
+module n { namespace n; prefix n; } => unknown module 0
+"#;
+
+#[test]
+fn finds_flaws_within_modules(rt: HostRuntime) -> Result<(), Fail> {
+    let alloc = rt.alloc();
+    let start = "module m{namespace n;prefix m;";
+    for row in WITHIN.lines().skip(1) {
+        let (text, expected) = row.split_once(" => ").ok_or("no row")?;
+        let whole = format!(in alloc; "{start}{text}}}")?;
+        let modules = [read_module(alloc, whole.as_str().as_bytes())?];
+        let rows = rows_of(alloc, &modules)?;
+        let found = first_flaw(alloc, &rows, 30)?;
+        assert_eq!(rt; found.as_str(), expected, "{text}");
+    }
+    Ok(())
+}
+
+// RFC 7950 section 7.1.1: what a module holds.
+const MODULES: [(&str, &str); 9] = [
+    ("module m;", "bad-argument namespace 0"),
+    ("module m{namespace n;}", "bad-argument prefix 0"),
+    ("module m{prefix n;}", "bad-argument namespace 0"),
+    ("module m{namespace n;prefix p;}", "none"),
+    (
+        "module m{namespace \"\";prefix p;}",
+        "bad-argument namespace 9",
+    ),
+    ("module 9{namespace n;prefix p;}", "bad-argument module 0"),
+    ("module m{yang-version 1.1;namespace n;prefix p;}", "none"),
+    (
+        "module m{yang-version 2;namespace n;prefix p;}",
+        "bad-argument yang-version 9",
+    ),
+    (
+        "module m{belongs-to n;namespace n;prefix p;}",
+        "unsupported belongs-to 9",
+    ),
+];
+
+#[test]
+fn finds_flaws_of_modules(rt: HostRuntime) -> Result<(), Fail> {
+    let alloc = rt.alloc();
+    for (text, expected) in &MODULES {
+        let modules = [read_module(alloc, text.as_bytes())?];
+        let rows = rows_of(alloc, &modules)?;
+        let found = first_flaw(alloc, &rows, 0)?;
+        assert_eq!(rt; found.as_str(), *expected, "{text}");
+    }
+    Ok(())
+}
+
+// RFC 7950 section 5.1: the outermost statement is a module.
+const OUTERMOST: [(&str, &str); 4] = [
+    ("leaf", "unknown leaf 7"),
+    ("organization", "unknown organization 7"),
+    ("submodule", "unsupported submodule 7"),
+    ("x:module", "unknown x:module 7"),
+];
+
+#[test]
+fn finds_flaws_outermost(rt: HostRuntime) -> Result<(), Fail> {
+    let alloc = rt.alloc();
+    for (keyword, expected) in &OUTERMOST {
+        let statement = Statement {
+            keyword: Label::new(alloc, keyword)?,
+            argument: None,
+            place: 7,
+            below: Vec::new(alloc),
+        };
+        let rows = rows_of(alloc, &[statement])?;
+        let found = first_flaw(alloc, &rows, 0)?;
+        assert_eq!(rt; found.as_str(), *expected, "{keyword}");
+    }
+    Ok(())
+}

@@ -1,0 +1,229 @@
+use nm_base::NoMemory;
+use nm_schema_names::{Names, is_marker};
+use nm_schema_rows::{Flaw, Rows, Word, rows_of};
+use nm_yang::read_module;
+use std::alloc::{AllocError, Global};
+use std::test::Fail;
+
+fn rows_in(alloc: Global, one: &str, other: &str) -> Result<Rows, Fail> {
+    let modules = [
+        read_module(alloc, one.as_bytes())?,
+        read_module(alloc, other.as_bytes())?,
+    ];
+    Ok(rows_of(alloc, &modules)?)
+}
+
+fn flaw_text(alloc: Global, flaw: &Flaw, owner: usize, place: u32) -> Result<String, AllocError> {
+    match flaw {
+        Flaw::Unsupported(name) => format!(in alloc; "unsupported {name} {owner}:{place}"),
+        Flaw::Unknown(name) => format!(in alloc; "unknown {name} {owner}:{place}"),
+        Flaw::Duplicate(name) => format!(in alloc; "duplicate {name} {owner}:{place}"),
+        Flaw::BadReference(name) => format!(in alloc; "bad-reference {name} {owner}:{place}"),
+        Flaw::BadArgument(name) => format!(in alloc; "bad-argument {name} {owner}:{place}"),
+        Flaw::Cycle(name) => format!(in alloc; "cycle {name} {owner}:{place}"),
+    }
+}
+
+// The first flaw of two modules as its kind, its name, its module and its place.
+fn first_flaw(alloc: Global, names: &Names<'_>) -> Result<String, AllocError> {
+    let rows = names.rows();
+    for at in 0..rows.len() {
+        let Some(row) = rows.row(at) else {
+            return String::from_str(alloc, "no row");
+        };
+        match names.name_flaw(at) {
+            Ok(None) => {}
+            Ok(Some(flaw)) => return flaw_text(alloc, &flaw, row.module, row.place),
+            Err(NoMemory) => return String::from_str(alloc, "no memory"),
+        }
+    }
+    String::from_str(alloc, "none")
+}
+
+// RFC 7950 sections 5.1, 5.5, 6.2.1, 7.1.4, 7.1.5 and 7.3: names that are there twice or lead nowhere.
+const FLAWS: &str = r#"
+module a { prefix a; import b { prefix b; } } => module b { prefix b; import a { prefix a; } } => none
+module a { prefix a; import a { prefix x; } } => module b; => none
+module a; => module a; => duplicate a 1:0
+module netm-marker; => module b; => duplicate netm-marker 0:0
+module a { import c { prefix c; } } => module b; => unknown c 0:11
+module a { import netm-marker { prefix nm; } } => module netm-marker; => unknown netm-marker 0:11
+module a { prefix a; import b { prefix a; } } => module b; => duplicate a 0:32
+module a { import b { prefix p; } import b { prefix p; } } => module b; => duplicate p 0:45
+module a { prefix p; } => module b { prefix p; } => none
+module a { typedef t { type int8; } typedef t { type int8; } } => module b; => duplicate t 0:36
+module a { typedef t { type int8; } grouping t; } => module b { grouping t; } => none
+module a { grouping g; grouping g; } => module b; => duplicate g 0:23
+module a { typedef t { type int8; } container c { typedef t { type t; } } } => module b; => none
+module a { leaf x { type t; } } => module b { typedef t { type int8; } } => bad-reference t 0:20
+module a { leaf x { type int8; } } => module b { leaf x { type union; } } => none
+module a { prefix p; leaf x { type p:int8; } } => module b; => bad-reference p:int8 0:30
+module a { uses g; } => module b { grouping g; } => bad-reference g 0:11
+module a { typedef g { type int8; } uses g; } => module b; => bad-reference g 0:36
+module a { uses p:g; grouping g; } => module b; => bad-reference p:g 0:11
+module a { import b { prefix p; } uses p:g; } => module b { grouping g; } => none
+module a { import b { prefix p; } uses p:g; grouping g; } => module b; => bad-reference p:g 0:34
+module a { import b { prefix p; } uses p:g; } => module b { container c { grouping g; } } => bad-reference p:g 0:34
+module a { import b { prefix p; } } => module b { uses p:g; grouping g; } => bad-reference p:g 1:11
+module a { prefix p; uses p:g; grouping g; } => module b; => none
+module a { prefix p; container c { grouping g; uses p:g; } } => module b; => none
+module a { container c { grouping g; } uses g; } => module b; => bad-reference g 0:39
+module { uses; } => module { type; } => none
+"#;
+
+#[test]
+fn finds_flaws(rt: HostRuntime) -> Result<(), Fail> {
+    let alloc = rt.alloc();
+    for row in FLAWS.lines().skip(1) {
+        let (one, rest) = row.split_once(" => ").ok_or("no row")?;
+        let (other, expected) = rest.split_once(" => ").ok_or("no row")?;
+        let rows = rows_in(alloc, one, other)?;
+        let names = Names::new(alloc, &rows)?;
+        assert_eq!(rt;
+            first_flaw(alloc, &names)?.as_str(),
+            expected,
+            "{one} {other}"
+        );
+    }
+    Ok(())
+}
+
+// RFC 7950 section 5.5, rows counted by hand: a row, and what it leads to.
+const LEADS: [(&str, &str, usize, Option<usize>); 7] = [
+    (
+        "module a { typedef t { type int8; } list c { typedef t { type int8; } leaf x { type t; } } }",
+        "module b;",
+        7,
+        Some(4),
+    ),
+    (
+        "module a { container c { leaf x { type t; } } typedef t { type int8; } }",
+        "module b;",
+        3,
+        Some(4),
+    ),
+    (
+        "module a { grouping g; grouping g; uses g; }",
+        "module b;",
+        3,
+        Some(1),
+    ),
+    (
+        "module a { prefix p; container c { grouping g; uses p:g; } grouping g; }",
+        "module b;",
+        4,
+        Some(3),
+    ),
+    (
+        "module a { import b { prefix p; } grouping g; uses p:g; }",
+        "module b { grouping g; }",
+        4,
+        Some(6),
+    ),
+    (
+        "module a { import a { prefix x; } list c { grouping g; uses x:g; } grouping g; }",
+        "module b;",
+        5,
+        Some(6),
+    ),
+    ("module a { leaf x { type int8; } }", "module b;", 2, None),
+];
+
+#[test]
+fn leads(rt: HostRuntime) -> Result<(), Fail> {
+    let alloc = rt.alloc();
+    for (one, other, at, expected) in &LEADS {
+        let rows = rows_in(alloc, one, other)?;
+        let names = Names::new(alloc, &rows)?;
+        assert_eq!(rt; names.leads_to(*at), *expected, "{one} {other}");
+    }
+    Ok(())
+}
+
+const ONE: &str = "module a { prefix p; import b { prefix q; } leaf x { type t; } leaf x; }";
+
+const OTHER: &str = "module b { grouping g { leaf x; } }";
+
+#[test]
+fn finds_names(rt: HostRuntime) -> Result<(), Fail> {
+    let alloc = rt.alloc();
+    let rows = rows_in(alloc, ONE, OTHER)?;
+    let names = Names::new(alloc, &rows)?;
+    assert_eq!(rt; names.named(Some(0), Word::Leaf, "x"), Some(4));
+    assert_eq!(rt; names.named(Some(7), Word::Leaf, "x"), None);
+    assert_eq!(rt; names.named_in(Some(8), Word::Leaf, "x"), Some(9));
+    assert_eq!(rt; names.named_in(None, Word::Module, "a"), None);
+    assert_eq!(rt; names.named_within(1, Word::Leaf, "x"), Some(9));
+    assert_eq!(rt; names.named_within(1, Word::Prefix, "p"), None);
+    assert_eq!(rt; names.definition(9, Word::Grouping, "g"), Some(8));
+    assert_eq!(rt; names.definition(4, Word::Grouping, "q:g"), Some(8));
+    Ok(())
+}
+
+#[test]
+fn finds_modules(rt: HostRuntime) -> Result<(), Fail> {
+    let alloc = rt.alloc();
+    let rows = rows_in(alloc, ONE, OTHER)?;
+    let names = Names::new(alloc, &rows)?;
+    assert_eq!(rt; names.top(1), Some(7));
+    assert_eq!(rt; names.top(2), None);
+    assert_eq!(rt; names.parent_of(9), Some(8));
+    assert_eq!(rt; names.module_named("b"), Some(7));
+    assert_eq!(rt; names.module_named("netm-marker"), None);
+    assert_eq!(rt; names.is_own(0, "p"), true);
+    assert_eq!(rt; names.is_own(0, "q"), false);
+    assert_eq!(rt; names.prefix_leads(0, "p"), Some(0));
+    assert_eq!(rt; names.prefix_leads(0, "q"), Some(7));
+    assert_eq!(rt; names.prefix_leads(1, "q"), None);
+    assert_eq!(rt; is_marker("netm-marker"), true);
+    Ok(())
+}
+
+fn show_row(
+    alloc: Global,
+    out: &mut String,
+    at: usize,
+    row: &Vec<usize>,
+) -> Result<(), AllocError> {
+    let head = format!(in alloc; "{at}:")?;
+    out.push_str(head.as_str())?;
+    for next in row {
+        let text = format!(in alloc; " {next}")?;
+        out.push_str(text.as_str())?;
+    }
+    out.push_str(";")
+}
+
+fn shown(alloc: Global, graph: &Vec<Vec<usize>>) -> Result<String, AllocError> {
+    let mut out = String::new(alloc);
+    for (at, row) in graph.iter().enumerate() {
+        show_row(alloc, &mut out, at, row)?;
+    }
+    Ok(out)
+}
+
+// Worked out by hand: what each row leads to.
+const GRAPHS: [(&str, &str, &str); 2] = [
+    (
+        "module a { typedef t { type int8; } grouping g { leaf x { type t; } grouping h; } list l { key k; uses g; } }",
+        "module b;",
+        "0: 7;1: 2;2:;3: 4;4: 5;5: 1;6:;7: 9;8:;9: 3;10:;",
+    ),
+    (
+        "module a { import b { prefix b; } leaf-list x { type b:t; } container y { uses b:g; uses z; } }",
+        "module b { typedef t { type t; } grouping g { uses g; } }",
+        "0: 3 5;1:;2:;3: 4;4: 9;5: 6 7;6: 11;7:;8:;9: 10;10: 9;11: 12;12: 11;",
+    ),
+];
+
+#[test]
+fn makes_graphs(rt: HostRuntime) -> Result<(), Fail> {
+    let alloc = rt.alloc();
+    for (one, other, expected) in &GRAPHS {
+        let rows = rows_in(alloc, one, other)?;
+        let names = Names::new(alloc, &rows)?;
+        let graph = names.successors(alloc)?;
+        assert_eq!(rt; shown(alloc, &graph)?.as_str(), *expected, "{one} {other}");
+    }
+    Ok(())
+}

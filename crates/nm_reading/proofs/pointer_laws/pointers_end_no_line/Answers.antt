@@ -1,5 +1,0 @@
-use Rattle.nm_reading.proofs.Pointers.{pointer_printable}
-use Rattle.nm_reading.proofs.pointer_laws.pointers_end_no_line.Goals as goal
-
-pub returns : goal.returns
-returns c = pointer_printable

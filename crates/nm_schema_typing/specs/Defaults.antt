@@ -1,0 +1,85 @@
+-- Defaults (RFC 7950 sections 7.3.4, 7.6.1, 7.6.4 and 9.11).
+use Rattle.std.specs.Prelude.{ℕ, Bool, true, false, List, [], ◌∷◌, length, Option, Some, None, Result, Ok, Err, if◌then◌else◌, slice_get}
+use Rattle.nm_graph.specs.Value.{strict}
+use Rattle.nm_types.specs.declared.value.Value.{Value}
+use Rattle.nm_types.specs.declared.fault.ValueFault.{ValueFault}
+use Rattle.nm_types.specs.LeafType.{Kind, empty, TypeOfLeaf}
+use Rattle.nm_types.specs.Reading.{reading}
+use Rattle.nm_schema_rows.specs.declared.row.Row.{Row}
+use Rattle.nm_schema_rows.specs.declared.flaw.Flaw.{Flaw}
+use Rattle.nm_schema_rows.specs.declared.flaw.Flaw.TheVariants as flaw
+use Rattle.nm_schema_rows.specs.declared.word.Word.{Word}
+use Rattle.nm_schema_rows.specs.declared.word.Word.TheVariants as word
+use Rattle.nm_schema_rows.specs.Word.{same_word}
+use Rattle.nm_schema_derive.specs.Kinds.{leaf_type_of}
+use Rattle.nm_schema_typing.specs.Restricting.{argument_below}
+use Rattle.nm_schema_typing.specs.TypeGraph.{is_typed, is_type, leads}
+use Rattle.nm_schema_typing.specs.Meaning.{Meaning, plain, reference}
+use Rattle.nm_schema_typing.specs.Along.{within, meaning_of}
+
+-- ---- which texts may be defaults
+
+abbrev pub is_empty : Kind → Bool
+is_empty empty = true
+is_empty _ = false
+
+abbrev pub is_read : Result Value ValueFault → Bool
+is_read (Ok v) = true
+is_read (Err fault) = false
+
+-- a value of the type, which isn't empty (RFC 7950 sections 7.6.4 and 9.11.1)
+abbrev pub fits_type : List ℕ → Option TypeOfLeaf → Bool
+fits_type text None = true
+fits_type text (Some t) = if is_empty t.kind then false else is_read (reading t text)
+
+-- a leafref's default isn't judged by its type alone (RFC 7950 section 9.9)
+abbrev pub fits : List ℕ → Option Meaning → Bool
+fits text None = true
+fits text (Some (plain d)) = fits_type text (leaf_type_of d)
+fits text (Some (reference p)) = true
+
+-- whether a text may be a default of row i, a leaf or typedef; where that has no meaning, each may
+unfoldable pub is_default : List Row → List (Option ℕ) → ℕ → List ℕ → Bool
+is_default rows typedefs i text = fits text (meaning_of rows typedefs i)
+
+abbrev pub default_in : List Row → List (Option ℕ) → Row → Option (List ℕ) → Option ℕ → Option Flaw
+default_in rows typedefs r None parent = None
+default_in rows typedefs r (Some text) None = None
+default_in rows typedefs r (Some text) (Some i) = if is_default rows typedefs i text then None else Some (flaw.BadArgument r.keyword)
+
+abbrev pub default_by : List Row → List (Option ℕ) → Option Row → Option Flaw
+default_by rows typedefs None = None
+default_by rows typedefs (Some r) = if same_word r.word word.Default then default_in rows typedefs r r.argument r.parent else None
+
+-- the flaw of a `default` statement: its text may not be a default of the leaf or typedef that it stands in
+unfoldable pub default_flaw : List Row → List (Option ℕ) → ℕ → Option Flaw
+default_flaw rows typedefs at = default_by rows typedefs (slice_get rows at)
+
+-- ---- which default a row has
+
+abbrev pub own_or : Option (List ℕ) → Option (List ℕ) → Option (List ℕ)
+own_or None base = base
+own_or (Some text) base = Some text
+
+abbrev pub default_from : List Row → ℕ → Option (List ℕ) → Option Row → Option (List ℕ)
+default_from rows i base None = None
+default_from rows i base (Some r) = if is_typed r.word then own_or (argument_below rows i word.Default) base else (if is_type r.word then base else None)
+
+-- the default of row i, by that of the row that it leads to: its own, or that of its type (RFC 7950 section 7.6.1)
+unfoldable pub default_at : List Row → ℕ → Option (List ℕ) → Option (List ℕ)
+default_at rows i base = default_from rows i base (slice_get rows i)
+
+abbrev pub joined : Option (Option (List ℕ)) → Option (List ℕ)
+joined None = None
+joined (Some text) = text
+
+abbrev pub first_text : List (Option (List ℕ)) → Option (Option (List ℕ))
+first_text [] = None
+first_text (text ∷ texts) = Some text
+
+abbrev pub default_step : List Row → ℕ → List (Option (List ℕ)) → Option (Option (List ℕ))
+default_step rows i known = Some (default_at rows i (joined (first_text known)))
+
+-- the default of row i: a leaf's or typedef's own, else that of the typedef that its type names, and so on (RFC 7950 section 7.6.1); none where types lead to themselves
+unfoldable pub default_of : List Row → List (Option ℕ) → ℕ → Option (List ℕ)
+default_of rows typedefs i = joined (within (strict (default_step rows)) (leads rows typedefs) (length rows) i)
