@@ -1,5 +1,5 @@
 -- What a crash leaves of a journal's disk in which nothing stood, from one part of a run to the whole.
-use Rattle.std.proofs.Common.{◌≡◌, ℕ, List, [], Option, Some, None, Result, Ok, IsSome, IfSome, unwrap_or, refl, sym, subst, arith, inl}
+use Rattle.std.proofs.Common.{◌≡◌, ℕ, List, [], map, Option, Some, None, Result, Ok, IsSome, IfSome, unwrap_or, refl, sym, subst, arith, inl}
 use Rattle.nm_disk.specs.Image.{AnyMoment, LeavesOnly}
 use Rattle.nm_disk.specs.Moments.{and_then, weaker}
 use Rattle.nm_proto.specs.declared.journal.Entry.{Entry}
@@ -10,7 +10,7 @@ use Rattle.nm_scenario.specs.Scenario.{ReadsBytes}
 use Rattle.nm_scenario.proofs.Single.{one_of_bytes}
 use Rattle.nm_scenario_parts.specs.declared.fault.Fault.{Fault}
 use Rattle.nm_proto.specs.FlatContent.{flat_meaning}
-use Rattle.nm_content.specs.Meaning.{yang_meaning}
+use Rattle.nm_content.specs.Meaning.{lifted, yang_meaning}
 use Rattle.nm_network.specs.Runs.{GoesOnAs, IsBetween}
 use Rattle.nm_console.specs.Console.{LeavesSoFar, LeavesSoFarBy, LeavesSoFarOf, entries_by, world_of}
 
@@ -67,7 +67,7 @@ module _ {D : Type 0} (told : D → Option (List ℕ)) (may_leave : D → List �
       subst (λ body. AnyMoment moment left_since old new (IsBetween [] (unwrap_or (entries_by [] body s) []))) (sym is) moments
 
   pub yang_so : (s : Scenario) (modules : _) (tree : _) (devices : _) (edits : _) (old new : D) → s.body ≡ Yang modules tree devices edits
-      → AnyMoment moment left_since old new (IsBetween [] (world_of (yang_meaning tree) devices edits s).entries)
+      → AnyMoment moment left_since old new (IsBetween [] (world_of (yang_meaning tree) (map lifted devices) edits s).entries)
       → AnyMoment moment left_since old new (LeavesSoFar (Ok s))
   yang_so s modules tree devices edits old new is moments =
       subst (λ body. AnyMoment moment left_since old new (IsBetween [] (unwrap_or (entries_by [] body s) []))) (sym is) moments
@@ -77,10 +77,6 @@ module _ {D : Type 0} (told : D → Option (List ℕ)) (may_leave : D → List �
       → AnyMoment moment left_since old new (LeavesSoFarBy bytes)
   read_so bytes given old new is moments =
       weaker moment left_since may_leave old new (LeavesSoFar given) (LeavesSoFarBy bytes) (λ image so_far outcome reads. subst (λ o. LeavesSoFar o image) (one_of_bytes bytes given outcome is reads) so_far) moments
-
-  -- nothing was run of them
-  pub not_led : (bytes : List ℕ) (disk : D) → OnlyNow disk → LeavesOnly [] (may_leave disk) → AnyMoment moment left_since disk disk (LeavesSoFarBy bytes)
-  not_led bytes disk only empty = untouched disk (LeavesSoFarBy bytes) only (λ image left outcome reads. nothing_yet _ image (empty image left))
 
   -- what is left is that of the bytes of the input
   pub input_so : (left : Option (List ℕ)) (bytes : List ℕ) (old new : D) → IfSome left (λ held. held ≡ bytes)

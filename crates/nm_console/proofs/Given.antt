@@ -3,7 +3,8 @@ use Rattle.std.proofs.Common.{◌≡◌, ◌≤◌, ◌<◌, ◌+◌, ◌&&◌, 
 use Rattle.std.specs.List.{All, sum_by, fold}
 use Rattle.std.specs.Option.{IfSome}
 use Rattle.std.specs.Str.{bytes_eq}
-use Rattle.std.proofs.lemmas.List.Elements.{All-tail}
+use Rattle.std.proofs.lemmas.List.Elements.{All-map, All-tail}
+use Rattle.std.proofs.lemmas.List.{length-map}
 use Rattle.std.proofs.lemmas.Option.{slice_get_cases}
 use Rattle.nm_base.specs.Words.{manager}
 use Rattle.nm_device.specs.Device.{is_manager}
@@ -26,9 +27,10 @@ use Rattle.nm_proto.specs.Content.{Laws, Meaning}
 use Rattle.nm_tree.specs.Nodes.{SchemaTree}
 use Rattle.nm_config.specs.Rows.{Rows}
 use Rattle.nm_edit.specs.declared.edit.EditNode.{EditNode}
-use Rattle.nm_content.specs.Meaning.{yang_meaning}
+use Rattle.nm_overlay.specs.Differences.{Overlaid}
+use Rattle.nm_content.specs.Meaning.{lifted, yang_meaning}
 use Rattle.nm_content.specs.Laws.{yang_laws}
-use Rattle.nm_refusals.specs.Kept.{Ascend, BodyKeeps, ChangeKeeps, DataAreKept, IsOwnOpening, OpensOwn, ScenarioKeeps, StateKeeps, UserKeeps, counts_in, device_of_plan, devices_in}
+use Rattle.nm_refusals.specs.Kept.{Ascend, BodyKeeps, ChangeKeeps, DataAreKept, DataKeeps, IsOwnOpening, OpensOwn, ScenarioKeeps, StateKeeps, UserKeeps, counts_in, device_of_plan, devices_in}
 use Rattle.nm_scenario.specs.declared.scenario.Body.TheVariants.{Flat, Yang}
 use Rattle.nm_scenario.specs.declared.scenario.Scenario.{Scenario}
 use Rattle.nm_safety.specs.Safe.{AreGiven, IsGiven, IsProper, IsSafe}
@@ -317,17 +319,39 @@ module _ (s : Scenario) (modules : List (List ℕ)) (tree : SchemaTree) (devices
   kept : DataAreKept modules tree devices edits
   kept = subst BodyKeeps is keeps.body
 
+  -- what is read is lifted
+  abbrev begun : List Overlaid
+  begun = map lifted devices
+
+  pub yang_keeps : All (DataKeeps tree) devices
+  yang_keeps = kept.running
+
+  yang_count : devices_in s.body ≡ length begun
+  yang_count = ap devices_in is ∙ sym (length-map devices lifted)
+
+  begins_first : (rows : Rows) → DataKeeps tree rows → IsFirst {TheEdit = List EditNode} {Node = YangNode} (yang_meaning tree) (lifted rows)
+  begins_first rows keeps = record {
+    belongs = record { sound = kept.given.sound; marker = kept.given.marker; stands = keeps.stands; base_stands = keeps.stands; base_valid = keeps.valid };
+    valid = keeps.valid;
+  }
+
   -- YANG contents can be run
-  pub yang_runs : CanRun (yang_meaning tree) (setting_of edits s) devices s.events
+  pub yang_runs : CanRun (yang_meaning tree) (setting_of edits s) begun s.events
   yang_runs =
-      runs (yang_meaning tree) s devices edits
-      (λ k d less. record { belongs = record { sound = kept.given.sound; marker = kept.given.marker; stands = (kept.running k d less).stands }; valid = (kept.running k d less).valid })
-      kept.edited (ap devices_in is) keeps
+      runs (yang_meaning tree) s begun edits
+      (All-map (IsFirst {TheEdit = List EditNode} {Node = YangNode} (yang_meaning tree)) lifted devices (λ k d less. begins_first (get_or devices k d) (kept.running k d less)))
+      kept.edited yang_count keeps
 
-  yang_bare : AreUnmarked {Edit = List EditNode} {Node = YangNode} (yang_meaning tree) devices
+  bare_lifted : (rows : Rows) → DataKeeps tree rows → (n : ℕ) → has_mark (lifted rows).rows n ≡ false
+  bare_lifted rows keeps n = data_unmarked rows keeps.unmarked n
+
+  all_bare : (n : ℕ) → All (λ (config : Overlaid). has_mark config.rows n ≡ false) begun
+  all_bare n = All-map (λ (config : Overlaid). has_mark config.rows n ≡ false) lifted devices (λ k d less. bare_lifted (get_or devices k d) (kept.running k d less) n)
+
+  yang_bare : AreUnmarked {Edit = List EditNode} {Node = YangNode} (yang_meaning tree) begun
   yang_bare place first there n =
-      some_is first (λ rows. has_mark rows n ≡ false) (slice_get devices place) there
-      (got (λ rows. has_mark rows n ≡ false) devices place (λ k d less. data_unmarked (get_or devices k d) (kept.running k d less).unmarked n))
+      some_is first (λ (config : Overlaid). has_mark config.rows n ≡ false) (slice_get begun place) there
+      (got (λ (config : Overlaid). has_mark config.rows n ≡ false) begun place (all_bare n))
 
-  pub yang_safe : IsSafeRun (yang_meaning tree) devices edits s
-  yang_safe = safe_run (yang_meaning tree) (yang_laws tree) s devices edits yang_runs (ap devices_in is) yang_bare keeps
+  pub yang_safe : IsSafeRun (yang_meaning tree) begun edits s
+  yang_safe = safe_run (yang_meaning tree) (yang_laws tree) s begun edits yang_runs yang_count yang_bare keeps

@@ -1,5 +1,5 @@
 -- What replay tells over a journal's disk.
-use Rattle.std.proofs.Common.{◌≡◌, ◌<◌, ◌⊎◌, inl, inr, ℕ, List, [], ◌∷◌, length, Option, Some, None, Result, Ok, Err, IfOk, IfSome, IsSome, unwrap_or, replicate, refl, sym, subst, arith}
+use Rattle.std.proofs.Common.{◌≡◌, ◌<◌, ◌⊎◌, inl, inr, ℕ, List, [], ◌∷◌, length, map, Option, Some, None, Result, Ok, Err, IfOk, IfSome, IsSome, unwrap_or, replicate, refl, sym, subst, arith}
 use Rattle.std.proofs.lemmas.List.{length-replicate}
 use Rattle.nm_proto.specs.declared.journal.Entry.{Entry}
 use Rattle.nm_journal.specs.declared.fault.JournalFault.{JournalFault}
@@ -15,7 +15,7 @@ use Rattle.nm_proto.specs.FlatContent.{flat_meaning}
 use Rattle.nm_tree.specs.Nodes.{SchemaTree}
 use Rattle.nm_config.specs.Rows.{Rows}
 use Rattle.nm_edit.specs.declared.edit.EditNode.{EditNode}
-use Rattle.nm_content.specs.Meaning.{yang_meaning, yang_text}
+use Rattle.nm_content.specs.Meaning.{lifted, yang_meaning, yang_text}
 use Rattle.nm_console.specs.declared.status.Status.{Status}
 use Rattle.nm_console.specs.declared.said.Said.{Said}
 use Rattle.nm_console.specs.declared.journal.JournalStop.{JournalStop}
@@ -121,7 +121,7 @@ flat_replays s devices edits stored after (Err stop) is t = tt
 
 pub yang_replays : (s : Scenario) (modules : List (List ℕ)) (tree : SchemaTree) (devices : List Rows) (edits : List (List EditNode)) (stored after : Option (List ℕ)) (result : Result Said JournalStop)
     → s.body ≡ Yang modules tree devices edits
-    → IfOk result (λ said. TellsRun (told_of (yang_text tree) edits s) (world_of (yang_meaning tree) devices edits s) s.events stored after said.status said.text.items)
+    → IfOk result (λ said. TellsRun (told_of (yang_text tree) edits s) (world_of (yang_meaning tree) (map lifted devices) edits s) s.events stored after said.status said.text.items)
     → IfOk result (λ said. TellsReplay (Ok s) stored after said.status said.text.items)
 yang_replays s modules tree devices edits stored after (Ok said) is t =
     record { image = t.image; kept = t.kept; goes = goes_by s (Yang modules tree devices edits) t.image stored after said.status said.text.items is t.goes }

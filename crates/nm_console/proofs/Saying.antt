@@ -1,13 +1,13 @@
 -- What is said without the bytes of the input, and what is said where there were too many.
-use Rattle.std.proofs.Common.{◌≡◌, ◌⊎◌, inl, ℕ, ◌<◌, ◌+◌, List, [], length, true, false, Option, Some, None, Result, Ok, Err, IfSome, unwrap_or, replicate, cond, refl, sym, ap, ◌∙◌, subst, arith, lt-ltb}
+use Rattle.std.proofs.Common.{◌≡◌, ◌⊎◌, inl, ℕ, ◌<◌, ◌+◌, List, [], length, true, Option, Some, None, Result, Ok, Err, IfSome, unwrap_or, replicate, cond, refl, sym, ap, ◌∙◌, subst, arith, lt-ltb}
 use Rattle.std.proofs.lemmas.List.{length-replicate}
 use Rattle.nm_proto.specs.declared.kind.ScenarioKind.TheVariants.{TooLong}
 use Rattle.nm_scenario_parts.specs.declared.fault.Fault.{Fault}
-use Rattle.nm_scenario_parts.specs.Reading.{here}
+use Rattle.nm_scenario_parts.specs.Reading.{◌>>=◌, here}
 use Rattle.nm_scenario.specs.declared.scenario.Body.{Body}
 use Rattle.nm_scenario.specs.declared.scenario.Body.TheVariants.{Flat, Yang}
 use Rattle.nm_scenario.specs.declared.scenario.Scenario.{Scenario}
-use Rattle.nm_scenario.specs.Scenario.{ReadsBytes, ReadsWhole, byte_limit, json_of, parsed, whole_of}
+use Rattle.nm_scenario.specs.Scenario.{ReadsBytes, byte_limit, bytes_read, json_of, parsed, scenario_at, whole_of}
 use Rattle.nm_scenario.proofs.Single.{one_of_bytes}
 use Rattle.nm_refusals.specs.Kept.{ScenarioKeeps}
 use Rattle.nm_refusals.proofs.Wholes.{bytes_told}
@@ -86,7 +86,8 @@ unfolding whole_of
 whole_of-too_long bytes long = ap (λ t. cond t (here TooLong) (parsed (json_of bytes))) (lt-ltb byte_limit (length bytes) long)
 
 too_long_reads : (bytes : List ℕ) → byte_limit < length bytes → ReadsBytes bytes (here TooLong)
-too_long_reads bytes long = subst (λ whole. ReadsWhole whole (here TooLong)) (sym (whole_of-too_long bytes long)) refl
+unfolding bytes_read
+too_long_reads bytes long = ap (λ whole. whole >>= scenario_at) (whole_of-too_long bytes long)
 
 -- too many bytes are told of by every command that reads them in the same way, and the journal stays
 long_said : (command : Command) (bytes image : List ℕ) (stored : Option (List ℕ)) (status : Status) (text : List ℕ) → reads_input (Some command) ≡ true → byte_limit < length bytes

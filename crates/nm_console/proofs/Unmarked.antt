@@ -1,7 +1,7 @@
 -- A configuration that a reader takes has no marks.
-use Rattle.std.proofs.Common.{◌≡◌, ◌∙◌, ◌||◌, ℕ, List, [], ◌∷◌, Bool, true, false, is_some, nat_cmp, refl, sym, subst, ap}
+use Rattle.std.proofs.Common.{◌≡◌, ◌∙◌, ◌||◌, ℕ, List, [], ◌∷◌, Bool, true, false, is_some, nat_cmp, refl, subst, ap}
 use Rattle.std.specs.List.{list_any}
-use Rattle.std.specs.FinMap.{contains_key, empty, get, keys, contains_key-keys, get-empty}
+use Rattle.std.specs.FinMap.{empty, get, keys, contains_key-keys, get-empty}
 use Rattle.std.specs.Ordering.{eq_by_cmp}
 use Rattle.nm_base.specs.Words.{marker_name}
 use Rattle.nm_types.specs.Path.{PathStep, path_cmp}

@@ -1,5 +1,5 @@
 -- What the program says to its words and its input (this project's own), and what the top call tells of it.
-use Rattle.std.specs.Prelude.{◌≡◌, ◌≤◌, ◌⊎◌, ℕ, codes, List, [], ◌∷◌, length, map, Bool, true, false, Option, Some, None, Result, Ok, Err, IfSome, IsSome, IsTrue, unwrap_or}
+use Rattle.std.specs.Prelude.{◌≡◌, ◌≤◌, ◌⊎◌, ℕ, List, [], ◌∷◌, length, map, Bool, true, false, Option, Some, None, Result, Ok, Err, IfSome, IsSome, IsTrue, unwrap_or}
 use Rattle.std.specs.List.{All}
 use Rattle.std.specs.Io.KnownBytes.{append_known}
 use Rattle.nm_io.specs.Bytes.{Begins}
@@ -11,7 +11,7 @@ use Rattle.nm_proto.specs.Flat.{flat_text}
 use Rattle.nm_proto.specs.FlatContent.{flat_meaning}
 use Rattle.nm_proto.specs.declared.flat.FlatNode.{FlatNode}
 use Rattle.nm_content.specs.declared.place.YangNode.{YangNode}
-use Rattle.nm_content.specs.Meaning.{yang_meaning, yang_text}
+use Rattle.nm_content.specs.Meaning.{lifted, yang_meaning, yang_text}
 use Rattle.nm_scenario_parts.specs.declared.fault.Fault.{Fault}
 use Rattle.nm_scenario.specs.declared.scenario.Body.{Body}
 use Rattle.nm_scenario.specs.declared.scenario.Body.TheVariants.{Flat, Yang}
@@ -47,7 +47,7 @@ use Rattle.nm_console.specs.declared.status.Status.TheVariants as status
 use Rattle.nm_console.specs.declared.command.Command.{Command}
 use Rattle.nm_console.specs.declared.command.Command.TheVariants.{Check, Replay, Journal}
 use Rattle.nm_console.specs.Refusal.{damaged_text, not_empty_text, usage_text, fault_text}
-use Rattle.nm_console.specs.Rows.{rows_told}
+use Rattle.nm_console.specs.Rows.{data_rows_told, rows_told}
 use Rattle.nm_console.specs.Status.{is_whole, world_status}
 
 -- a status and a text
@@ -112,10 +112,11 @@ opened (byte ∷ bytes) answer = not_empty (length (byte ∷ bytes))
 abbrev pub told_of : {Config TheEdit Node : Type 0} → (Config → List ℕ) → List TheEdit → Scenario → WorldState Config Node → Answer
 told_of shown edits s w = world_told shown s.trace (setting_of edits s) w
 
--- what is told of a scenario with these contents, over a journal
+-- what is told of a scenario with these contents, over a journal. The configurations of YANG contents are lifted: what a device begins
+-- with lies below all that it has later
 abbrev pub told_by : List ℕ → Body → Scenario → Answer
 told_by image (Flat devices edits) s = opened image (told_of flat_text edits s (world_of flat_meaning devices edits s))
-told_by image (Yang modules tree devices edits) s = opened image (told_of (yang_text tree) edits s (world_of (yang_meaning tree) devices edits s))
+told_by image (Yang modules tree devices edits) s = opened image (told_of (yang_text tree) edits s (world_of (yang_meaning tree) (map lifted devices) edits s))
 
 -- what is told of a scenario that was read
 abbrev pub told : List ℕ → Scenario → Answer
@@ -134,7 +135,7 @@ left_in (byte ∷ bytes) entries = None
 -- the entries that a scenario with these contents leaves
 abbrev pub entries_by : List ℕ → Body → Scenario → Option (List Entry)
 entries_by image (Flat devices edits) s = left_in image (world_of flat_meaning devices edits s).entries
-entries_by image (Yang modules tree devices edits) s = left_in image (world_of (yang_meaning tree) devices edits s).entries
+entries_by image (Yang modules tree devices edits) s = left_in image (world_of (yang_meaning tree) (map lifted devices) edits s).entries
 
 abbrev pub replay_entries : List ℕ → Result Scenario Fault → Option (List Entry)
 replay_entries image (Err fault) = None
@@ -169,7 +170,7 @@ modules_told (Yang modules tree devices edits) = tree.modules
 -- how many rows the running configuration of each device has
 abbrev pub counts_told : Body → List ℕ
 counts_told (Flat devices edits) = map (rows_told flat_meaning) devices
-counts_told (Yang modules tree devices edits) = map (rows_told (yang_meaning tree)) devices
+counts_told (Yang modules tree devices edits) = map data_rows_told devices
 
 -- what a scenario holds: its modules, the rows of each device, and how many change sets, operators and events there are
 abbrev pub holding : Scenario → Answer
@@ -322,7 +323,7 @@ pub record IsSafeRun {Config TheEdit Node : Type 0} (m : Meaning Config TheEdit 
 -- the same by the contents
 abbrev pub RunsSafelyBy : Body → Scenario → Type 0
 RunsSafelyBy (Flat devices edits) s = IsSafeRun flat_meaning devices edits s
-RunsSafelyBy (Yang modules tree devices edits) s = IsSafeRun (yang_meaning tree) devices edits s
+RunsSafelyBy (Yang modules tree devices edits) s = IsSafeRun (yang_meaning tree) (map lifted devices) edits s
 
 abbrev pub RunsSafely : Result Scenario Fault → Type 0
 RunsSafely (Err fault) = Unit {0}

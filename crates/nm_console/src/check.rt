@@ -4,7 +4,7 @@ ghost use Rattle.std.specs.Prelude.{◌≡◌, IfOk, IsTrue};
 ghost use Rattle.nm_console.specs.Status.{is_whole};
 ghost use Rattle.nm_console.specs.Console.{IsSoOf, Tells, checked, counts_told, holding, modules_told};
 
-use crate::rows::rows_of;
+use crate::rows::{data_rows_of, rows_of};
 use crate::said::{Said, say_fault};
 use crate::status::Status;
 use nm_base::{Label, NoMemory};
@@ -64,10 +64,6 @@ fn counts_of(alloc: Global, body: &Body) -> Result<Vec<u32>, NoMemory>
             let content = FlatContent::new(alloc);
             rows_of(alloc, &content, devices.as_slice())
         }
-        Body::Yang {
-            content,
-            devices,
-            ..
-        } => rows_of(alloc, content, devices.as_slice()),
+        Body::Yang { devices, .. } => data_rows_of(alloc, devices.as_slice()),
     }
 }

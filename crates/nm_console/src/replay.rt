@@ -1,6 +1,6 @@
 //! The command `replay`.
 
-ghost use Rattle.std.specs.Prelude.{◌≡◌, ◌<◌, ◌^◌, ◌*◌, ℕ, [], length, None, Ok, Err, false, IfOk, IfSome, IsSome, IsErrOf};
+ghost use Rattle.std.specs.Prelude.{◌≡◌, ◌<◌, ◌^◌, ◌*◌, ℕ, [], length, map, None, Ok, Err, false, IfOk, IfSome, IsSome, IsErrOf};
 ghost use Rattle.std.specs.List.{All};
 ghost use Rattle.nm_base.specs.Count.{Rose};
 ghost use Rattle.nm_disk.specs.Image.{AnyMoment, LeavesOnly};
@@ -10,7 +10,8 @@ ghost use Rattle.nm_journal.specs.declared.fault.JournalFault.TheVariants.{DiskF
 ghost use Rattle.nm_manager.specs.declared.action.TurnFault.TheVariants as turn_fault;
 ghost use Rattle.nm_network.specs.Runs.{HasTime, IsBetween, IsNumbered};
 ghost use Rattle.nm_network.specs.World.{AreCalm, journal_of, start, with_state};
-ghost use Rattle.nm_refusals.specs.Kept.{ScenarioKeeps};
+ghost use Rattle.nm_content.specs.Meaning.{lifted};
+ghost use Rattle.nm_refusals.specs.Kept.{DataKeeps, ScenarioKeeps};
 ghost use Rattle.nm_console.specs.Console.{CanRun, IsSoOf, LeavesSoFar, LeavesSoFarBy, Tells, TellsLast, TellsReplay, TellsRun, TellsUnopened, led_to, not_empty, world_told};
 
 use crate::journal::{JournalStop, say_damaged};
@@ -18,10 +19,13 @@ use crate::refusal::write_not_empty;
 use crate::said::{Said, say_fault};
 use crate::status::{Status, status_for};
 use nm_base::{Label, NoMemory};
+use nm_config::Config;
+use nm_content::YangContent;
 use nm_disk::Disk;
 use nm_journal::{Journal, JournalFault};
 use nm_manager::TurnFault;
 use nm_network::World;
+use nm_overlay::Overlay;
 use nm_proto::{ChangePlan, Event, FlatContent, Listed, Show, Tables};
 use nm_refusals::read_scenario;
 use nm_report::write_world;
@@ -85,19 +89,38 @@ fn say_scenario<D: Disk>(
             devices,
             edits,
             ..
-        } => say_contents(
-            alloc,
-            content,
-            devices,
-            Tables::new(edits, selects),
-            changes,
-            operators,
-            events.as_slice(),
-            drain,
-            trace,
-            disk,
-        ),
+        } => {
+            let devices = lift_all(alloc, &content, devices)?;
+            say_contents(
+                alloc,
+                content,
+                devices,
+                Tables::new(edits, selects),
+                changes,
+                operators,
+                events.as_slice(),
+                drain,
+                trace,
+                disk,
+            )
+        }
     }
+}
+
+// What devices begin with, each lifted. No row is copied.
+fn lift_all(
+    alloc: Global,
+    content: &YangContent,
+    mut devices: Listed<Config>,
+) -> Result<Listed<Overlay>, NoMemory>
+    requires { All (DataKeeps content.now) devices }
+    ensures { IfOk result (λ begun. begun ≡ map lifted devices) }
+{
+    let mut begun = Listed::new(alloc);
+    while let Some(device) = devices.take_first() {
+        begun.push(content.lift(device)?)?;
+    }
+    Ok(begun)
 }
 
 // The answer by the contents: where the journal is empty, that of their world.

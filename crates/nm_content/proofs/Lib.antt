@@ -1,4 +1,6 @@
 pub mod Counted
 pub mod Looking
+pub mod Walked
+pub mod Over
 pub mod Taking
-pub mod Given
+pub mod Covering

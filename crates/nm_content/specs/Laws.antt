@@ -13,13 +13,14 @@ use Rattle.nm_proto.specs.Content.{Refusal, Laws, IsAnswerable}
 use Rattle.nm_tree.specs.Nodes.{SchemaTree}
 use Rattle.nm_path.specs.Written.{path_text}
 use Rattle.nm_config.specs.Rows.{Rows}
+use Rattle.nm_overlay.specs.Differences.{Overlaid}
 use Rattle.nm_json.specs.Whole.{row_limit}
 use Rattle.nm_rules.specs.declared.rule.Rule.{Rule}
 use Rattle.nm_rules.specs.declared.rule.Rule.TheVariants as rule
 use Rattle.nm_rules.specs.Rule.{rule_tag}
 use Rattle.nm_rules.specs.Standing.{StandsIn}
 use Rattle.nm_rules.specs.Violation.{Violation, violation}
-use Rattle.nm_check.specs.Told.{refusal_of}
+use Rattle.nm_check.specs.Told.{refusal_of, violation_told}
 use Rattle.nm_edit.specs.declared.edit.EditNode.{EditNode}
 use Rattle.nm_edit.specs.declared.act.Act.{Act}
 use Rattle.nm_edit.specs.declared.operation.Effective.{Effective}
@@ -33,7 +34,7 @@ use Rattle.nm_content.specs.MarkLaws.{has_mark-marked, after_added, after_old, a
 use Rattle.nm_content.specs.PlaceLaws.{parts_tell, marks_tell, overlaps_turned}
 use Rattle.nm_content.specs.StandLaws.{marked_stand}
 use Rattle.nm_content.specs.EditLaws.{mark_before, mark_stays}
-use Rattle.nm_content.specs.Meaning.{yang_meaning}
+use Rattle.nm_content.specs.Meaning.{over, lifted, yang_meaning}
 
 -- ---- what an edit makes, apart from its marks
 
@@ -49,6 +50,21 @@ made_of (Err refusal) marks after e = absurd (cc)
 refused : (made : Result Rows Refusal) (marks : Option Marks) (refusal : Refusal) → with_marks made marks ≡ Err refusal → made ≡ Err refusal
 refused (Ok rows) marks refusal e = absurd (cc)
 refused (Err given) marks refusal e = cc
+
+-- what is made of rows over a base, and that base
+record Kept (base : Rows) (made : Result Rows Refusal) (after : Overlaid) : Type 0 where
+  rows : made ≡ Ok after.rows
+  base_is : after.base ≡ base
+
+kept_over : (base : Rows) (made : Result Rows Refusal) (after : Overlaid) → over base made ≡ Ok after → Kept base made after
+kept_over base (Ok rows) after e =
+    let same : record { base = base; rows = rows } ≡ after = cc in
+    record { rows = ap (λ (o : Overlaid). Ok o.rows) same; base_is = sym (ap (λ (o : Overlaid). o.base) same) }
+kept_over base (Err refusal) after e = absurd (cc)
+
+refused_over : (base : Rows) (made : Result Rows Refusal) (refusal : Refusal) → over base made ≡ Err refusal → made ≡ Err refusal
+refused_over base (Ok rows) refusal e = absurd (cc)
+refused_over base (Err given) refusal e = cc
 
 -- ---- refusals
 
@@ -110,22 +126,37 @@ module _ (t : SchemaTree) where
 pub yang_laws : (t : SchemaTree) → Laws (yang_meaning t)
 yang_laws t = record {
   edited_belongs = λ config edit operation marks after b eb e.
-      let m = made_of (edited_rows t config edit operation) marks after e in
-      record { sound = b.sound; marker = b.marker; stands = subst (StandsIn t) m.with (marked_stand t b.sound b.marker m.rows marks (edited_stand t config edit operation b.stands eb m.rows m.is)) };
+      let k = kept_over config.base (with_marks (edited_rows t config.rows edit operation) marks) after e in
+      let m = made_of (edited_rows t config.rows edit operation) marks after.rows k.rows in
+      record {
+        sound = b.sound;
+        marker = b.marker;
+        stands = subst (StandsIn t) m.with (marked_stand t b.sound b.marker m.rows marks (edited_stand t config.rows edit operation b.stands eb m.rows m.is));
+        base_stands = subst (StandsIn t) (sym k.base_is) b.base_stands;
+        base_valid = ap (violation_told t) k.base_is ∙ b.base_valid;
+      };
   added = λ config edit operation marks after b eb e n a.
-      let m = made_of (edited_rows t config edit operation) marks after e in
+      let k = kept_over config.base (with_marks (edited_rows t config.rows edit operation) marks) after e in
+      let m = made_of (edited_rows t config.rows edit operation) marks after.rows k.rows in
       ap (λ (rows : Rows). has_mark rows n) (sym m.with) ∙ has_mark-marked m.rows marks n ∙ after_added marks (has_mark m.rows) n a;
   only_old = λ config edit operation marks after b eb plain e n a there.
-      let m = made_of (edited_rows t config edit operation) marks after e in
+      let k = kept_over config.base (with_marks (edited_rows t config.rows edit operation) marks) after e in
+      let m = made_of (edited_rows t config.rows edit operation) marks after.rows k.rows in
       let h = after_old marks (has_mark m.rows) n a (sym (has_mark-marked m.rows marks n) ∙ ap (λ (rows : Rows). has_mark rows n) m.with ∙ there) in
-      (mark_before t config edit operation plain m.rows n m.is h.0, h.1);
+      (mark_before t config.rows edit operation plain m.rows n m.is h.0, h.1);
   kept = λ config edit operation marks after b eb plain e merges n had stays.
-      let m = made_of (edited_rows t config edit operation) marks after e in
+      let k = kept_over config.base (with_marks (edited_rows t config.rows edit operation) marks) after e in
+      let m = made_of (edited_rows t config.rows edit operation) marks after.rows k.rows in
       ap (λ (rows : Rows). has_mark rows n) (sym m.with) ∙ has_mark-marked m.rows marks n
-      ∙ after_kept marks (has_mark m.rows) n (mark_stays t config edit operation plain b.sound b.marker eb m.rows n merges m.is had) stays;
+      ∙ after_kept marks (has_mark m.rows) n (mark_stays t config.rows edit operation plain b.sound b.marker eb m.rows n merges m.is had) stays;
   overlaps_both_ways = overlaps_turned;
-  same_parts = parts_tell;
-  same_numbers = marks_tell;
-  refusals = λ config edit operation marks refusal b eb e. edit_answerable t config edit operation refusal (refused (edited_rows t config edit operation) marks refusal e);
-  violations = λ config refusal b e. told_answerable t (violation t config) refusal e;
+  same_parts = λ one other node. (
+    λ same. ap lifted ((parts_tell one.rows other.rows node).0 same),
+    λ same. (parts_tell one.rows other.rows node).1 (ap (λ (o : Overlaid). o.rows) same),
+  );
+  same_numbers = λ one other. marks_tell one.rows other.rows;
+  refusals = λ config edit operation marks refusal b eb e.
+      edit_answerable t config.rows edit operation refusal
+      (refused (edited_rows t config.rows edit operation) marks refusal (refused_over config.base (with_marks (edited_rows t config.rows edit operation) marks) refusal e));
+  violations = λ config refusal b e. told_answerable t (violation t config.rows) refusal e;
 }

@@ -1,5 +1,6 @@
 pub mod Mark
 pub mod Place
+pub mod Walk
 pub mod Meaning
 pub mod MarkLaws
 pub mod PlaceLaws

@@ -25,6 +25,10 @@ applied_name = codes "applied"
 abbrev pub changes_step : PathStep
 changes_step = record { «module» = marker_name; name = changes_name; chosen = whole }
 
+-- its path, `/netm-marker:changes`: all marks are below it
+abbrev pub marks_path : List PathStep
+marks_path = changes_step ∷ []
+
 -- the entry of list `applied` with the number of a change set
 abbrev pub entry_step : ℕ → PathStep
 entry_step n = record { «module» = marker_name; name = applied_name; chosen = by_keys (Int (pos n) ∷ []) }

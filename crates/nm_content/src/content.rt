@@ -1,20 +1,27 @@
 //! YANG data as a content.
 
-ghost use Rattle.std.specs.Prelude.{◌≡◌};
+ghost use Rattle.std.specs.Prelude.{◌≡◌, None, IfOk};
 ghost use Rattle.nm_path.specs.Sound.{IsSound};
 ghost use Rattle.nm_proto.specs.Content.{Applies};
+ghost use Rattle.nm_rules.specs.Standing.{StandsIn};
+ghost use Rattle.nm_check.specs.Told.{violation_told};
 ghost use Rattle.nm_edit.specs.Edited.{edited_rows};
 ghost use Rattle.nm_schema.specs.Marker.{HasMarker};
+ghost use Rattle.nm_content.specs.Mark.{marks_path};
+ghost use Rattle.nm_content.specs.Meaning.{Belongs, lifted, over};
 
-use crate::mark::{has_mark, marked, outside_rows, same_marks};
+use crate::mark::{has_mark, marked, rows_outside, same_marks};
 use crate::place::{YangNode, found, same_at};
+use crate::touched::checked;
 use nm_base::{ChangeNo, Label, NoMemory};
-use nm_check::check_rows;
-use nm_config::{Config, is_under};
+use nm_change::apply_rows;
+use nm_config::{Config, RowMap, is_under};
 use nm_edit::{Edit, EditFault};
 use nm_json::write_config;
+use nm_overlay::Overlay;
 use nm_proto::{ApplyFault, CheckFault, Content, DefaultOperation, FindFault, Marks, Show};
 use nm_tree::Schema;
+use nm_types::Path;
 use std::alloc::Global;
 use std::marker::Model;
 
@@ -23,27 +30,37 @@ use std::marker::Model;
 pub struct YangContent {
     alloc: Global,
     schema: Schema,
+    // below it are all marks, so that they are found without memory and without a look at other rows
+    marks: Path,
 }
 
 impl Model for YangContent {
+    ghost use Rattle.std.specs.Prelude.{◌≡◌};
     ghost use Rattle.nm_tree.specs.Nodes.{SchemaTree};
     ghost use Rattle.nm_path.specs.Sound.{IsSound};
     ghost use Rattle.nm_schema.specs.Marker.{HasMarker};
+    ghost use Rattle.nm_content.specs.Mark.{marks_path};
 
     ghost Value = { SchemaTree };
 
     ghost view = { λ c. c.schema };
 
-    ghost invariant = { λ c. IsSound c.schema.nodes × HasMarker c.schema };
+    ghost invariant = { λ c. IsSound c.schema.nodes × HasMarker c.schema × (c.marks ≡ marks_path) };
 }
 
-/// The content of a schema tree that modules give. Its configurations are made with this allocator. It takes no memory.
-pub fn yang_content(alloc: Global, schema: Schema) -> YangContent
+/// The content of a schema tree that modules give, with the path of the container of all marks. Its configurations are
+/// made with this allocator. It takes no memory.
+pub fn yang_content(alloc: Global, schema: Schema, marks: Path) -> YangContent
     requires sound { IsSound schema.nodes }
     requires marker { HasMarker schema }
+    requires marks { marks ≡ marks_path }
     ensures { result ≡ schema }
 {
-    YangContent { alloc, schema }
+    YangContent {
+        alloc,
+        schema,
+        marks,
+    }
 }
 
 impl YangContent {
@@ -55,20 +72,40 @@ impl YangContent {
     {
         &self.schema
     }
+
+    /// A configuration by itself as one of this content: it becomes the base, and nothing of it is changed. No row is
+    /// copied.
+    pub fn lift(&self, config: Config) -> Result<Overlay, NoMemory>
+        requires stands { StandsIn self.now config }
+        requires valid { violation_told self.now config ≡ None }
+        ensures value { IfOk result (λ overlay. overlay ≡ lifted config) }
+        ensures belongs { IfOk result (Belongs self.now) }
+    {
+        let _ = self.schema();
+        over_itself(self.alloc, config)
+    }
+}
+
+// A configuration over itself.
+fn over_itself(alloc: Global, config: Config) -> Result<Overlay, NoMemory>
+    ensures { IfOk result (λ overlay. overlay ≡ lifted config) }
+{
+    Overlay::over(alloc, config)
 }
 
 // The configuration that an edit makes, without its marks.
-pub(crate) fn edited(
+fn edited(
     alloc: Global,
     schema: &Schema,
-    config: &Config,
+    config: &Overlay,
     edit: &Edit,
     default_operation: DefaultOperation,
-) -> Result<Config, ApplyFault>
-    ensures { Applies result (edited_rows schema.now config.now edit.now default_operation) }
+) -> Result<Overlay, ApplyFault>
+    ensures { Applies result (over config.now.base (edited_rows schema.now config.now.rows edit.now default_operation)) }
 {
-    match nm_edit::apply(alloc, schema, config, edit, default_operation) {
-        Ok(config) => Ok(config),
+    let mut edited = config.copy()?;
+    match apply_rows(alloc, schema, &mut edited, edit, default_operation) {
+        Ok(()) => Ok(edited),
         Err(EditFault::Refused { tag, path }) => Err(ApplyFault::Refused { tag, path }),
         Err(EditFault::NoMemory) => Err(ApplyFault::NoMemory),
     }
@@ -78,7 +115,7 @@ impl Content for YangContent {
     ghost use Rattle.nm_content.specs.Meaning.{yang_meaning};
     ghost use Rattle.nm_content.specs.Laws.{yang_laws};
 
-    type Config = Config;
+    type Config = Overlay;
 
     type Edit = Edit;
 
@@ -88,30 +125,30 @@ impl Content for YangContent {
 
     ghost laws = { yang_laws };
 
-    fn copy(&self, config: &Config) -> Result<Config, NoMemory> {
+    fn copy(&self, config: &Overlay) -> Result<Overlay, NoMemory> {
         config.copy()
     }
 
     fn apply(
         &self,
-        config: &Config,
+        config: &Overlay,
         edit: &Edit,
         default_operation: DefaultOperation,
         marks: Option<Marks>,
-    ) -> Result<Config, ApplyFault> {
+    ) -> Result<Overlay, ApplyFault> {
         let edited = edited(self.alloc, &self.schema, config, edit, default_operation)?;
         Ok(marked(self.alloc, edited, marks)?)
     }
 
-    fn check(&self, config: &Config) -> Result<(), CheckFault> {
-        check_rows(self.alloc, &self.schema, config)
+    fn check(&self, config: &Overlay) -> Result<(), CheckFault> {
+        checked(self.alloc, &self.schema, config)
     }
 
     fn find(&self, text: &Label) -> Result<YangNode, FindFault> {
         found(self.alloc, &self.schema, text)
     }
 
-    fn exists(&self, config: &Config, node: &YangNode) -> bool {
+    fn exists(&self, config: &Overlay, node: &YangNode) -> bool {
         config.any_under(&node.row)
     }
 
@@ -119,20 +156,20 @@ impl Content for YangContent {
         is_under(&one.path, &other.path) || is_under(&other.path, &one.path)
     }
 
-    fn same_at(&self, one: &Config, other: &Config, node: &YangNode) -> bool {
+    fn same_at(&self, one: &Overlay, other: &Overlay, node: &YangNode) -> bool {
         same_at(one, other, node)
     }
 
-    fn same_marks(&self, one: &Config, other: &Config) -> bool {
-        same_marks(one, other)
+    fn same_marks(&self, one: &Overlay, other: &Overlay) -> bool {
+        same_marks(one, other, &self.marks)
     }
 
-    fn has_mark(&self, config: &Config, change: ChangeNo) -> bool {
-        has_mark(config, change.get())
+    fn has_mark(&self, config: &Overlay, change: ChangeNo) -> bool {
+        has_mark(config, &self.marks, change.get())
     }
 
-    fn rows(&self, config: &Config) -> u32 {
-        outside_rows(config)
+    fn rows(&self, config: &Overlay) -> u32 {
+        rows_outside(config)
     }
 }
 
@@ -142,8 +179,9 @@ impl Show for YangContent {
     ghost shown = { yang_text };
 
     #[tactic(auto, unfolding(crate::specs::Meaning::yang_text))]
-    fn text(&self, config: &Config) -> Result<Vec<u8>, NoMemory> {
-        let text = write_config(self.alloc, &self.schema, config)?;
+    fn text(&self, config: &Overlay) -> Result<Vec<u8>, NoMemory> {
+        let flat = config.flat()?;
+        let text = write_config(self.alloc, &self.schema, &flat)?;
         Ok(text.into_bytes())
     }
 }

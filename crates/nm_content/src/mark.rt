@@ -1,17 +1,17 @@
-//! The marks of change sets. They are rows, and most calls on them take no memory: those go over the rows and look at the
-//! steps of each path.
+//! The marks of change sets. They are rows, and most calls on them take no memory: those walk over the rows below the
+//! container of all marks, by its path, and look at the steps of each path.
 
-ghost use Rattle.std.specs.Prelude.{◌≡◌, ◌≤◌, IfOk, OnOk, is_some, option_copied};
-ghost use Rattle.std.specs.List.{list_any};
-ghost use Rattle.std.specs.FinMap.{keys};
+ghost use Rattle.std.specs.Prelude.{◌≡◌, ◌≤◌, ◌+◌, IfOk, OnOk, cond, is_some, option_copied};
 ghost use Rattle.nm_types.specs.Chosen.{choice_of};
 ghost use Rattle.nm_config.specs.Under.{is_whole as takes_whole, without_under};
 ghost use Rattle.nm_proto.specs.Content.{counted_rows, is_taken};
 ghost use Rattle.nm_content.specs.Mark as spec;
 
+use crate::walk::next_below;
 use nm_base::{ChangeNo, Label, MARKER, NoMemory};
-use nm_config::Config;
+use nm_config::{Config, RowMap};
 use nm_edit::Edit;
+use nm_overlay::Overlay;
 use nm_proto::Marks;
 use nm_types::{Chosen, Path, Step, Value};
 use std::alloc::Global;
@@ -40,6 +40,15 @@ fn entry_step(alloc: Global, number: u32) -> Result<Step, NoMemory>
         name: Label::new(alloc, "applied")?,
         chosen: Chosen::Keys(keys),
     })
+}
+
+/// The path of the container of all marks: `/netm-marker:changes`.
+pub fn marks_path(alloc: Global) -> Result<Path, NoMemory>
+    ensures { IfOk result (λ path. path ≡ spec.marks_path) }
+{
+    let mut steps = Vec::new(alloc);
+    steps.push(changes_step(alloc)?)?;
+    Ok(Path { steps })
 }
 
 /// The path of a mark: `/netm-marker:changes/applied[change='NUMBER']`.
@@ -152,43 +161,42 @@ fn is_mark_of(path: &Path, number: u32) -> bool
     }
 }
 
-// Whether a row is the mark of a number.
-fn any_mark(config: &Config, number: u32) -> bool
-    ensures { result ≡ list_any (spec.is_mark_of number) (keys config.now) }
+/// Whether the mark of a number is a row. It takes no memory.
+pub(crate) fn has_mark<M: RowMap>(rows: &M, marks: &Path, number: u32) -> bool
+    requires { marks.now ≡ spec.marks_path }
+    ensures { result ≡ spec.has_mark (M.rows rows.now) number }
 {
-    for (path, _) in config.iter() {
-        if is_mark_of(path, number) {
+    let mut passed = marks;
+    'walk: while let Some(next) = next_below(rows, marks, passed) {
+        if is_mark_of(next, number) {
             return true;
         }
+        passed = next;
     }
     false
 }
 
-/// Whether the mark of a number is a row. It takes no memory.
-#[tactic(auto, using(crate::proofs::Looking::has_mark_keys))]
-pub(crate) fn has_mark(config: &Config, number: u32) -> bool
-    ensures { result ≡ spec.has_mark config.now number }
-{
-    any_mark(config, number)
-}
-
 // Whether each mark of the one is a mark of the other.
-fn has_marks_of(other: &Config, one: &Config) -> bool
-    ensures { result ≡ spec.has_marks_of other.now one.now }
+fn has_marks_of<M: RowMap>(other: &M, one: &M, marks: &Path) -> bool
+    requires { marks.now ≡ spec.marks_path }
+    ensures { result ≡ spec.has_marks_of (M.rows other.now) (M.rows one.now) }
 {
-    for (path, _) in one.iter() {
-        if is_mark(path) && other.value(path).is_none() {
+    let mut passed = marks;
+    'walk: while let Some(next) = next_below(one, marks, passed) {
+        if is_mark(next) && other.value(next).is_none() {
             return false;
         }
+        passed = next;
     }
     true
 }
 
 /// Whether two configurations have the same marks. It takes no memory.
-pub(crate) fn same_marks(one: &Config, other: &Config) -> bool
-    ensures { result ≡ spec.same_marks one.now other.now }
+pub(crate) fn same_marks<M: RowMap>(one: &M, other: &M, marks: &Path) -> bool
+    requires { marks.now ≡ spec.marks_path }
+    ensures { result ≡ spec.same_marks (M.rows one.now) (M.rows other.now) }
 {
-    has_marks_of(other, one) && has_marks_of(one, other)
+    has_marks_of(other, one, marks) && has_marks_of(one, other, marks)
 }
 
 // Whether a path is at or below container `changes`.
@@ -228,39 +236,48 @@ fn takes(marks: &Marks, number: u32) -> bool
 }
 
 // Takes away the mark of a number, and all below it.
-fn take_mark(alloc: Global, config: &mut Config, number: u32) -> Result<(), NoMemory>
-    ensures { OnOk result (config.new ≡ without_under config.old (spec.mark_path number)) }
+fn take_mark<M: RowMap>(alloc: Global, rows: &mut M, number: u32) -> Result<(), NoMemory>
+    ensures rows { OnOk result (M.rows rows.new ≡ without_under (M.rows rows.old) (spec.mark_path number)) }
+    ensures base { M.base rows.new ≡ M.base rows.old }
 {
     let mark = mark_path(alloc, number)?;
-    config.remove_under(&mark);
-    Ok(())
+    rows.take_under(&mark)
 }
 
 // Takes away the marks of `remove`.
-fn take_marks(alloc: Global, config: &mut Config, marks: Marks) -> Result<(), NoMemory>
-    ensures { OnOk result (config.new ≡ spec.without_marks config.old marks) }
+fn take_marks<M: RowMap>(alloc: Global, rows: &mut M, marks: Marks) -> Result<(), NoMemory>
+    ensures rows { OnOk result (M.rows rows.new ≡ spec.without_marks (M.rows rows.old) marks) }
+    ensures base { M.base rows.new ≡ M.base rows.old }
 {
     for number in 1..ChangeNo::LIMIT + 1 {
         if takes(&marks, number) {
-            take_mark(alloc, config, number)?;
+            take_mark(alloc, rows, number)?;
         }
     }
     Ok(())
 }
 
-/// The marks of `remove` go, then the mark of `add` comes.
-pub(crate) fn marked(
-    alloc: Global,
-    mut config: Config,
-    marks: Option<Marks>,
-) -> Result<Config, NoMemory>
-    ensures { IfOk result (λ new. new ≡ spec.marked config marks) }
+// The marks of `remove` go, then the mark of `add` comes.
+fn put_marks<M: RowMap>(alloc: Global, rows: &mut M, marks: Option<Marks>) -> Result<(), NoMemory>
+    ensures rows { OnOk result (M.rows rows.new ≡ spec.marked (M.rows rows.old) marks) }
+    ensures base { M.base rows.new ≡ M.base rows.old }
 {
     let Some(marks) = marks else {
-        return Ok(config);
+        return Ok(());
     };
-    take_marks(alloc, &mut config, marks)?;
-    config.put(mark_path(alloc, marks.add.get())?, Value::Present)?;
+    take_marks(alloc, rows, marks)?;
+    rows.put(mark_path(alloc, marks.add.get())?, Value::Present)
+}
+
+/// The configuration once marks went and came.
+pub(crate) fn marked(
+    alloc: Global,
+    mut config: Overlay,
+    marks: Option<Marks>,
+) -> Result<Overlay, NoMemory>
+    ensures { IfOk result (λ new. new ≡ record { base = config.base; rows = spec.marked config.rows marks }) }
+{
+    put_marks(alloc, &mut config, marks)?;
     Ok(config)
 }
 
@@ -276,8 +293,9 @@ fn is_outside(path: &Path) -> bool
     }
 }
 
-/// How many rows stand outside the module of the marks, and 4294967295 where there are more. It takes no memory.
-pub(crate) fn outside_rows(config: &Config) -> u32
+/// How many rows of a configuration by itself stand outside the module of the marks, and 4294967295 where there are more.
+/// It takes no memory.
+pub fn outside_rows(config: &Config) -> u32
     ensures { result ≡ counted_rows (spec.outside_rows config.now) }
 {
     let mut count = 0u32;
@@ -285,6 +303,29 @@ pub(crate) fn outside_rows(config: &Config) -> u32
         if is_outside(path) {
             count = count.saturating_add(1);
         }
+    }
+    count
+}
+
+// A count with a row: one more where it stands outside the module of the marks, up to the greatest number that is told.
+fn counted_with(count: u32, path: &Path) -> u32
+    ensures { result ≡ counted_rows (count + cond (spec.is_outside path.now) 1 0) }
+{
+    if is_outside(path) {
+        return count.saturating_add(1);
+    }
+    count
+}
+
+/// The same of rows that may lie over others.
+pub(crate) fn rows_outside<M: RowMap>(rows: &M) -> u32
+    ensures { result ≡ counted_rows (spec.outside_rows (M.rows rows.now)) }
+{
+    let mut count = 0u32;
+    let mut passed = None;
+    'walk: while let Some(next) = rows.next_after(passed) {
+        count = counted_with(count, next);
+        passed = Some(next);
     }
     count
 }

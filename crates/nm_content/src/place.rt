@@ -1,13 +1,17 @@
 //! Nodes of a configuration: what names them, and what it has there.
 
-ghost use Rattle.std.specs.Prelude.{◌≡◌, IfOk, option_copied};
+ghost use Rattle.std.specs.Prelude.{◌≡◌, ◌||◌, not, is_some, IfOk, option_copied};
+ghost use Rattle.std.specs.List.{list_all};
+ghost use Rattle.std.specs.FinMap as map;
 ghost use Rattle.nm_path.specs.Spelling.{node_of as found_at};
 ghost use Rattle.nm_rules.specs.Guards.{front};
 ghost use Rattle.nm_proto.specs.Content.{Finds};
 ghost use Rattle.nm_content.specs.Place as spec;
+ghost use Rattle.nm_content.specs.Walk.{below_after};
 
+use crate::walk::next_below;
 use nm_base::{Label, NoMemory};
-use nm_config::{Config, is_under};
+use nm_config::RowMap;
 use nm_path::{PathFault, node_of, read_path};
 use nm_proto::FindFault;
 use nm_tree::Schema;
@@ -93,21 +97,38 @@ fn same_value(one: Option<&Value>, other: Option<&Value>) -> bool
     }
 }
 
-// Whether each row of the one at and below a node is a row of the other.
-fn has_part_of(other: &Config, one: &Config, path: &Path) -> bool
-    ensures { result ≡ spec.has_part_of other.now one.now path.now }
+// Whether there is no row of the one at a path, or it is one of the other.
+fn is_kept<M: RowMap>(other: &M, one: &M, path: &Path) -> bool
+    ensures { result ≡ (not (is_some (map.get (M.rows one.now) path.now)) || spec.same_value (map.get (M.rows one.now) path.now) (map.get (M.rows other.now) path.now)) }
 {
-    for (row, _) in one.iter() {
-        if is_under(path, row) && !same_value(one.value(row), other.value(row)) {
+    let value = one.value(path);
+    value.is_none() || same_value(value, other.value(path))
+}
+
+// Whether each row of the one below a node is a row of the other.
+fn has_rest_of<M: RowMap>(other: &M, one: &M, path: &Path) -> bool
+    ensures { result ≡ list_all (spec.is_shared (M.rows one.now) (M.rows other.now) path.now) (below_after (M.rows one.now) path.now path.now) }
+{
+    let mut passed = path;
+    'walk: while let Some(next) = next_below(one, path, passed) {
+        if !same_value(one.value(next), other.value(next)) {
             return false;
         }
+        passed = next;
     }
     true
 }
 
+// Whether each row of the one at and below a node is a row of the other.
+fn has_part_of<M: RowMap>(other: &M, one: &M, path: &Path) -> bool
+    ensures { result ≡ spec.has_part_of (M.rows other.now) (M.rows one.now) path.now }
+{
+    is_kept(other, one, path) && has_rest_of(other, one, path)
+}
+
 /// Whether two configurations have the same rows at and below a node. It takes no memory.
-pub(crate) fn same_at(one: &Config, other: &Config, node: &YangNode) -> bool
-    ensures { result ≡ spec.same_at one.now other.now node.now }
+pub(crate) fn same_at<M: RowMap>(one: &M, other: &M, node: &YangNode) -> bool
+    ensures { result ≡ spec.same_at (M.rows one.now) (M.rows other.now) node.now }
 {
     has_part_of(other, one, &node.path) && has_part_of(one, other, &node.path)
 }

@@ -1,9 +1,9 @@
 ghost use Rattle.std.specs.Prelude.{◌+◌, ◌≤◌};
 
-use nm_base::{ChangeNo, DeviceMask, DeviceNo, Label, Tag};
+use nm_base::{ChangeNo, DeviceMask, Label};
 use nm_disk::{Disk, FileDisk, MemoryDisk};
 use nm_journal::{Journal, JournalFault, ends, read_disk, read_entries};
-use nm_proto::{AbortCause, Entry, Verdict};
+use nm_proto::{Entry, Verdict};
 use std::alloc::Global;
 use std::fs;
 use std::test::Fail;
@@ -325,42 +325,35 @@ fn verdicts_are_read(rt: HostRuntime) {
     }
 }
 
-// What a journal of version 2 has behind the record of a change set's start, once that was decided to be aborted.
-#[tactic(auto, unfolding(nm_journal::specs::Entries::is_within))]
-fn aborted(alloc: Global, disk: &mut MemoryDisk, cause: AbortCause) -> Result<(), Fail> {
-    let change = ChangeNo::new(64).ok_or("64")?;
-    let mut journal = Journal::fresh(alloc, disk)?;
-    journal.append(
-        disk,
-        Entry::Started {
-            change,
-            devices: DeviceMask(2),
-            timeout: None,
-        },
-    )?;
-    let verdict = Verdict::Abort(cause);
-    journal.append(disk, Entry::Decided { change, verdict })?;
+#[test]
+fn a_disk_with_bytes_is_refused(rt: HostRuntime) -> Result<(), Fail> {
+    let mut disk = MemoryDisk::with_limit(rt.alloc(), 64, 100)?;
+    assert_eq!(rt; disk.write_at(0, &WHOLE[..17]), Ok(()));
+    let refused = match Journal::fresh(rt.alloc(), &mut disk) {
+        Ok(_) => None,
+        Err(fault) => Some(fault),
+    };
+    assert_eq!(rt; refused, Some(JournalFault::NotEmpty { length: 17 }));
     Ok(())
 }
 
-// Aborts are written as they are read: device 2, tag 3.
+// A real file: written, closed, opened again with more behind its end, and its bytes compared.
 #[test]
-fn aborts_are_written(rt: HostRuntime) -> Result<(), Fail> {
-    let device = DeviceNo::new(2).ok_or("2")?;
-    let tag = Tag::LockDenied;
-    let mut disk = MemoryDisk::with_limit(rt.alloc(), 64, 100)?;
-    aborted(rt.alloc(), &mut disk, AbortCause::Refused { device, tag })?;
-    let refused = disk.bytes().get(17..).ok_or("short")?;
-    assert_eq!(rt;
-        refused,
-        [2, 0, 0, 0, 64, 2, 2, 3, 0, 2, 0, 0, 0, 0, 0, 0].as_slice()
-    );
-    let mut disk = MemoryDisk::with_limit(rt.alloc(), 64, 100)?;
-    aborted(rt.alloc(), &mut disk, AbortCause::Lapsed { device })?;
-    let lapsed = disk.bytes().get(17..).ok_or("short")?;
-    assert_eq!(rt;
-        lapsed,
-        [2, 0, 0, 0, 64, 5, 2, 0, 0, 2, 0, 0, 0, 0, 0, 0].as_slice()
-    );
-    Ok(())
+fn a_file_holds_a_journal(rt: HostRuntime) -> Result<(), Fail> {
+    let name = "nm_journal_file.tmp";
+    let _ = fs::remove_file(&rt, name);
+    let path = Label::new(rt.alloc(), name)?;
+    let mut disk = FileDisk::at(rt, path.copy()?);
+    let written = run(rt.alloc(), &mut disk)?;
+    drop(disk);
+    assert_eq!(rt; fs::read(&rt, name)?.as_slice(), WHOLE.as_slice());
+    let mut longer = WHOLE.to_vec(rt.alloc())?;
+    longer.extend_from_slice(b"torn")?;
+    fs::write(&rt, name, longer.as_slice())?;
+    let mut again = FileDisk::at(rt, path);
+    let (_, entries) = Journal::reopen(rt.alloc(), &mut again)?;
+    assert!(rt; entries.as_slice() == written.entries());
+    drop(again);
+    assert_eq!(rt; fs::read(&rt, name)?.as_slice(), WHOLE.as_slice());
+    Ok(fs::remove_file(&rt, name)?)
 }

@@ -1,20 +1,19 @@
 -- What holds of whole scenarios that are read.
-use Rattle.std.proofs.Common.{◌≡◌, ℕ, ◌≤◌, List, [], ◌∷◌, ◌++◌, length, false, Result, Ok, Err, codes, refl, ap, sym, subst, ◌∙◌, arith}
+use Rattle.std.proofs.Common.{◌≡◌, ℕ, ◌≤◌, List, [], ◌∷◌, ◌++◌, length, false, Ok, codes, ap, sym, subst, ◌∙◌, arith}
 use Rattle.std.specs.List.{All}
 use Rattle.std.proofs.lemmas.List.Elements.{All-nil, All-cons, All-append, All-head, All-tail}
 use Rattle.std.proofs.lemmas.List.{length-map}
 use Rattle.serde_json.specs.Data.{Data}
+use Rattle.nm_yang.specs.Tree.{Tree}
 use Rattle.nm_tree.specs.Nodes.{SchemaTree}
 use Rattle.nm_path.specs.Sound.{IsSound}
-use Rattle.nm_schema.specs.Built.{Builds}
+use Rattle.nm_schema.specs.Built.{Builds, built_of}
+use Rattle.nm_schema.proofs.Faulting.{builds_given}
 use Rattle.nm_schema.proofs.Sound.{modules_sound}
 use Rattle.nm_schema.proofs.Marked.{modules_marked}
 use Rattle.nm_edit.specs.declared.edit.EditNode.{EditNode}
 use Rattle.nm_edit.specs.EditOf.{IsEditOf}
-use Rattle.nm_schema_flaws.specs.declared.fault.Fault.{Fault as SchemaFault}
-use Rattle.nm_schema_flaws.specs.declared.fault.Fault.TheVariants.{Flawed, TooLarge}
 use Rattle.nm_proto.specs.declared.kind.ScenarioKind.TheVariants as kind
-use Rattle.nm_scenario_parts.specs.declared.fault.Fault.{Fault}
 use Rattle.nm_scenario_parts.specs.Reading.{here, required, optional, object_at, number_within, only_known, empty_list_at, switch_at}
 use Rattle.nm_scenario_events.specs.Limits.{device_limit, change_limit, operator_limit}
 use Rattle.nm_scenario_form.specs.Form.{Form as PartForm}
@@ -42,14 +41,14 @@ use Rattle.nm_scenario.specs.Changes.{changes_read_at, edits_of}
 use Rattle.nm_scenario.specs.Operators.{operators_at}
 use Rattle.nm_scenario.specs.Counts.{count_in, counts_of}
 use Rattle.nm_scenario.specs.Numbered.{numbered}
-use Rattle.nm_scenario.specs.Scenario.{knows_scenario, rest_at, changes_in, scenario_of, flat_scenario_at, yang_rest_at, yang_scenario_at, ReadsFrom, Reads, whole_of, ReadsWhole, ReadsBytes}
+use Rattle.nm_scenario.specs.Scenario.{knows_scenario, rest_at, changes_in, scenario_of, flat_scenario_at, tree_from, yang_rest_at, yang_scenario_at, scenario_in, scenario_at, whole_of, bytes_read}
 use Rattle.nm_refusals.specs.Kept.{StateKeeps, EditKeeps, DataKeeps, IsGiven, BodyKeeps, devices_in, UserKeeps, ScenarioKeeps, counts_in}
 use Rattle.nm_refusals.proofs.Parts.{Listed, list_read}
-use Rattle.nm_refusals.proofs.Good.{IsGood, good, no_good, then_good, required_good, optional_good}
+use Rattle.nm_refusals.proofs.Good.{IsGood, good, then_good, required_good, optional_good}
 use Rattle.nm_refusals.proofs.KeptParts.{AreGood, ReadKeeps, DevicesKeep, devices_good, yang_devices_good, changes_read_good, plans_keep, plans_length, edits_keep, operators_good, flat_edit_good, flat_edits_hold, DataEditKeeps, data_edit_good, data_edits_hold}
 use Rattle.nm_refusals.proofs.KeptEvents.{EventsAre, no_events, events_good, numbered_all, numbered_own, numbered_total}
 use Rattle.nm_refusals.proofs.Rests.{operators_read, count_required, count_optional}
-use Rattle.nm_refusals.proofs.Wholes.{devices_count, changes_count, yang_devices_count}
+use Rattle.nm_refusals.proofs.Wholes.{devices_count, changes_count, yang_devices_count, tree_is}
 
 -- the members after the change sets
 pub record RestKeeps {E : Type 0} (Q : E → Type 0) (c : Counts) (rest : Rest E) : Type 0 where
@@ -185,13 +184,16 @@ yang_good tree texts whole given few =
     (record { module_count = few; given = given; running = d.all; edited = are_edits tree (edits_of changes ++ edits_of_events rest.events) edits; few = are_few tree (edits_of changes ++ edits_of_events rest.events) edits })
     (count_required (codes "devices") (yang_devices_at tree) whole devices (yang_devices_count tree) e) d.count))))
 
-given_good : (modules : List ReadModule) (given : Result SchemaTree SchemaFault) (whole : Data) → Builds (statements_of modules) given → length (texts_of modules) ≤ module_limit
-    → IsGood ScenarioKeeps (yang_scenario_at given (texts_of modules) whole)
+is_given : (modules : List Tree) (tree : SchemaTree) → built_of modules ≡ Ok tree → IsGiven tree
+is_given modules tree e =
+    let builds : Builds modules (Ok tree) = (builds_given modules (Ok tree)).1 (sym e) in
+    record { sound = modules_sound modules tree builds; marker = modules_marked modules tree builds }
+
+yang_scenario_good : (modules : List ReadModule) (whole : Data) → length (texts_of modules) ≤ module_limit → IsGood ScenarioKeeps (yang_scenario_at modules whole)
 unfolding yang_scenario_at
-given_good modules (Ok tree) whole builds few =
-    yang_good tree (texts_of modules) whole (record { sound = modules_sound (statements_of modules) tree builds; marker = modules_marked (statements_of modules) tree builds }) few
-given_good modules (Err (Flawed flaw m place)) whole builds few = no_good _
-given_good modules (Err (TooLarge m place)) whole builds few = no_good _
+yang_scenario_good modules whole few =
+    then_good (tree_from (built_of (statements_of modules))) _
+    (λ tree e. yang_good tree (texts_of modules) whole (is_given (statements_of modules) tree (tree_is (built_of (statements_of modules)) tree e)) few)
 
 -- ---- the head
 
@@ -220,24 +222,23 @@ head_good whole = then_good (object_at whole) _ (λ u o. then_good (required (co
 
 -- ---- the whole
 
-moved : {A : Type 0} {Q : A → Type 0} (x y : Result A Fault) → x ≡ y → IsGood Q y → IsGood Q x
-moved {A} {Q} x y e g = subst (λ r. IsGood Q r) (sym e) g
+scenario_in_good : (whole : Data) (h : Head) → HeadKeeps h → IsGood ScenarioKeeps (scenario_in h whole)
+scenario_in_good whole head.Flat few = flat_good whole
+scenario_in_good whole (head.Yang modules) few = yang_scenario_good modules whole (omega (arith, few, length-map modules (λ m. m.text)))
 
-from_good : (whole : Data) (h : Result Head Fault) → head_at whole ≡ h → (outcome : Result Scenario Fault) → ReadsFrom whole h outcome → IsGood ScenarioKeeps outcome
-from_good whole (Err fault) e outcome reads = moved outcome (Err fault) reads (no_good fault)
-from_good whole (Ok head.Flat) e outcome reads = moved outcome (flat_scenario_at whole) reads (flat_good whole)
-from_good whole (Ok (head.Yang modules)) e outcome reads =
+scenario_good : (whole : Data) → IsGood ScenarioKeeps (scenario_at whole)
+unfolding scenario_at
+scenario_good whole =
     let g : IsGood HeadKeeps (head_at whole) = head_good whole in
-    let few : length modules ≤ module_limit = g.so (head.Yang modules) e in
-    moved outcome (yang_scenario_at reads.given (texts_of modules) whole) reads.outcome_is (given_good modules reads.given whole reads.builds (omega (arith, few, length-map modules (λ m. m.text))))
+    then_good (head_at whole) _ (λ h e. scenario_in_good whole h (g.so h e))
 
 -- a scenario that was read is within its limits
-pub whole_keeps : (whole : Data) (scenario : Scenario) → Reads whole (Ok scenario) → ScenarioKeeps scenario
-whole_keeps whole scenario reads = let g : IsGood ScenarioKeeps (Ok scenario) = from_good whole (head_at whole) refl (Ok scenario) reads in g.so scenario refl
+pub whole_keeps : (whole : Data) (scenario : Scenario) → scenario_at whole ≡ Ok scenario → ScenarioKeeps scenario
+whole_keeps whole scenario e = let g : IsGood ScenarioKeeps (scenario_at whole) = scenario_good whole in g.so scenario e
 
-parsed_keeps : (r : Result Data Fault) (scenario : Scenario) → ReadsWhole r (Ok scenario) → ScenarioKeeps scenario
-parsed_keeps (Err fault) scenario reads = cc
-parsed_keeps (Ok whole) scenario reads = whole_keeps whole scenario reads
+bytes_good : (bytes : List ℕ) → IsGood ScenarioKeeps (bytes_read bytes)
+unfolding bytes_read
+bytes_good bytes = then_good (whole_of bytes) _ (λ whole e. scenario_good whole)
 
-pub bytes_keep : (bytes : List ℕ) (scenario : Scenario) → ReadsBytes bytes (Ok scenario) → ScenarioKeeps scenario
-bytes_keep bytes scenario reads = parsed_keeps (whole_of bytes) scenario reads
+pub bytes_keep : (bytes : List ℕ) (scenario : Scenario) → bytes_read bytes ≡ Ok scenario → ScenarioKeeps scenario
+bytes_keep bytes scenario e = let g : IsGood ScenarioKeeps (bytes_read bytes) = bytes_good bytes in g.so scenario e

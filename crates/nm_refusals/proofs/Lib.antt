@@ -13,6 +13,5 @@ pub mod KeptParts
 pub mod KeptEvents
 pub mod KeptWhole
 pub mod Reordering
-pub mod Answered
 pub mod Modules
 pub mod Tidy

@@ -17,7 +17,8 @@ use Rattle.nm_schema_flaws.specs.declared.fault.Fault.{Fault}
 use Rattle.nm_schema_flaws.specs.Facts.{Facts, definitions}
 use Rattle.nm_schema_flaws.specs.Flaw.{flaw_at}
 use Rattle.nm_schema_flaws.specs.Fault.{first_some, flawed, is_last, large_by, large_in, large_at, fault_at, first_fault}
-use Rattle.nm_schema.specs.Built.{outcome, built, Builds}
+use Rattle.nm_schema.specs.FactsOf.{facts_in}
+use Rattle.nm_schema.specs.Built.{outcome, built, built_of}
 use Rattle.nm_refusals.specs.Told.{module_of_fault}
 
 -- ---- the rows of a module have its number
@@ -127,5 +128,6 @@ unfolding built
 built_in modules facts fault e = outcome_in modules facts (first_fault (rows_of modules) facts) fault (first_fault_in modules facts) e
 
 -- a fault that modules have is in one of them
-pub fault_in_module : (modules : List Tree) (fault : Fault) → Builds modules (Err fault) → module_of_fault fault < length modules
-fault_in_module modules fault builds = built_in modules builds.facts fault builds.given_is
+pub fault_in_module : (modules : List Tree) (fault : Fault) → built_of modules ≡ Err fault → module_of_fault fault < length modules
+unfolding built_of
+fault_in_module modules fault e = built_in modules (facts_in (rows_of modules)) fault (sym e)

@@ -7,6 +7,7 @@ use Rattle.serde_json.specs.Find.{get, at, get_member, get_item, as_object}
 use Rattle.nm_base.specs.declared.tag.Tag.{Tag}
 use Rattle.nm_base.specs.declared.tag.Tag.TheVariants.{InUse, InvalidValue, LockDenied, AccessDenied, DataExists, DataMissing, OperationFailed, ResourceDenied, UnknownElement, BadAttribute, MissingElement}
 use Rattle.nm_tree.specs.Nodes.{SchemaTree}
+use Rattle.nm_schema.specs.Built.{built_of}
 use Rattle.nm_edit.specs.declared.edit.EditNode.{EditNode}
 use Rattle.nm_edit_json.specs.Whole.{edit_read}
 use Rattle.nm_proto.specs.Content.{Refusal}
@@ -16,7 +17,7 @@ use Rattle.nm_proto.specs.declared.kind.ScenarioKind.TheVariants as kind
 use Rattle.nm_scenario_parts.specs.declared.fault.Step.{Step}
 use Rattle.nm_scenario_parts.specs.declared.fault.Step.TheVariants.{Name, Item}
 use Rattle.nm_scenario_parts.specs.declared.fault.Fault.{Fault}
-use Rattle.nm_scenario_parts.specs.Reading.{under, optional_from, count_of, plain}
+use Rattle.nm_scenario_parts.specs.Reading.{under, optional_from, optional, count_of, plain}
 use Rattle.nm_scenario_parts.specs.Words.{item_count}
 use Rattle.nm_scenario.specs.declared.head.ReadModule.{ReadModule}
 use Rattle.nm_scenario.specs.Head.{module_limit, module_at, modules_at, statement_of, statements_of}
@@ -30,6 +31,7 @@ use Rattle.nm_scenario_form.specs.Places.{stepped, walked, LacksMember, IsPlace,
 use Rattle.nm_refusals.specs.Wrong as wrong
 use Rattle.nm_refusals.specs.Wrong.{Wrong}
 use Rattle.nm_refusals.specs.Told.{OfEvents, Tells, here, missing, unknown, in_events, inside, TellsWhole, in_part, in_module, module_of_fault}
+use Rattle.nm_refusals.proofs.Sound.{both}
 use Rattle.nm_refusals.proofs.Parts.{Listed, list_read}
 use Rattle.nm_refusals.proofs.Modules.{fault_in_module}
 
@@ -199,7 +201,9 @@ module_there (Some part) modules m e less =
 pub whole_there : (whole : Data) (k : ScenarioKind) (place : List Step) → TellsWhole whole k place → (k ≡ kind.Missing → ⊥) → is_some (walked place whole) ≡ true
 whole_there whole k place (in_part frame is t) known = place_there t known
 whole_there whole k place (in_module fault is g) known =
-    module_there (get (codes "modules") whole) g.modules (module_of_fault fault) g.modules_are (omega (arith, fault_in_module (statements_of g.modules) fault g.builds, length-map g.modules statement_of))
+    let b = both (optional (codes "modules") [] modules_at whole) (λ modules. Ok (built_of (statements_of modules))) (Err fault) g in
+    let given : built_of (statements_of b.value) ≡ Err fault = cc in
+    module_there (get (codes "modules") whole) b.value (module_of_fault fault) b.first (omega (arith, fault_in_module (statements_of b.value) fault given, length-map b.value statement_of))
 
 -- where a member is missing, the object is there and doesn't have it
 pub whole_lacks : (whole : Data) (k : ScenarioKind) (place : List Step) → TellsWhole whole k place → k ≡ kind.Missing → LacksMember whole place

@@ -1,5 +1,5 @@
 -- What is told of whole scenarios, and of bytes.
-use Rattle.std.proofs.Common.{◌≡◌, ℕ, ◌≤◌, List, [], length, Bool, true, false, cond, Option, Some, None, Result, Ok, Err, codes, refl, ap, sym, subst, ◌∙◌}
+use Rattle.std.proofs.Common.{◌≡◌, ℕ, ◌≤◌, List, [], length, Bool, true, false, cond, Option, Some, None, Result, Ok, Err, codes, refl, ap, ◌∙◌}
 use Rattle.std.specs.Prelude.{nat_lt}
 use Rattle.std.proofs.lemmas.Bool.{ltb-false, ltb-true}
 use Rattle.serde_json.specs.Data.{Data}
@@ -8,9 +8,10 @@ use Rattle.nm_tree.specs.Nodes.{SchemaTree}
 use Rattle.nm_config.specs.Rows.{Rows}
 use Rattle.nm_schema_flaws.specs.declared.fault.Fault.{Fault as SchemaFault}
 use Rattle.nm_schema_flaws.specs.declared.fault.Fault.TheVariants.{Flawed, TooLarge}
+use Rattle.nm_schema.specs.Built.{built_of}
 use Rattle.nm_proto.specs.declared.kind.ScenarioKind.TheVariants as kind
 use Rattle.nm_scenario_parts.specs.declared.fault.Fault.{Fault}
-use Rattle.nm_scenario_parts.specs.Reading.{here, required, optional, object_at, list_at, number_within, some_of, empty_list_at}
+use Rattle.nm_scenario_parts.specs.Reading.{◌>>=◌, here, required, optional, object_at, list_at, number_within, some_of, empty_list_at}
 use Rattle.nm_scenario_parts.specs.Words.{item_count}
 use Rattle.nm_scenario_events.specs.Limits.{device_limit, change_limit}
 use Rattle.nm_scenario.specs.declared.head.Form.{Form}
@@ -20,18 +21,18 @@ use Rattle.nm_scenario.specs.declared.head.Head.TheVariants as head
 use Rattle.nm_scenario.specs.declared.head.ReadModule.{ReadModule}
 use Rattle.nm_scenario.specs.declared.scenario.Scenario.{Scenario}
 use Rattle.nm_scenario.specs.declared.scenario.ReadChange.{ReadChange}
-use Rattle.nm_scenario.specs.Head.{form_at, modules_at, texts_of, yang_head_at, head_in, head_at}
+use Rattle.nm_scenario.specs.Head.{form_at, modules_at, texts_of, statements_of, yang_head_at, head_in, head_at}
 use Rattle.nm_scenario.specs.Flat.{flat_edit}
 use Rattle.nm_scenario_form.specs.Form.{Form as EditForm}
 use Rattle.nm_scenario.specs.Devices.{device_at, devices_at}
 use Rattle.nm_scenario.specs.Yang.{data_edit, yang_device_at, yang_devices_at}
 use Rattle.nm_scenario.specs.Changes.{change_at, changes_read_at}
-use Rattle.nm_scenario.specs.Scenario.{rest_at, changes_in, flat_scenario_at, yang_rest_at, yang_scenario_at, ReadsFrom, Reads, byte_limit, json_of, parsed, whole_of, ReadsWhole, ReadsBytes}
+use Rattle.nm_scenario.specs.Scenario.{rest_at, changes_in, flat_scenario_at, tree_from, yang_rest_at, yang_scenario_at, scenario_in, scenario_at, byte_limit, json_of, parsed, whole_of, bytes_read}
 use Rattle.nm_refusals.specs.Roles as role
 use Rattle.nm_refusals.specs.Roles.{Frame, unread, flat, yang, with_tree, cells, data_of}
 use Rattle.nm_refusals.specs.Members as must
 use Rattle.nm_refusals.specs.Steps as step
-use Rattle.nm_refusals.specs.Told.{Told, Gives, IsFrame, in_part, in_module, ToldOfWhole, too_long, not_json, in_whole, ToldOfBytes}
+use Rattle.nm_refusals.specs.Told.{Told, given_in, IsFrame, in_part, in_module, ToldOfWhole, too_long, not_json, in_whole, ToldOfBytes}
 use Rattle.nm_refusals.proofs.Sound.{IsSound, is_read, is_told, then_so, by_test, both}
 use Rattle.nm_refusals.proofs.Parts.{IsObject, object_is, object_so, required_so, optional_so, Listed, list_read, number_so, no_modules_so}
 use Rattle.nm_refusals.proofs.Heads.{form_so, modules_so, devices_so, yang_devices_so}
@@ -140,33 +141,40 @@ yang_word whole form.Yang modules e =
 
 -- ---- the whole
 
-in_so : {A : Type 0} {P : Fault → Type 0} (x y : Result A Fault) → x ≡ y → IsSound P y → IsSound P x
-in_so {A} {P} x y e s = subst (λ r. IsSound P r) (sym e) s
+-- modules give a tree where it is read
+pub tree_is : (given : Result SchemaTree SchemaFault) (tree : SchemaTree) → tree_from given ≡ Ok tree → given ≡ Ok tree
+tree_is (Ok other) tree e = let same : other ≡ tree = cc in ap Ok same
+tree_is (Err (Flawed flaw m place)) tree e = cc
+tree_is (Err (TooLarge m place)) tree e = cc
 
-given_so : (whole : Data) (modules : List ReadModule) → IsObject whole → required (codes "contents") form_at whole ≡ Ok form.Yang → (given : Result SchemaTree SchemaFault) → Gives whole given
-    → IsSound (ToldOfWhole whole) (yang_scenario_at given (texts_of modules) whole)
+tree_so : (whole : Data) → required (codes "contents") form_at whole ≡ Ok form.Yang → (given : Result SchemaTree SchemaFault) → given_in whole ≡ Ok given → IsSound (ToldOfWhole whole) (tree_from given)
+tree_so whole e (Ok tree) g = is_read tree
+tree_so whole e (Err (Flawed flaw m place)) g = is_told _ _ (in_module (Flawed flaw m place) e g)
+tree_so whole e (Err (TooLarge m place)) g = is_told _ _ (in_module (TooLarge m place) e g)
+
+yang_scenario_so : (whole : Data) (modules : List ReadModule) → IsObject whole → required (codes "contents") form_at whole ≡ Ok form.Yang → given_in whole ≡ Ok (built_of (statements_of modules))
+    → IsSound (ToldOfWhole whole) (yang_scenario_at modules whole)
 unfolding yang_scenario_at
-given_so whole modules o e (Ok tree) g = in_frame whole (with_tree tree) (yang_rest_at tree (texts_of modules) whole) (e, g) (yang_so tree (texts_of modules) whole o)
-given_so whole modules o e (Err (Flawed flaw m place)) g = is_told _ _ (in_module (Flawed flaw m place) e g)
-given_so whole modules o e (Err (TooLarge m place)) g = is_told _ _ (in_module (TooLarge m place) e g)
+yang_scenario_so whole modules o e g =
+    then_so (tree_from (built_of (statements_of modules))) _ (tree_so whole e (built_of (statements_of modules)) g)
+    (λ tree t. in_frame whole (with_tree tree) (yang_rest_at tree (texts_of modules) whole) (e, g ∙ ap Ok (tree_is (built_of (statements_of modules)) tree t)) (yang_so tree (texts_of modules) whole o))
 
-from_so : (whole : Data) (h : Result Head Fault) → head_at whole ≡ h → (outcome : Result Scenario Fault) → ReadsFrom whole h outcome → IsSound (ToldOfWhole whole) outcome
-from_so whole (Err fault) e outcome reads = in_so outcome (Err fault) reads (is_told _ fault (let s : IsSound (ToldOfWhole whole) (head_at whole) = head_so whole in s.so fault e))
-from_so whole (Ok head.Flat) e outcome reads =
+scenario_in_so : (whole : Data) (h : Head) → head_at whole ≡ Ok h → IsSound (ToldOfWhole whole) (scenario_in h whole)
+scenario_in_so whole head.Flat e =
     let r : HeadRead whole head.Flat = head_read whole head.Flat e in
-    in_so outcome (flat_scenario_at whole) reads (in_frame whole flat (flat_scenario_at whole) (r.word_is ∙ ap Ok (flat_word whole r.word r.rest)) (flat_so whole r.object))
-from_so whole (Ok (head.Yang modules)) e outcome reads =
+    in_frame whole flat (flat_scenario_at whole) (r.word_is ∙ ap Ok (flat_word whole r.word r.rest)) (flat_so whole r.object)
+scenario_in_so whole (head.Yang modules) e =
     let r : HeadRead whole (head.Yang modules) = head_read whole (head.Yang modules) e in
     let y : YangRead whole modules r.word = yang_word whole r.word modules r.rest in
-    in_so outcome (yang_scenario_at reads.given (texts_of modules) whole) reads.outcome_is
-    (given_so whole modules r.object (r.word_is ∙ ap Ok y.word_is) reads.given (record { modules = modules; modules_are = y.modules_are; builds = reads.builds }))
+    yang_scenario_so whole modules r.object (r.word_is ∙ ap Ok y.word_is) (ap (λ read. read >>= λ ms. Ok (built_of (statements_of ms))) y.modules_are)
 
-whole_so : (whole : Data) (outcome : Result Scenario Fault) → Reads whole outcome → IsSound (ToldOfWhole whole) outcome
-whole_so whole outcome reads = from_so whole (head_at whole) refl outcome reads
+whole_so : (whole : Data) → IsSound (ToldOfWhole whole) (scenario_at whole)
+unfolding scenario_at
+whole_so whole = then_so (head_at whole) _ (head_so whole) (λ h e. scenario_in_so whole h e)
 
 -- a fault of a whole scenario is told so
-pub whole_told : (whole : Data) (fault : Fault) → Reads whole (Err fault) → ToldOfWhole whole fault
-whole_told whole fault reads = let s : IsSound (ToldOfWhole whole) (Err fault) = whole_so whole (Err fault) reads in s.so fault refl
+pub whole_told : (whole : Data) (fault : Fault) → scenario_at whole ≡ Err fault → ToldOfWhole whole fault
+whole_told whole fault e = let s : IsSound (ToldOfWhole whole) (scenario_at whole) = whole_so whole in s.so fault e
 
 -- ---- bytes
 
@@ -196,10 +204,13 @@ whole_is : (bytes : List ℕ) (whole : Data) → whole_of bytes ≡ Ok whole →
 unfolding whole_of
 whole_is bytes whole e = whole_tested bytes whole (nat_lt byte_limit (length bytes)) refl e
 
-bytes_so : (bytes : List ℕ) (r : Result Data Fault) → whole_of bytes ≡ r → (fault : Fault) → ReadsWhole r (Err fault) → ToldOfBytes bytes fault
-bytes_so bytes (Err other) e fault reads = let s : IsSound (ToldOfBytes bytes) (whole_of bytes) = whole_of_so bytes in let same : other ≡ fault = cc in s.so fault (e ∙ ap Err same)
-bytes_so bytes (Ok whole) e fault reads = let w : WholeOf bytes whole = whole_is bytes whole e in in_whole whole w.within w.is (whole_told whole fault reads)
+in_bytes : (bytes : List ℕ) (whole : Data) (r : Result Scenario Fault) → WholeOf bytes whole → IsSound (ToldOfWhole whole) r → IsSound (ToldOfBytes bytes) r
+in_bytes bytes whole r w s = record { so = λ fault e. in_whole whole w.within w.is (s.so fault e) }
+
+bytes_so : (bytes : List ℕ) → IsSound (ToldOfBytes bytes) (bytes_read bytes)
+unfolding bytes_read
+bytes_so bytes = then_so (whole_of bytes) _ (whole_of_so bytes) (λ whole e. in_bytes bytes whole (scenario_at whole) (whole_is bytes whole e) (whole_so whole))
 
 -- a fault of bytes as a scenario is told so
-pub bytes_told : (bytes : List ℕ) (fault : Fault) → ReadsBytes bytes (Err fault) → ToldOfBytes bytes fault
-bytes_told bytes fault reads = bytes_so bytes (whole_of bytes) refl fault reads
+pub bytes_told : (bytes : List ℕ) (fault : Fault) → bytes_read bytes ≡ Err fault → ToldOfBytes bytes fault
+bytes_told bytes fault e = let s : IsSound (ToldOfBytes bytes) (bytes_read bytes) = bytes_so bytes in s.so fault e

@@ -9,13 +9,13 @@ use Rattle.serde_json.specs.Find.{get_member, as_object}
 use Rattle.nm_tree.specs.Nodes.{SchemaTree}
 use Rattle.nm_schema_flaws.specs.declared.fault.Fault.{Fault as SchemaFault}
 use Rattle.nm_schema_flaws.specs.declared.fault.Fault.TheVariants.{Flawed, TooLarge}
-use Rattle.nm_schema.specs.Built.{Builds}
+use Rattle.nm_schema.specs.Built.{built_of}
 use Rattle.nm_proto.specs.declared.kind.ScenarioKind.{ScenarioKind}
 use Rattle.nm_proto.specs.declared.kind.ScenarioKind.TheVariants as kind
 use Rattle.nm_scenario_parts.specs.declared.fault.Step.{Step}
 use Rattle.nm_scenario_parts.specs.declared.fault.Step.TheVariants.{Name, Item}
 use Rattle.nm_scenario_parts.specs.declared.fault.Fault.{Fault}
-use Rattle.nm_scenario_parts.specs.Reading.{required, optional}
+use Rattle.nm_scenario_parts.specs.Reading.{◌>>=◌, required, optional}
 use Rattle.nm_scenario_form.specs.Exact.{IsFirstOf}
 use Rattle.nm_scenario_form.specs.Places.{stepped}
 use Rattle.nm_scenario_events.specs.declared.arguments.Counts.{Counts}
@@ -23,7 +23,6 @@ use Rattle.nm_scenario_events.specs.Events.{events_form}
 use Rattle.nm_scenario.specs.Flat.{flat_edit}
 use Rattle.nm_scenario.specs.Yang.{data_edit}
 use Rattle.nm_scenario.specs.declared.head.Form.TheVariants as form
-use Rattle.nm_scenario.specs.declared.head.ReadModule.{ReadModule}
 use Rattle.nm_scenario.specs.Head.{form_at, modules_at, statements_of}
 use Rattle.nm_scenario.specs.Scenario.{byte_limit, json_of}
 use Rattle.nm_refusals.specs.Roles.{Contents, cells, data_of, Frame, Role, scenario, events, unread, flat, yang, with_tree}
@@ -84,18 +83,18 @@ Told role part fault = Tells role part fault.cause.kind fault.place
 
 -- ---- the whole
 
--- the modules of a scenario are all read, and give this
-pub record Gives (whole : Data) (given : Result SchemaTree SchemaFault) : Type 0 where
-  pub modules : List ReadModule
-  pub modules_are : optional (codes "modules") [] modules_at whole ≡ Ok modules
-  pub builds : Builds (statements_of modules) given
+-- what the modules of a scenario give (RFC 7950), where they are all read
+abbrev pub given_in : Data → Result (Result SchemaTree SchemaFault) Fault
+given_in whole = do
+  modules ← optional (codes "modules") [] modules_at whole
+  Ok (built_of (statements_of modules))
 
 -- what the head of a scenario tells of its rest
 abbrev pub IsFrame : Data → Frame → Type 0
 IsFrame whole unread = Unit {0}
 IsFrame whole flat = required (codes "contents") form_at whole ≡ Ok form.Flat
 IsFrame whole yang = required (codes "contents") form_at whole ≡ Ok form.Yang
-IsFrame whole (with_tree tree) = (required (codes "contents") form_at whole ≡ Ok form.Yang) × Gives whole (Ok tree)
+IsFrame whole (with_tree tree) = (required (codes "contents") form_at whole ≡ Ok form.Yang) × (given_in whole ≡ Ok (Ok tree))
 
 -- the module that a fault of modules is in
 abbrev pub module_of_fault : SchemaFault → ℕ
@@ -106,7 +105,7 @@ module_of_fault (TooLarge m place) = m
 pub data TellsWhole : Data → ScenarioKind → List Step → Type 0 where
   in_part : {whole : Data} {k : ScenarioKind} {place : List Step} (frame : Frame) → IsFrame whole frame → Tells (scenario frame) whole k place → TellsWhole whole k place
   -- the texts of the modules are read, and one of them has another fault
-  in_module : {whole : Data} (fault : SchemaFault) → required (codes "contents") form_at whole ≡ Ok form.Yang → Gives whole (Err fault)
+  in_module : {whole : Data} (fault : SchemaFault) → required (codes "contents") form_at whole ≡ Ok form.Yang → given_in whole ≡ Ok (Err fault)
       → TellsWhole whole kind.Schema (Name (codes "modules") ∷ Item (module_of_fault fault) ∷ [])
 
 -- a fault of a scenario

@@ -8,6 +8,8 @@ mod check;
 #[cfg(test)]
 mod check_told;
 #[cfg(test)]
+mod incremental;
+#[cfg(test)]
 mod reached;
 #[cfg(test)]
 mod rule_at;

@@ -7,12 +7,10 @@ use Rattle.serde_json.specs.Read.{read}
 use Rattle.nm_tree.specs.Nodes.{SchemaTree}
 use Rattle.nm_schema_flaws.specs.declared.fault.Fault.{Fault as SchemaFault}
 use Rattle.nm_schema_flaws.specs.declared.fault.Fault.TheVariants.{Flawed, TooLarge}
-use Rattle.nm_schema.specs.Built.{Builds}
+use Rattle.nm_schema.specs.Built.{built_of}
 use Rattle.nm_proto.specs.declared.kind.ScenarioKind.TheVariants as kind
 use Rattle.nm_scenario_parts.specs.declared.fault.Step.TheVariants.{Name, Item}
 use Rattle.nm_scenario_parts.specs.declared.fault.Fault.{Fault}
-use Rattle.nm_scenario_parts.specs.declared.fault.ReadError.{ReadError}
-use Rattle.nm_scenario_parts.specs.declared.fault.ReadError.TheVariants as error
 use Rattle.nm_scenario_parts.specs.Reading.{◌>>=◌, here, there, under, required, optional, only_known, empty_list_at, switch_at}
 use Rattle.nm_scenario_form.specs.Form.{Form}
 use Rattle.nm_scenario_form.specs.Read.{read as form_read}
@@ -93,29 +91,24 @@ yang_rest_at tree texts part = do
   rest ← rest_at (data_edit tree) part
   Ok (scenario_of (Yang texts tree devices) (numbered changes rest))
 
--- the same, by what its modules give
-unfoldable pub yang_scenario_at : Result SchemaTree SchemaFault → List (List ℕ) → Data → Result Scenario Fault
-yang_scenario_at given texts part = do
-  tree ← tree_from given
-  yang_rest_at tree texts part
+-- a scenario of YANG contents with these modules, after its head
+unfoldable pub yang_scenario_at : List ReadModule → Data → Result Scenario Fault
+yang_scenario_at modules part = do
+  tree ← tree_from (built_of (statements_of modules))
+  yang_rest_at tree (texts_of modules) part
 
 -- ---- the whole
 
--- a scenario of YANG contents with these modules reads as this, by what they give
-pub record ReadsYang (whole : Data) (modules : List ReadModule) (outcome : Result Scenario Fault) : Type 0 where
-  pub given : Result SchemaTree SchemaFault
-  pub builds : Builds (statements_of modules) given
-  pub outcome_is : outcome ≡ yang_scenario_at given (texts_of modules) whole
+-- a scenario after this head
+abbrev pub scenario_in : Head → Data → Result Scenario Fault
+scenario_in head.Flat part = flat_scenario_at part
+scenario_in (head.Yang modules) part = yang_scenario_at modules part
 
--- a scenario with this head reads as this. What modules give is a relation, so this is one too
-abbrev pub ReadsFrom : Data → Result Head Fault → Result Scenario Fault → Type 0
-ReadsFrom whole (Err fault) outcome = outcome ≡ Err fault
-ReadsFrom whole (Ok head.Flat) outcome = outcome ≡ flat_scenario_at whole
-ReadsFrom whole (Ok (head.Yang modules)) outcome = ReadsYang whole modules outcome
-
--- a JSON value reads as this scenario, or this is its first fault
-abbrev pub Reads : Data → Result Scenario Fault → Type 0
-Reads whole outcome = ReadsFrom whole (head_at whole) outcome
+-- the scenario of a JSON value
+unfoldable pub scenario_at : Data → Result Scenario Fault
+scenario_at part = do
+  head ← head_at part
+  scenario_in head part
 
 -- ---- bytes
 
@@ -135,16 +128,12 @@ parsed (Some whole) = Ok whole
 unfoldable pub whole_of : List ℕ → Result Data Fault
 whole_of bytes = if nat_lt byte_limit (length bytes) then here kind.TooLong else parsed (json_of bytes)
 
-abbrev pub ReadsWhole : Result Data Fault → Result Scenario Fault → Type 0
-ReadsWhole (Err fault) outcome = outcome ≡ Err fault
-ReadsWhole (Ok whole) outcome = Reads whole outcome
+-- the scenario of bytes
+unfoldable pub bytes_read : List ℕ → Result Scenario Fault
+bytes_read bytes = do
+  whole ← whole_of bytes
+  scenario_at whole
 
 -- bytes read as this scenario, or this is their first fault
 abbrev pub ReadsBytes : List ℕ → Result Scenario Fault → Type 0
-ReadsBytes bytes outcome = ReadsWhole (whole_of bytes) outcome
-
--- what is read so is answered, unless memory ran out
-abbrev pub Answers : (Result Scenario Fault → Type 0) → Result Scenario ReadError → Type 0
-Answers reads (Ok scenario) = reads (Ok scenario)
-Answers reads (Err (error.Bad fault)) = reads (Err fault)
-Answers reads (Err error.NoMemory) = Unit {0}
+ReadsBytes bytes outcome = bytes_read bytes ≡ outcome

@@ -1,18 +1,17 @@
 //! Configurations and edits of YANG data, by the schema tree of their modules.
 
-ghost use Rattle.std.specs.Prelude.{◌≡◌, ◌∷◌, [], IfOk};
+ghost use Rattle.std.specs.Prelude.{◌≡◌, IfOk};
 ghost use Rattle.serde_json.specs.View.{view};
 ghost use Rattle.nm_json.specs.Whole.{config_read};
 ghost use Rattle.nm_check.specs.Told.{violation_told};
-ghost use Rattle.nm_content.specs.Mark.{changes_step};
 ghost use Rattle.nm_scenario_parts.specs.Reading.{Gives};
 ghost use Rattle.nm_scenario_form.specs.Read.{told};
 ghost use Rattle.nm_scenario.specs.Yang.{data_at, data_edit, edit_cause, holds_marks, rows_from, valid_rows};
 
-use nm_base::{Label, MARKER, NoMemory, Tag};
+use nm_base::{NoMemory, Tag};
 use nm_check::check_rows;
 use nm_config::Config;
-use nm_content::YangContent;
+use nm_content::{YangContent, marks_path};
 use nm_edit::{Edit, EditFault};
 use nm_edit_json::read_edit;
 use nm_json::{JsonFault, config_of};
@@ -21,7 +20,6 @@ use nm_scenario_form::Reader as FormReader;
 use nm_scenario_parts::reader::{Reader, fault_here};
 use nm_scenario_parts::{ReadError, ScenarioKind};
 use nm_tree::Schema;
-use nm_types::{Chosen, Path, Step};
 use serde_json::Value;
 use std::alloc::Global;
 
@@ -54,27 +52,6 @@ fn read_rows(alloc: Global, schema: &Schema, part: &Value) -> Result<Config, Rea
         Err(JsonFault::Bad { .. }) => fault_here(alloc, ScenarioKind::Content),
         Err(JsonFault::NotJson) => fault_here(alloc, ScenarioKind::Content),
     }
-}
-
-// The step to the container of all marks.
-#[tactic(auto, unfolding(nm_base::specs::Words::marker_name, nm_content::specs::Mark::changes_name))]
-fn marks_step(alloc: Global) -> Result<Step, NoMemory>
-    ensures { IfOk result (λ step. step ≡ changes_step) }
-{
-    Ok(Step {
-        module: Label::new(alloc, MARKER)?,
-        name: Label::new(alloc, "changes")?,
-        chosen: Chosen::Whole,
-    })
-}
-
-// The path of that container.
-fn marks_path(alloc: Global) -> Result<Path, NoMemory>
-    ensures { IfOk result (λ path. path ≡ changes_step ∷ []) }
-{
-    let mut steps = Vec::new(alloc);
-    steps.push(marks_step(alloc)?)?;
-    Ok(Path { steps })
 }
 
 // Whether a configuration holds marks of change sets.

@@ -12,7 +12,6 @@ mod devices;
 mod flat;
 mod flat_scenario;
 pub mod head;
-pub mod laws;
 mod numbering;
 mod operators;
 mod read;

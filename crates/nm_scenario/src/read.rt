@@ -5,7 +5,7 @@ ghost use Rattle.serde_json.specs.View.{view};
 ghost use Rattle.nm_scenario_parts.specs.declared.fault.Fault.{Fault as Told};
 ghost use Rattle.nm_scenario_parts.specs.declared.fault.ReadError.TheVariants.{Bad};
 ghost use Rattle.nm_scenario_parts.specs.Reading.{Gives};
-ghost use Rattle.nm_scenario.specs.Scenario.{Answers, Reads, ReadsBytes, json_of, parsed, whole_of};
+ghost use Rattle.nm_scenario.specs.Scenario.{bytes_read, json_of, parsed, scenario_at, scenario_in, whole_of};
 
 use crate::flat_scenario::read_flat;
 use crate::head::{Head, read_head};
@@ -24,13 +24,12 @@ pub const BYTE_LIMIT: usize = 16_777_216;
 /// The bytes are one JSON object (RFC 8259), nested at most 127 deep. Where an object has a name twice, its last
 /// value stands. Of YANG contents all module texts are read (RFC 7950 section 6) before the modules give a schema tree, by
 /// which the configurations of the devices and all edits are read (RFC 7951).
+#[tactic(auto, unfolding(crate::specs::Scenario::bytes_read))]
 pub fn read_scenario(alloc: Global, bytes: &[u8]) -> Result<Scenario, ReadError>
-    ensures read { Answers (ReadsBytes bytes.now) result }
+    ensures read { Gives result (bytes_read bytes.now) }
 {
-    match parse(alloc, bytes) {
-        Ok(whole) => read_whole(alloc, &whole),
-        Err(error) => Err(error),
-    }
+    let whole = parse(alloc, bytes)?;
+    read_whole(alloc, &whole)
 }
 
 // The JSON value of bytes that may be a scenario.
@@ -58,12 +57,20 @@ fn parse_text(alloc: Global, bytes: &[u8]) -> Result<Value, ReadError>
 }
 
 // The scenario of a JSON value.
+#[tactic(auto, unfolding(crate::specs::Scenario::scenario_at))]
 fn read_whole(alloc: Global, whole: &Value) -> Result<Scenario, ReadError>
-    ensures { Answers (Reads (view whole.now)) result }
+    ensures { Gives result (scenario_at (view whole.now)) }
 {
-    match read_head(alloc, whole) {
-        Ok(Head::Flat) => read_flat(alloc, whole),
-        Ok(Head::Yang { modules }) => read_yang(alloc, whole, modules),
-        Err(error) => Err(error),
+    let head = read_head(alloc, whole)?;
+    read_contents(alloc, head, whole)
+}
+
+// The scenario after its head.
+fn read_contents(alloc: Global, head: Head, whole: &Value) -> Result<Scenario, ReadError>
+    ensures { Gives result (scenario_in head (view whole.now)) }
+{
+    match head {
+        Head::Flat => read_flat(alloc, whole),
+        Head::Yang { modules } => read_yang(alloc, whole, modules),
     }
 }

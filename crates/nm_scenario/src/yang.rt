@@ -3,7 +3,7 @@
 ghost use Rattle.serde_json.specs.View.{view};
 ghost use Rattle.nm_scenario_parts.specs.Reading.{Gives};
 ghost use Rattle.nm_scenario.specs.Yang.{yang_device_at, yang_devices_at};
-ghost use Rattle.nm_scenario.specs.Scenario.{Answers, ReadsYang, at_module, yang_rest_at};
+ghost use Rattle.nm_scenario.specs.Scenario.{at_module, yang_rest_at, yang_scenario_at};
 
 use crate::data::{DataEdits, Running};
 use crate::devices::DeviceNames;
@@ -13,7 +13,7 @@ use crate::rest::{read_changes, read_rest};
 use crate::scenario::{Body, Scenario};
 use nm_base::Label;
 use nm_config::Config;
-use nm_content::{YangContent, yang_content};
+use nm_content::{YangContent, marks_path, yang_content};
 use nm_proto::Listed;
 use nm_scenario_events::limits::DEVICE_LIMIT;
 use nm_scenario_parts::reader::{
@@ -76,16 +76,18 @@ impl<'a> Reader for Devices<'a> {
 }
 
 /// The scenario of YANG contents of a JSON value whose head, with these modules, has been read.
+#[tactic(auto, unfolding(crate::specs::Scenario::yang_scenario_at))]
 pub fn read_yang(
     alloc: Global,
     whole: &Value,
     modules: Listed<ReadModule>,
 ) -> Result<Scenario, ReadError>
-    ensures { Answers (ReadsYang (view whole.now) modules) result }
+    ensures { Gives result (yang_scenario_at modules (view whole.now)) }
 {
     let ModuleParts { texts, statements } = parts_of(alloc, modules)?;
+    let marks = marks_path(alloc)?;
     match build(alloc, statements.as_slice()) {
-        Ok(schema) => read_built(alloc, whole, texts, yang_content(alloc, schema)),
+        Ok(schema) => read_built(alloc, whole, texts, yang_content(alloc, schema, marks)),
         Err(SchemaFault::Flawed { module: number, .. }) => fault_in(alloc, number),
         Err(SchemaFault::TooLarge { module: number, .. }) => fault_in(alloc, number),
         Err(SchemaFault::NoMemory) => Err(ReadError::NoMemory),

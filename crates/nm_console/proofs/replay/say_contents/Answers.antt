@@ -1,4 +1,4 @@
-use Rattle.std.proofs.Common.{◌≡◌, ◌≤◌, ◌*◌, ◌^◌, ◌∙◌, Err, IfOk, length, ap, sym, subst, arith}
+use Rattle.std.proofs.Common.{◌*◌, ◌^◌, ◌∙◌, Err, IfOk, length, ap, sym, subst, arith}
 use Rattle.std.specs.List.{All}
 use Rattle.nm_network.specs.Runs.{IsBetween, IsNumbered}
 use Rattle.nm_network.specs.World.{Whole, journal_of}

@@ -1,0 +1,11 @@
+pub mod Sets
+pub mod Guards
+pub mod Chains
+pub mod Listed
+pub mod Mandatory
+pub mod Covering
+pub mod Cased
+pub mod Joined
+pub mod Bounding
+pub mod Walks
+pub mod Beside

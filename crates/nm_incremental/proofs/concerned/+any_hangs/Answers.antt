@@ -1,0 +1,17 @@
+use Rattle.std.proofs.Common.{sym, ap, ◌∙◌}
+use Rattle.std.specs.List.{list_any}
+use Rattle.nm_rules.specs.Places.{chain}
+use Rattle.nm_reads.specs.Reads.{hangs}
+use Rattle.nm_incremental.proofs.Chains.{passes_here, passes_above}
+use Rattle.nm_incremental.proofs.concerned.+any_hangs.Goals as goal
+
+pub returns-then-here : goal.returns-then-here
+returns-then-here t c =
+    let tree = c.args.schema.now in
+    passes_here tree c.laws.ensures (hangs tree c.args.row.now) c.in-Some.node c.args.at c.in-Some.is (sym c.in_ok-here.ensures ∙ c.if-here.true)
+
+pub returns : goal.returns
+returns t c =
+    let tree = c.args.schema.now in
+    c.in_ok-is.ensures ∙ ap (λ o. list_any (hangs tree c.args.row.now) (chain tree.nodes o)) c.parent.ensures
+    ∙ passes_above tree c.laws.ensures (hangs tree c.args.row.now) c.in-Some.node c.args.at c.in-Some.is (sym c.in_ok-here.ensures ∙ c.if-here.false)

@@ -1,0 +1,9 @@
+use Rattle.std.proofs.Common.{◌≡◌, ℕ, suc, ◌-◌, length, take}
+use Rattle.std.specs.List.{list_any, range_with_len}
+use Rattle.nm_incremental.specs.Hanging.{tells_case}
+use Rattle.nm_incremental.proofs.concerned.case_hangs_in.Given as goal
+
+abbrev pub invariant-loop-count : goal.invariant-loop-count
+invariant-loop-count l =
+    list_any (λ (n : ℕ). tells_case l.schema l.at l.case (take n l.row) l.row) (range_with_len l.count (suc (length l.row) - l.count))
+    ≡ list_any (λ (n : ℕ). tells_case l.schema l.at l.case (take n l.row) l.row) (range_with_len 0 (suc (length l.row)))

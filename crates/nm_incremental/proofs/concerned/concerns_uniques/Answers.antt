@@ -1,0 +1,32 @@
+use Rattle.std.proofs.Common.{◌≡◌, ◌-◌, ◌<◌, ℕ, List, length, sym, ap, ◌∙◌, arith}
+use Rattle.std.specs.List.{list_any}
+use Rattle.nm_tree.specs.Nodes.{uniques_at}
+use Rattle.nm_reads.specs.Concerns.{concerns, unique_concerns}
+use Rattle.nm_rule_at.proofs.Loops.{any_here, any_on, any_done}
+use Rattle.nm_incremental.proofs.concerned.concerns_uniques.Goals as goal
+
+pub returns-then-is : goal.returns-then-is
+unfolding concerns
+returns-then-is c =
+    let t = c.args.schema.now in
+    let test_is = c.loop-at-test.true in
+    let end_is = c.len-at-end.ensures in
+    let lt : c.loop-at.at < length t.nodes = omega (arith, test_is, end_is) in
+    any_here (λ (x : ℕ). list_any (λ (leafs : List ℕ). unique_concerns t x leafs c.args.row.now) (uniques_at t.nodes x)) c.loop-at.at (length t.nodes) _ lt (sym (c.in_ok-is.ensures ∙ ap (list_any (λ (leafs : List ℕ). unique_concerns t c.loop-at.at leafs c.args.row.now)) c.uniques.ensures) ∙ c.if-is.true) c.loop-at.invariant
+
+pub loop-at-preserved : goal.loop-at-preserved
+loop-at-preserved c =
+    let t = c.args.schema.now in
+    let test_is = c.loop-at-test.true in
+    let end_is = c.len-at-end.ensures in
+    let lt : c.loop-at.at < length t.nodes = omega (arith, test_is, end_is) in
+    any_on (λ (x : ℕ). list_any (λ (leafs : List ℕ). unique_concerns t x leafs c.args.row.now) (uniques_at t.nodes x)) c.loop-at.at (length t.nodes) _ lt (sym (c.in_ok-is.ensures ∙ ap (list_any (λ (leafs : List ℕ). unique_concerns t c.loop-at.at leafs c.args.row.now)) c.uniques.ensures) ∙ c.if-is.false) c.loop-at.invariant
+
+pub returns : goal.returns
+unfolding concerns
+returns c =
+    let t = c.args.schema.now in
+    let test_is = c.loop-at-test.false in
+    let end_is = c.len-at-end.ensures in
+    let done : length t.nodes - c.loop-at.at ≡ 0 = omega (arith, test_is, end_is) in
+    any_done (λ (x : ℕ). list_any (λ (leafs : List ℕ). unique_concerns t x leafs c.args.row.now) (uniques_at t.nodes x)) c.loop-at.at (length t.nodes) _ done c.loop-at.invariant

@@ -1,0 +1,13 @@
+use Rattle.std.proofs.Common.{ℕ, ap, ◌∙◌, subst}
+use Rattle.std.specs.List.{list_any}
+use Rattle.nm_tree.specs.Nodes.{case_at}
+use Rattle.nm_validate.specs.Members.{AreOthers}
+use Rattle.nm_reads.specs.Reads.{tells}
+use Rattle.nm_incremental.proofs.Beside.{beside_of}
+use Rattle.nm_incremental.proofs.guarded.beside_reads.Goals as goal
+
+pub returns : goal.returns
+returns c =
+    let t = c.args.schema.now in
+    c.in_ok-is.ensures ∙ ap (list_any (λ (y : ℕ). tells t c.args.above.now y c.args.row.now)) c.deref.ensures.value
+    ∙ beside_of t c.args.above.now c.args.at c.args.row.now (case_at t.nodes c.args.at) c.in-Some.nodes (subst (AreOthers t c.args.at (case_at t.nodes c.args.at)) c.in-Some.is c.in_ok-others.ensures)

@@ -1,0 +1,32 @@
+//! Laws of what is found among the rows that differ. Each function does nothing: its contract is the law.
+
+ghost use Rattle.std.specs.Prelude.{◌≡◌, ◌≤◌, ◌+◌, ℕ, List, length};
+ghost use Rattle.nm_types.specs.Path.{PathStep};
+ghost use Rattle.nm_tree.specs.Nodes.{SchemaTree};
+ghost use Rattle.nm_path.specs.Sound.{IsSound};
+ghost use Rattle.nm_config.specs.Rows.{Rows};
+ghost use Rattle.nm_rules.specs.Rule.{all_rules};
+ghost use Rattle.nm_rules.specs.Standing.{StandsIn};
+ghost use Rattle.nm_rules.specs.Violation.{IsValid, violation};
+ghost use Rattle.nm_reads.specs.Reaches.{DifferAmong, Covers};
+ghost use Rattle.nm_incremental.specs.Read.{first_found, all_judged};
+ghost use Rattle.nm_incremental.specs.Differing.{differing};
+ghost use Rattle.nm_incremental.specs.Bound.{IsBounded};
+
+/// After a change of a valid configuration, what is found first among the constraints that read a row that differs is the
+/// violation that a whole check tells.
+pub fn violation_is_found()
+    ensures { (t : SchemaTree) (base next : Rows) (rows : List (List PathStep)) → IsSound t.nodes → StandsIn t base → StandsIn t next
+        → IsValid t base → DifferAmong rows base next → first_found t next rows all_rules ≡ violation t next }
+{}
+
+/// Where touched paths cover a change, each row that differs lies at or below one of them.
+pub fn all_differ()
+    ensures { (base next : Rows) (touched : List (List PathStep)) → Covers touched base next → DifferAmong (differing base next touched) base next }
+{}
+
+/// The constraints that are judged are reached by the touched paths, and none of them comes twice.
+pub fn steps_are_bounded()
+    ensures { (t : SchemaTree) (base next : Rows) (touched : List (List PathStep)) (before after : ℕ)
+        → after ≤ before + length (all_judged t (differing base next touched) all_rules) → IsBounded t base next touched before after }
+{}
