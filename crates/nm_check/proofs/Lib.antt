@@ -1,5 +1,6 @@
 pub mod Scanned
 pub mod Placed
+pub mod Lead
 pub mod Cased
 pub mod Told
 pub mod Sampled

@@ -1,5 +1,5 @@
 -- Two leafs of two cases are the nodes of a schema that modules may give.
-use Rattle.std.proofs.Common.{◌≡◌, ℕ, zero, suc, [], codes, map, length, true, Option, Some, None, slice_get, refl, sym, ap, ◌∙◌, subst, arith}
+use Rattle.std.proofs.Common.{◌≡◌, ℕ, zero, suc, codes, map, length, true, Option, Some, None, slice_get, refl, sym, ap, ◌∙◌, subst, arith}
 use Rattle.nm_types.specs.LeafType.{TypeOfLeaf, boolean}
 use Rattle.nm_types.specs.Spells.{IsOnce, HasDistinctNames}
 use Rattle.nm_tree.specs.declared.node.Node.{Node}
@@ -47,9 +47,9 @@ apart (suc zero) (suc zero) n m e f h = refl
 apart (suc zero) (suc (suc j)) n m e f h = absurd (no_node m f)
 apart (suc (suc i)) j n m e f h = absurd (no_node n e)
 
-typed : (P : TypeOfLeaf → Type 0) → P (record { kind = boolean; limits = [] }) → (i : ℕ) (t : TypeOfLeaf) → type_at two_leafs i ≡ Some t → P t
-typed P a zero t e = subst P (one_type (record { kind = boolean; limits = [] }) t e) a
-typed P a (suc zero) t e = subst P (one_type (record { kind = boolean; limits = [] }) t e) a
+typed : (P : TypeOfLeaf → Type 0) → P (record { kind = boolean; limits = None }) → (i : ℕ) (t : TypeOfLeaf) → type_at two_leafs i ≡ Some t → P t
+typed P a zero t e = subst P (one_type (record { kind = boolean; limits = None }) t e) a
+typed P a (suc zero) t e = subst P (one_type (record { kind = boolean; limits = None }) t e) a
 typed P a (suc (suc i)) t e = absurd (no_type t e)
 
 pub two_sound : IsSound two_leafs

@@ -1,4 +1,5 @@
 pub mod Told
 pub mod Places
+pub mod Led
 pub mod Others
 pub mod Sample

@@ -34,9 +34,13 @@ path_if_at above (Some e) = if is_same_path (front e.path) above then e.path ∷
 abbrev pub other_at : SchemaTree → Rows → ℕ → List PathStep → List (List PathStep)
 other_at t rows k above = path_if_at above (first_other (children_of t rows k above))
 
+-- one of these nodes stands directly in a node, or at the top for none
+abbrev pub any_in : SchemaTree → List ℕ → Option ℕ → Bool
+any_in t nodes within = list_any (λ x. same_parent (parent_of t.nodes x) within) nodes
+
 -- one of these nodes stands directly in the node of a place, or at the top, where the place leads to none
 abbrev pub any_below : SchemaTree → List ℕ → List PathStep → Bool
-any_below t nodes above = list_any (λ x. same_parent (parent_of t.nodes x) (node_of t above)) nodes
+any_below t nodes above = any_in t nodes (node_of t above)
 
 -- the same, where one of these nodes may stand there
 abbrev pub other_below : SchemaTree → Rows → ℕ → List ℕ → List PathStep → List (List PathStep)

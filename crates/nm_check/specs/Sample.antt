@@ -7,7 +7,7 @@ use Rattle.nm_tree.specs.declared.node.NodeKind.TheVariants.{Leaf}
 -- a leaf at the top, in a case
 abbrev pub leaf_in : ℕ → List ℕ → Node
 leaf_in case name =
-    record { parent = None; case_in = Some case; «module» = codes "ec"; name = name; kind = Leaf (record { kind = boolean; limits = [] }) None false None }
+    record { parent = None; case_in = Some case; «module» = codes "ec"; name = name; kind = Leaf (record { kind = boolean; limits = None }) None false None }
 
 -- choice how { case one { leaf ip { type boolean; } } case other { leaf vpn { type boolean; } } }
 abbrev pub two_leafs : List Node

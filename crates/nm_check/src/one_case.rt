@@ -3,6 +3,7 @@
 ghost use Rattle.std.specs.Prelude.{◌≡◌, IfOk, filter, length};
 ghost use Rattle.std.specs.List.{flat_map};
 ghost use Rattle.nm_tree.specs.Nodes.{same_parent};
+ghost use Rattle.nm_path.specs.Spelling.{node_of};
 ghost use Rattle.nm_rules.specs.declared.rule.Rule.TheVariants as rule;
 ghost use Rattle.nm_rules.specs.Cases.{numbers};
 ghost use Rattle.nm_rules.specs.Guards as guard;
@@ -11,13 +12,13 @@ ghost use Rattle.nm_rules.specs.Violated.{is_of_choice};
 ghost use Rattle.nm_rules.specs.Violation.{least_at};
 ghost use Rattle.nm_validate.specs.Groups.{IsGrouped};
 ghost use Rattle.nm_validate.specs.Least.{least_with};
+ghost use Rattle.nm_check.specs.Led.{AreLed, paths_of};
 ghost use Rattle.nm_check.specs.Others as spec;
 
 use crate::child::first_other;
-use crate::places::places_of;
+use crate::places::{NodePlace, places_of, with_nodes};
 use nm_base::NoMemory;
 use nm_config::RowMap;
-use nm_path::node_of;
 use nm_tree::Schema;
 use nm_types::Path;
 use nm_validate::areas::Grouped;
@@ -36,11 +37,10 @@ fn is_same(one: Option<usize>, other: Option<usize>) -> bool
     }
 }
 
-// Whether one of some nodes stands directly in the node of a place, or at the top, where the place leads to none.
-fn any_below(schema: &Schema, nodes: &[usize], above: &Path) -> bool
-    ensures { result ≡ spec.any_below schema.now nodes.now above.now }
+// Whether one of some nodes stands directly in a node, or at the top for none.
+fn any_below(schema: &Schema, nodes: &[usize], within: Option<usize>) -> bool
+    ensures { result ≡ spec.any_in schema.now nodes.now within }
 {
-    let within = node_of(schema, above);
     for at in nodes {
         if is_same(schema.parent(*at), within) {
             return true;
@@ -85,15 +85,16 @@ fn with_other_below<M: RowMap>(
     config: &M,
     choice: usize,
     nodes: &[usize],
-    above: &Path,
+    place: &NodePlace<'_>,
     found: Option<Path>,
 ) -> Result<Option<Path>, NoMemory>
-    ensures { IfOk result (λ least. least ≡ least_with found (spec.other_below schema.now (M.rows config.now) choice nodes.now above.now)) }
+    requires { place.now.node ≡ node_of schema.now place.now.path.now }
+    ensures { IfOk result (λ least. least ≡ least_with found (spec.other_below schema.now (M.rows config.now) choice nodes.now place.now.path.now)) }
 {
-    if !any_below(schema, nodes, above) {
+    if !any_below(schema, nodes, place.node) {
         return Ok(found);
     }
-    with_other(alloc, schema, config, choice, above, found)
+    with_other(alloc, schema, config, choice, place.path, found)
 }
 
 // The least of what was found so far and of such children of a choice that has these nodes, at these places.
@@ -103,14 +104,15 @@ fn least_among<M: RowMap>(
     config: &M,
     choice: usize,
     nodes: &[usize],
-    places: &[Path],
+    places: &[NodePlace<'_>],
     found: Option<Path>,
 ) -> Result<Option<Path>, NoMemory>
-    ensures { IfOk result (λ least. least ≡ least_with found (flat_map (spec.other_below schema.now (M.rows config.now) choice nodes.now) places.now)) }
+    requires { AreLed schema.now places.now }
+    ensures { IfOk result (λ least. least ≡ least_with found (flat_map (spec.other_below schema.now (M.rows config.now) choice nodes.now) (paths_of places.now))) }
 {
     let mut least = found;
-    for above in places {
-        least = with_other_below(alloc, schema, config, choice, nodes, above, least)?;
+    for place in places {
+        least = with_other_below(alloc, schema, config, choice, nodes, place, least)?;
     }
     Ok(least)
 }
@@ -122,11 +124,12 @@ fn least_of_choice<M: RowMap>(
     config: &M,
     choice: usize,
     nodes: &[usize],
-    places: &[Path],
+    places: &[NodePlace<'_>],
     found: Option<Path>,
 ) -> Result<Option<Path>, NoMemory>
-    requires { nodes.now ≡ filter (is_of_choice schema.now choice) (numbers schema.now.nodes) }
-    ensures { IfOk result (λ least. least ≡ least_with found (spec.others_of schema.now (M.rows config.now) choice places.now)) }
+    requires nodes { nodes.now ≡ filter (is_of_choice schema.now choice) (numbers schema.now.nodes) }
+    requires places { AreLed schema.now places.now }
+    ensures { IfOk result (λ least. least ≡ least_with found (spec.others_of schema.now (M.rows config.now) choice (paths_of places.now))) }
 {
     let least = least_among(alloc, schema, config, choice, nodes, places, found)?;
     Ok(least)
@@ -153,7 +156,8 @@ pub fn least_other_case<M: RowMap>(
         return Ok(None);
     }
     schema.laws();
-    let places = places_of(alloc, &grouped.rows)?;
+    let paths = places_of(alloc, &grouped.rows)?;
+    let places = with_nodes(alloc, schema, &paths)?;
     let table = by_choice(alloc, schema)?;
     let choices = table.as_slice();
     let mut least = None;

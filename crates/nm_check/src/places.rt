@@ -1,12 +1,22 @@
 //! The places that rows stand below.
 
 ghost use Rattle.std.specs.Prelude.{◌≡◌, ◌++◌, [], IfOk, OnOk, map, take};
+ghost use Rattle.nm_check.specs.Led.{AreLed, paths_of};
 ghost use Rattle.nm_check.specs.Places as spec;
 
 use nm_base::NoMemory;
+use nm_path::node_of;
+use nm_tree::Schema;
 use nm_types::{Path, Step};
 use nm_validate::areas::NodeRow;
 use std::alloc::Global;
+
+/// A place with the node that it leads to.
+#[derive(Drop)]
+pub struct NodePlace<'p> {
+    pub path: &'p Path,
+    pub node: Option<usize>,
+}
 
 // How many of the places that a path stands below, from the top down, another path stands below too.
 fn shared_places(one: &[Step], other: &[Step]) -> usize
@@ -76,6 +86,23 @@ pub fn places_of(alloc: Global, rows: &[NodeRow<'_>]) -> Result<Vec<Path>, NoMem
         let path = row.path;
         put_places(alloc, before, path, &mut places)?;
         before = path.steps.as_slice();
+    }
+    Ok(places)
+}
+
+/// Some places with the nodes that they lead to: each is asked for once for all choices.
+pub fn with_nodes<'p>(
+    alloc: Global,
+    schema: &Schema,
+    paths: &'p [Path],
+) -> Result<Vec<NodePlace<'p>>, NoMemory>
+    ensures paths { IfOk result (λ places. paths_of places.items ≡ paths.now) }
+    ensures led { IfOk result (λ places. AreLed schema.now places.items) }
+{
+    let mut places = Vec::with_capacity(alloc, paths.len())?;
+    for path in paths {
+        let node = node_of(schema, path);
+        places.push(NodePlace { path, node })?;
     }
     Ok(places)
 }

@@ -7,7 +7,7 @@ use Rattle.nm_journal.specs.Fits.{Fits, ReadsAs}
 use Rattle.nm_scenario.specs.declared.scenario.Scenario.{Scenario}
 use Rattle.nm_scenario.specs.declared.scenario.Body.TheVariants.{Flat, Yang}
 use Rattle.nm_scenario.specs.Scenario.{ReadsBytes}
-use Rattle.nm_scenario.proofs.Single.{one_of_bytes}
+use Rattle.nm_scenario.proofs.Whole.{one_of_bytes}
 use Rattle.nm_scenario_parts.specs.declared.fault.Fault.{Fault}
 use Rattle.nm_proto.specs.FlatContent.{flat_meaning}
 use Rattle.nm_content.specs.Meaning.{lifted, yang_meaning}

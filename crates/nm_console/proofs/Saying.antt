@@ -1,17 +1,15 @@
 -- What is said without the bytes of the input, and what is said where there were too many.
-use Rattle.std.proofs.Common.{◌≡◌, ◌⊎◌, inl, ℕ, ◌<◌, ◌+◌, List, [], length, true, Option, Some, None, Result, Ok, Err, IfSome, unwrap_or, replicate, cond, refl, sym, ap, ◌∙◌, subst, arith, lt-ltb}
+use Rattle.std.proofs.Common.{◌≡◌, ◌⊎◌, inl, ℕ, ◌<◌, ◌+◌, List, [], length, true, Option, Some, None, Result, Ok, Err, IfSome, unwrap_or, replicate, refl, sym, ◌∙◌, subst, arith}
 use Rattle.std.proofs.lemmas.List.{length-replicate}
 use Rattle.nm_proto.specs.declared.kind.ScenarioKind.TheVariants.{TooLong}
 use Rattle.nm_scenario_parts.specs.declared.fault.Fault.{Fault}
-use Rattle.nm_scenario_parts.specs.Reading.{◌>>=◌, here}
 use Rattle.nm_scenario.specs.declared.scenario.Body.{Body}
 use Rattle.nm_scenario.specs.declared.scenario.Body.TheVariants.{Flat, Yang}
 use Rattle.nm_scenario.specs.declared.scenario.Scenario.{Scenario}
-use Rattle.nm_scenario.specs.Scenario.{ReadsBytes, byte_limit, bytes_read, json_of, parsed, scenario_at, whole_of}
-use Rattle.nm_scenario.proofs.Single.{one_of_bytes}
+use Rattle.nm_scenario.specs.Scenario.{ReadsBytes, byte_limit}
+use Rattle.nm_scenario.proofs.Whole.{one_of_bytes, long_reads}
 use Rattle.nm_refusals.specs.Kept.{ScenarioKeeps}
-use Rattle.nm_refusals.proofs.Wholes.{bytes_told}
-use Rattle.nm_refusals.proofs.KeptWhole.{bytes_keep}
+use Rattle.nm_refusals.proofs.Whole.{bytes_keep}
 use Rattle.nm_console.specs.declared.status.Status.{Status}
 use Rattle.nm_console.specs.declared.command.Command.{Command}
 use Rattle.nm_console.specs.declared.command.Command.TheVariants.{Check, Replay, Journal}
@@ -19,7 +17,7 @@ use Rattle.nm_console.specs.Refusal.{of_whole}
 use Rattle.nm_journal.specs.Entries.{entries_of}
 use Rattle.nm_journal.specs.Fits.{OfImage}
 use Rattle.nm_console.specs.Words.{reads_input}
-use Rattle.nm_console.specs.Console.{Answer, AsSaid, IsAstrayOf, IsKnown, IsOnly, RunsSafely, RunsSafelyBy, Says, Streams, Tells, TellsJournal, TellsOver, checked, faulted, journalled, replayed, usage_told}
+use Rattle.nm_console.specs.Console.{Answer, AsSaid, HasOneAnswer, IsAstrayOf, RunsSafely, RunsSafelyBy, Says, Streams, Tells, TellsJournal, TellsOver, checked, faulted, journalled, replayed, usage_told}
 use Rattle.nm_console.proofs.Given.{flat_safe, yang_safe}
 
 held : (left : Option (List ℕ)) (other : List ℕ) → IfSome left (λ told. told ≡ unwrap_or left other)
@@ -35,23 +33,22 @@ safe_of : (bytes : List ℕ) (outcome : Result Scenario Fault) → ReadsBytes by
 safe_of bytes (Err fault) reads = tt
 safe_of bytes (Ok s) reads = safe_by s s.body refl (bytes_keep bytes s reads)
 
-known_of : (bytes : List ℕ) (outcome : Result Scenario Fault) → ReadsBytes bytes outcome → IsKnown bytes outcome
-known_of bytes (Err fault) reads = bytes_told bytes fault reads
-known_of bytes (Ok s) reads = bytes_keep bytes s reads
-
 tells_one : (given : Answer) (status other : Status) (text words : List ℕ) → Tells given status text → Tells given other words → (other ≡ status) × (words ≡ text)
 tells_one given status other text words a b = (sym b.status_is ∙ a.status_is, sym b.text_is ∙ a.text_is)
 
 -- what bytes read as is one, and so is what is told of it
-only : (command : Option Command) (bytes image : List ℕ) → IsOnly command bytes image
-only None bytes image status other text words a b = tells_one usage_told status other text words a b
-only (Some Check) bytes image status other text words a b =
-    tells_one (checked a.outcome) status other text words a.is_so (subst (λ outcome. Tells (checked outcome) other words) (one_of_bytes bytes b.outcome a.outcome b.reads a.reads) b.is_so)
-only (Some Replay) bytes image status other text words a b =
-    tells_one (replayed image a.outcome) status other text words a.is_so (subst (λ outcome. Tells (replayed image outcome) other words) (one_of_bytes bytes b.outcome a.outcome b.reads a.reads) b.is_so)
-only (Some Journal) bytes image status other text words a b = tells_one (journalled (entries_of image)) status other text words a b
+pub one_answer : (command : Option Command) (bytes image : List ℕ) → HasOneAnswer command bytes image
+one_answer None bytes image stored after others later status other text words a b = tells_one usage_told status other text words a.tells b.tells
+one_answer (Some Check) bytes image stored after others later status other text words a b =
+    tells_one (checked a.outcome) status other text words a.is_so.tells
+    (subst (λ outcome. Tells (checked outcome) other words) (one_of_bytes bytes b.outcome a.outcome b.reads a.reads) b.is_so.tells)
+one_answer (Some Replay) bytes image stored after others later status other text words a b =
+    tells_one (replayed image a.outcome) status other text words a.is_so.tells
+    (subst (λ outcome. Tells (replayed image outcome) other words) (one_of_bytes bytes b.outcome a.outcome b.reads a.reads) b.is_so.tells)
+one_answer (Some Journal) bytes image stored after others later status other text words a b =
+    tells_one (journalled (entries_of image)) status other text words a.tells b.tells
 
--- what the program says to bytes is safe, no other answer is told of them, and what is read of them is known
+-- what the program says to bytes is safe
 says : (streams : Streams) (command : Option Command) (bytes image : List ℕ) (status : Status) (text : List ℕ)
     → IfSome streams.left (λ told. told ≡ bytes) → IfSome streams.stored (λ told. told ≡ image)
     → AsSaid command bytes image streams.stored streams.after status text ⊎ IsAstrayOf command bytes streams.stored status text → Says streams command status text
@@ -61,9 +58,7 @@ says streams command bytes image status text h k goes = record {
   image = image;
   kept = k;
   goes = goes;
-  only = only command bytes image;
   safe = safe_of bytes;
-  known = known_of bytes;
 }
 
 -- an answer to the bytes of the input, over a journal
@@ -81,19 +76,11 @@ pub journal_says : (left stored after : Option (List ℕ)) (status : Status) (te
 journal_says left stored after status text same of =
     says (record { left = left; stored = stored; after = after }) (Some Journal) (unwrap_or left []) of.image status text (held left []) of.stored (inl (record { tells = of.holds; stores = same }))
 
-whole_of-too_long : (bytes : List ℕ) → byte_limit < length bytes → whole_of bytes ≡ here TooLong
-unfolding whole_of
-whole_of-too_long bytes long = ap (λ t. cond t (here TooLong) (parsed (json_of bytes))) (lt-ltb byte_limit (length bytes) long)
-
-too_long_reads : (bytes : List ℕ) → byte_limit < length bytes → ReadsBytes bytes (here TooLong)
-unfolding bytes_read
-too_long_reads bytes long = ap (λ whole. whole >>= scenario_at) (whole_of-too_long bytes long)
-
 -- too many bytes are told of by every command that reads them in the same way, and the journal stays
 long_said : (command : Command) (bytes image : List ℕ) (stored : Option (List ℕ)) (status : Status) (text : List ℕ) → reads_input (Some command) ≡ true → byte_limit < length bytes
     → Tells (faulted (of_whole TooLong)) status text → AsSaid (Some command) bytes image stored stored status text
-long_said Check bytes image stored status text reads long tells = record { outcome = here TooLong; reads = too_long_reads bytes long; is_so = record { tells = tells; stores = refl } }
-long_said Replay bytes image stored status text reads long tells = record { outcome = here TooLong; reads = too_long_reads bytes long; is_so = record { tells = tells; stores = refl } }
+long_said Check bytes image stored status text reads long tells = record { outcome = Err (of_whole TooLong); reads = long_reads bytes long; is_so = record { tells = tells; stores = refl } }
+long_said Replay bytes image stored status text reads long tells = record { outcome = Err (of_whole TooLong); reads = long_reads bytes long; is_so = record { tells = tells; stores = refl } }
 long_said Journal bytes image stored status text reads long tells = absurd cc
 
 -- so many bytes

@@ -13,12 +13,11 @@ use Rattle.nm_proto.specs.declared.flat.FlatNode.{FlatNode}
 use Rattle.nm_content.specs.declared.place.YangNode.{YangNode}
 use Rattle.nm_content.specs.Meaning.{lifted, yang_meaning, yang_text}
 use Rattle.nm_scenario_parts.specs.declared.fault.Fault.{Fault}
+use Rattle.nm_scenario_parts.specs.Line.{line_of}
 use Rattle.nm_scenario.specs.declared.scenario.Body.{Body}
 use Rattle.nm_scenario.specs.declared.scenario.Body.TheVariants.{Flat, Yang}
 use Rattle.nm_scenario.specs.declared.scenario.Scenario.{Scenario}
 use Rattle.nm_scenario.specs.Scenario.{ReadsBytes}
-use Rattle.nm_refusals.specs.Told.{ToldOfBytes}
-use Rattle.nm_refusals.specs.Kept.{ScenarioKeeps}
 use Rattle.nm_manager.specs.Requests.{IsWellFormed}
 use Rattle.nm_network.specs.World.{AreCalm, IsFirst, Setting, WorldState, run, start}
 use Rattle.nm_network.specs.Drain.{drain_event, drain_limit, drained}
@@ -46,7 +45,7 @@ use Rattle.nm_console.specs.declared.status.Status.{Status}
 use Rattle.nm_console.specs.declared.status.Status.TheVariants as status
 use Rattle.nm_console.specs.declared.command.Command.{Command}
 use Rattle.nm_console.specs.declared.command.Command.TheVariants.{Check, Replay, Journal}
-use Rattle.nm_console.specs.Refusal.{damaged_text, not_empty_text, usage_text, fault_text}
+use Rattle.nm_console.specs.Refusal.{damaged_text, not_empty_text, usage_text}
 use Rattle.nm_console.specs.Rows.{data_rows_told, rows_told}
 use Rattle.nm_console.specs.Status.{is_whole, world_status}
 
@@ -57,7 +56,7 @@ pub record Answer : Type 0 where
 
 -- the first fault of a scenario
 abbrev pub faulted : Fault → Answer
-faulted fault = record { status = status.Scenario; text = fault_text fault }
+faulted fault = record { status = status.Scenario; text = line_of fault }
 
 -- what requests name by number: edits, and the texts of selections
 abbrev pub tables_of : {TheEdit : Type 0} → List TheEdit → List (List (List ℕ)) → TablesState TheEdit
@@ -191,13 +190,6 @@ pub record IsSoOf (bytes : List ℕ) (so : Result Scenario Fault → Type 0) : T
 abbrev pub TellsJournal : List ℕ → Status → List ℕ → Type 0
 TellsJournal image status text = Tells (journalled (entries_of image)) status text
 
--- what the program tells to its command, its input, and the bytes of the journal's disk
-abbrev pub IsTold : Option Command → List ℕ → List ℕ → Status → List ℕ → Type 0
-IsTold None bytes image status text = Tells usage_told status text
-IsTold (Some Check) bytes image status text = IsSoOf bytes (λ outcome. Tells (checked outcome) status text)
-IsTold (Some Replay) bytes image status text = IsSoOf bytes (λ outcome. Tells (replayed image outcome) status text)
-IsTold (Some Journal) bytes image status text = TellsJournal image status text
-
 -- what the journal's disk tells after: these entries, or what it told before
 abbrev pub Stores : Option (List Entry) → Option (List ℕ) → Option (List ℕ) → Type 0
 Stores None stored after = after ≡ stored
@@ -266,6 +258,11 @@ AsSaid (Some Check) bytes image stored after status text = IsSoOf bytes (λ outc
 AsSaid (Some Replay) bytes image stored after status text = IsSoOf bytes (λ outcome. AsTold (replayed image outcome) (replay_entries image outcome) stored after status text)
 AsSaid (Some Journal) bytes image stored after status text = AsTold (journalled (entries_of image)) None stored after status text
 
+-- what is said to a command, an input and a disk is one answer, whatever the disk tells
+abbrev pub HasOneAnswer : Option Command → List ℕ → List ℕ → Type 0
+HasOneAnswer command bytes image = (stored after others later : Option (List ℕ)) (status other : Status) (text words : List ℕ)
+    → AsSaid command bytes image stored after status text → AsSaid command bytes image others later other words → (other ≡ status) × (words ≡ text)
+
 -- a status and a text that answer the bytes of an input over a journal's disk, and what that tells after
 pub record TellsOver (command : Option Command) (bytes : List ℕ) (stored after : Option (List ℕ)) (status : Status) (text : List ℕ) : Type 0 where
   pub image : List ℕ
@@ -329,17 +326,6 @@ abbrev pub RunsSafely : Result Scenario Fault → Type 0
 RunsSafely (Err fault) = Unit {0}
 RunsSafely (Ok s) = RunsSafelyBy s.body s
 
--- what is known of the scenario that bytes are read as, or of their fault: the scenario is within all limits; the place of the fault
--- leads to a part of the text of which its kind is so
-abbrev pub IsKnown : List ℕ → Result Scenario Fault → Type 0
-IsKnown bytes (Err fault) = ToldOfBytes bytes fault
-IsKnown bytes (Ok s) = ScenarioKeeps s
-
--- what is told to a command, an input and a disk is one answer
-abbrev pub IsOnly : Option Command → List ℕ → List ℕ → Type 0
-IsOnly command bytes image = (status other : Status) (text words : List ℕ) → IsTold command bytes image status text → IsTold command bytes image other words
-    → (other ≡ status) × (words ≡ text)
-
 -- what the input held, and what the journal's disk told before the program and tells after it
 pub record Streams : Type 0 where
   pub left : Option (List ℕ)
@@ -354,9 +340,7 @@ pub record Says (streams : Streams) (command : Option Command) (status : Status)
   pub image : List ℕ
   pub kept : IfSome streams.stored (λ told. told ≡ image)
   pub goes : AsSaid command bytes image streams.stored streams.after status text ⊎ IsAstrayOf command bytes streams.stored status text
-  pub only : IsOnly command bytes image
   pub safe : (outcome : Result Scenario Fault) → ReadsBytes bytes outcome → RunsSafely outcome
-  pub known : (outcome : Result Scenario Fault) → ReadsBytes bytes outcome → IsKnown bytes outcome
 
 -- the whole answer to some bytes was written, and nothing else
 pub record Answers (streams : Streams) (command : Option Command) (before after : Option (List ℕ)) (status : Status) : Type 0 where

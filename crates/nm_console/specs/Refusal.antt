@@ -2,8 +2,6 @@
 use Rattle.std.specs.Prelude.{ℕ, List, [], ◌++◌, codes, decimal}
 use Rattle.nm_proto.specs.declared.kind.ScenarioKind.{ScenarioKind}
 use Rattle.nm_scenario_parts.specs.declared.fault.Fault.{Fault}
-use Rattle.nm_proto.specs.Kind.{kind_word}
-use Rattle.nm_scenario_parts.specs.Pointer.{pointer_of}
 use Rattle.nm_scenario_parts.specs.Reading.{plain}
 
 -- what the words of the program are
@@ -13,10 +11,6 @@ usage_text = codes "usage: netm check, replay, run, make, stress, journal\n"
 -- a fault of the whole input
 abbrev pub of_whole : ScenarioKind → Fault
 of_whole kind = record { cause = plain kind; place = [] }
-
--- the line of a fault: its kind, and its place as a JSON pointer (RFC 6901)
-abbrev pub fault_text : Fault → List ℕ
-fault_text fault = codes "scenario " ++ kind_word fault.cause.kind ++ codes " " ++ pointer_of fault.place ++ codes "\n"
 
 -- a place in a journal, or how many bytes it has, at the end of a line
 abbrev pub offset_text : ℕ → List ℕ

@@ -8,6 +8,7 @@ pub mod check;
 pub mod command;
 pub mod console;
 pub mod journal;
+pub mod laws;
 pub mod refusal;
 pub mod replay;
 mod rows;

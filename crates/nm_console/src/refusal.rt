@@ -1,24 +1,11 @@
 ghost use Rattle.std.specs.Prelude.{◌≡◌, ◌++◌, OnOk};
-ghost use Rattle.nm_console.specs.Refusal.{damaged_text, fault_text, not_empty_text, offset_text};
+ghost use Rattle.nm_console.specs.Refusal.{damaged_text, not_empty_text, offset_text};
 
 use nm_base::{NoMemory, write_decimal};
 use nm_report::text::put;
-use nm_scenario_parts::{Fault, write_place};
-use std::alloc::Global;
 
 /// The usage line.
 pub const USAGE: &str = "usage: netm check, replay, run, make, stress, journal\n";
-
-/// The line of a fault of the scenario: `scenario`, its kind and its place, parted by spaces.
-pub fn write_fault(alloc: Global, out: &mut Vec<u8>, fault: &Fault) -> Result<(), NoMemory>
-    ensures { OnOk result (out.new.items ≡ out.old.items ++ fault_text fault.now) }
-{
-    put(out, "scenario ")?;
-    put(out, fault.cause.kind.word())?;
-    put(out, " ")?;
-    write_place(alloc, out, fault.place.as_slice())?;
-    put(out, "\n")
-}
 
 /// The line of a journal that is damaged from this byte on.
 pub fn write_damaged(out: &mut Vec<u8>, offset: u64) -> Result<(), NoMemory>

@@ -2,11 +2,10 @@ ghost use Rattle.std.specs.Prelude.{◌≡◌, [], IfOk};
 ghost use Rattle.nm_console.specs.Console.{Tells, faulted};
 ghost use Rattle.nm_console.specs.Refusal.{of_whole};
 
-use crate::refusal::write_fault;
 use crate::status::Status;
 use nm_base::NoMemory;
 use nm_proto::Listed;
-use nm_scenario_parts::{Cause, Fault, ScenarioKind};
+use nm_scenario_parts::{Cause, Fault, ScenarioKind, write_line};
 use std::alloc::Global;
 
 /// A status and a text.
@@ -21,7 +20,7 @@ pub fn say_fault(alloc: Global, fault: &Fault) -> Result<Said, NoMemory>
     ensures { IfOk result (λ said. Tells (faulted fault.now) said.status said.text.items) }
 {
     let mut text = Vec::new(alloc);
-    write_fault(alloc, &mut text, fault)?;
+    write_line(alloc, &mut text, fault)?;
     Ok(Said {
         status: Status::Scenario,
         text,

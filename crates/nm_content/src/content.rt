@@ -17,7 +17,7 @@ use nm_base::{ChangeNo, Label, NoMemory};
 use nm_change::apply_rows;
 use nm_config::{Config, RowMap, is_under};
 use nm_edit::{Edit, EditFault};
-use nm_json::write_config;
+use nm_json_text::write_rows;
 use nm_overlay::Overlay;
 use nm_proto::{ApplyFault, CheckFault, Content, DefaultOperation, FindFault, Marks, Show};
 use nm_tree::Schema;
@@ -180,8 +180,6 @@ impl Show for YangContent {
 
     #[tactic(auto, unfolding(crate::specs::Meaning::yang_text))]
     fn text(&self, config: &Overlay) -> Result<Vec<u8>, NoMemory> {
-        let flat = config.flat()?;
-        let text = write_config(self.alloc, &self.schema, &flat)?;
-        Ok(text.into_bytes())
+        write_rows(self.alloc, &self.schema, config)
     }
 }

@@ -8,6 +8,7 @@ mod types;
 use nm_base::NoMemory;
 use nm_config::Config;
 use nm_json::{JsonFault, ROW_LIMIT, config_of, config_value, read_config, write_config};
+use nm_json_text::write_rows;
 use nm_path::write_path;
 use nm_tree::Schema;
 use nm_types::{LeafType, TypeKind, write_value};
@@ -28,11 +29,21 @@ fn fault_text(alloc: Global, fault: &JsonFault) -> Result<String, NoMemory> {
     }
 }
 
+// What is written of a configuration, by a JSON value and by one pass over its rows alike.
+fn printed(alloc: Global, schema: &Schema, config: &Config) -> Result<String, NoMemory> {
+    let text = write_config(alloc, schema, config)?;
+    let passed = write_rows(alloc, schema, config)?;
+    if passed.as_slice() == text.as_bytes() {
+        return Ok(text);
+    }
+    Ok(String::from_str(alloc, "another text by one pass")?)
+}
+
 // What is read and written, or the fault.
 fn written(alloc: Global, schema: &Schema, text: &[u8]) -> Result<String, NoMemory> {
     let answer = read_config(alloc, schema, text);
     match &answer {
-        Ok(config) => write_config(alloc, schema, config),
+        Ok(config) => printed(alloc, schema, config),
         Err(fault) => fault_text(alloc, fault),
     }
 }
@@ -176,7 +187,7 @@ fn containers_and_leaf_lists_are_answered(rt: HostRuntime) -> Result<(), Fail> {
 fn rows_text(alloc: Global, schema: &Schema, config: &Config) -> Result<String, NoMemory> {
     let any = LeafType {
         kind: TypeKind::Text,
-        limits: Vec::new(alloc),
+        limits: None,
     };
     let mut text = String::new(alloc);
     for (path, value) in config.iter() {

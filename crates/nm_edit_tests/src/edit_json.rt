@@ -32,7 +32,7 @@ fn word_of(operation: Option<Operation>) -> &'static str {
 fn value_text(alloc: Global, value: &Option<Value>) -> Result<Label, NoMemory> {
     let any = LeafType {
         kind: TypeKind::Text,
-        limits: Vec::new(alloc),
+        limits: None,
     };
     match value {
         None => Label::new(alloc, "-"),

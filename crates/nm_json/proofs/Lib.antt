@@ -1,4 +1,5 @@
 pub mod Colons
+pub mod Long
 pub mod Gathering
 pub mod Json
 pub mod Putting

@@ -24,7 +24,7 @@ use Rattle.nm_json.specs.declared.fault.JsonKind.TheVariants.{BadValue}
 use Rattle.nm_json.specs.Values.{read_or_bad, text_value, number_value, integer_value, flag_value, null_value, empty_value, is_narrow, value_of_kind, leaf_value}
 use Rattle.nm_json.specs.Laws.{IsOfType}
 
-abbrev typed : List (List (ℤ × ℤ)) → Kind → TypeOfLeaf
+abbrev typed : Option (List (ℤ × ℤ)) → Kind → TypeOfLeaf
 typed limits k = record { kind = k; limits = limits }
 
 -- a text was read as a value
@@ -71,7 +71,7 @@ of_text t v (number n) h e = absurd cc
 of_text t v (array ds) h e = absurd cc
 of_text t v (object ms) h e = absurd cc
 
-number_by : (limits : List (List (ℤ × ℤ))) (low high z : ℤ) (v : Value) (b : Bool) → HasHeldBounds (integer low high) → meets_limits (typed limits (integer low high)) (Int z) ≡ b
+number_by : (limits : Option (List (ℤ × ℤ))) (low high z : ℤ) (v : Value) (b : Bool) → HasHeldBounds (integer low high) → meets_limits (typed limits (integer low high)) (Int z) ≡ b
     → ◌≡◌ {A = Result Value JsonKind} (if b then Ok (Int z) else Err BadValue) (Ok v) → IsOfType (typed limits (integer low high)) v
 number_by limits low high z v false h is e = absurd cc
 number_by limits low high z v true h is e =
@@ -80,11 +80,11 @@ number_by limits low high z v true h is e =
     let fits : FitsSigned w128 z = fits_between low high z h.0 h.1 (and_parts (is_within z (low, high)) _ is).0 in
     subst (IsOfType t) same (record { text = signed_decimal z; spelled = integer-canonical z fits; within = limits-sound t (Int z) is; held = fits })
 
-integer_by : (limits : List (List (ℤ × ℤ))) (low high : ℤ) (v : Value) (o : Option ℤ) → HasHeldBounds (integer low high) → integer_value (typed limits (integer low high)) o ≡ Ok v → IsOfType (typed limits (integer low high)) v
+integer_by : (limits : Option (List (ℤ × ℤ))) (low high : ℤ) (v : Value) (o : Option ℤ) → HasHeldBounds (integer low high) → integer_value (typed limits (integer low high)) o ≡ Ok v → IsOfType (typed limits (integer low high)) v
 integer_by limits low high v None h e = absurd cc
 integer_by limits low high v (Some z) h e = number_by limits low high z v (meets_limits (typed limits (integer low high)) (Int z)) h refl e
 
-of_number : (limits : List (List (ℤ × ℤ))) (low high : ℤ) (v : Value) (d : Data) → HasHeldBounds (integer low high) → number_value (typed limits (integer low high)) d ≡ Ok v → IsOfType (typed limits (integer low high)) v
+of_number : (limits : Option (List (ℤ × ℤ))) (low high : ℤ) (v : Value) (d : Data) → HasHeldBounds (integer low high) → number_value (typed limits (integer low high)) d ≡ Ok v → IsOfType (typed limits (integer low high)) v
 of_number limits low high v (number n) h e = integer_by limits low high v (as_integer n) h e
 of_number limits low high v null h e = absurd cc
 of_number limits low high v (flag b) h e = absurd cc
@@ -92,16 +92,16 @@ of_number limits low high v (text s) h e = absurd cc
 of_number limits low high v (array ds) h e = absurd cc
 of_number limits low high v (object ms) h e = absurd cc
 
-of_integer : (limits : List (List (ℤ × ℤ))) (low high : ℤ) (v : Value) (d : Data) (narrow : Bool) → HasHeldBounds (integer low high)
+of_integer : (limits : Option (List (ℤ × ℤ))) (low high : ℤ) (v : Value) (d : Data) (narrow : Bool) → HasHeldBounds (integer low high)
     → (if narrow then number_value (typed limits (integer low high)) d else text_value (typed limits (integer low high)) d) ≡ Ok v → IsOfType (typed limits (integer low high)) v
 of_integer limits low high v d true h e = of_number limits low high v d h e
 of_integer limits low high v d false h e = of_text (typed limits (integer low high)) v d h e
 
-flag_is : (limits : List (List (ℤ × ℤ))) (b : Bool) → IsOfType (typed limits boolean) (Flag b)
+flag_is : (limits : Option (List (ℤ × ℤ))) (b : Bool) → IsOfType (typed limits boolean) (Flag b)
 flag_is limits true = record { text = codes "true"; spelled = refl; within = (tt, tt); held = tt }
 flag_is limits false = record { text = codes "false"; spelled = refl; within = (tt, tt); held = tt }
 
-of_flag : (limits : List (List (ℤ × ℤ))) (v : Value) (d : Data) → flag_value d ≡ Ok v → IsOfType (typed limits boolean) v
+of_flag : (limits : Option (List (ℤ × ℤ))) (v : Value) (d : Data) → flag_value d ≡ Ok v → IsOfType (typed limits boolean) v
 of_flag limits v (flag b) e =
     let same : Flag b ≡ v = cc in
     subst (IsOfType (typed limits boolean)) same (flag_is limits b)
@@ -111,7 +111,7 @@ of_flag limits v (text s) e = absurd cc
 of_flag limits v (array ds) e = absurd cc
 of_flag limits v (object ms) e = absurd cc
 
-of_null : (limits : List (List (ℤ × ℤ))) (v : Value) (d : Data) → null_value d ≡ Ok v → IsOfType (typed limits empty) v
+of_null : (limits : Option (List (ℤ × ℤ))) (v : Value) (d : Data) → null_value d ≡ Ok v → IsOfType (typed limits empty) v
 of_null limits v null e =
     let same : Empty ≡ v = cc in
     subst (IsOfType (typed limits empty)) same (record { text = []; spelled = refl; within = (tt, tt); held = tt })
@@ -121,7 +121,7 @@ of_null limits v (text s) e = absurd cc
 of_null limits v (array ds) e = absurd cc
 of_null limits v (object ms) e = absurd cc
 
-of_empty : (limits : List (List (ℤ × ℤ))) (v : Value) (d : Data) → empty_value d ≡ Ok v → IsOfType (typed limits empty) v
+of_empty : (limits : Option (List (ℤ × ℤ))) (v : Value) (d : Data) → empty_value d ≡ Ok v → IsOfType (typed limits empty) v
 of_empty limits v (array (item d no_items)) e = of_null limits v d e
 of_empty limits v (array no_items) e = absurd cc
 of_empty limits v (array (item d (item f ds))) e = absurd cc
@@ -131,7 +131,7 @@ of_empty limits v (number n) e = absurd cc
 of_empty limits v (text s) e = absurd cc
 of_empty limits v (object ms) e = absurd cc
 
-of_kind : (limits : List (List (ℤ × ℤ))) (k : Kind) (v : Value) (d : Data) → HasHeldBounds k → value_of_kind (typed limits k) k d ≡ Ok v → IsOfType (typed limits k) v
+of_kind : (limits : Option (List (ℤ × ℤ))) (k : Kind) (v : Value) (d : Data) → HasHeldBounds k → value_of_kind (typed limits k) k d ≡ Ok v → IsOfType (typed limits k) v
 unfolding value_of_kind
 of_kind limits (integer low high) v d h e = of_integer limits low high v d (is_narrow high) h e
 of_kind limits (decimal digits) v d h e = of_text (typed limits (decimal digits)) v d h e

@@ -1,5 +1,5 @@
 -- The JSON value that is written for a value is read as that value.
-use Rattle.std.proofs.Common.{◌≡◌, ℕ, ℤ, pos, negsuc, List, Bool, true, false, ◌&&◌, if◌then◌else◌, Some, Result, Ok, Err, refl, ap, ◌∙◌, arith}
+use Rattle.std.proofs.Common.{◌≡◌, ℕ, ℤ, pos, negsuc, List, Bool, true, false, ◌&&◌, if◌then◌else◌, Option, Some, Result, Ok, Err, refl, ap, ◌∙◌, arith}
 use Rattle.std.proofs.lemmas.Int.{ints}
 use Rattle.std.specs.Prelude.{int_lt, int_le, ◌≤ℤ◌}
 use Rattle.serde_json.specs.Data.{string as text}
@@ -49,10 +49,10 @@ whole_back : (t : TypeOfLeaf) (z : ℤ) (narrow is : Bool) → (narrow ≡ true 
 whole_back t z true is small s m = ap (λ b. number_value t (integer_data b z)) (small refl) ∙ number_back t z m
 whole_back t z false is small s m = text_back t (Int z) s m
 
-abbrev typed : List (List (ℤ × ℤ)) → Kind → TypeOfLeaf
+abbrev typed : Option (List (ℤ × ℤ)) → Kind → TypeOfLeaf
 typed limits k = record { kind = k; limits = limits }
 
-value_back : (limits : List (List (ℤ × ℤ))) (k : Kind) (spelling : List ℕ) (v : Value) → HasLow k → SpellsValue k spelling v → SpellsValue k (canonical v) v → MeetsLimits (typed limits k) v
+value_back : (limits : Option (List (ℤ × ℤ))) (k : Kind) (spelling : List ℕ) (v : Value) → HasLow k → SpellsValue k spelling v → SpellsValue k (canonical v) v → MeetsLimits (typed limits k) v
     → value_of_kind (typed limits k) k (value_data (narrow_kind k) v) ≡ Ok v
 unfolding value_of_kind
 value_back limits (integer low high) spelling (Int z) l g s m =

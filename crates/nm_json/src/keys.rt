@@ -13,7 +13,7 @@ ghost use Rattle.nm_json.specs.Spots.{spot_of};
 use crate::fault::{Fault, JsonKind, Place, Refusal, Stop};
 use crate::gathered::{Gathered, long_name};
 use crate::leafs::leaf_value;
-use crate::names::member;
+use crate::names::{may_have_long, member};
 use crate::spot::{Spot, step_below};
 use nm_base::{Label, NoMemory};
 use nm_tree::{Node, Schema};
@@ -79,13 +79,12 @@ fn named_value(alloc: Global, node: &Node, members: &Map<String, Json>) -> Resul
     ensures { IsValue result (spec.key_value (type_of node.now.kind) (get_member node.now.name (members_view members.now.entries))
         (get_member (node.now.«module» ++ 58 ∷ node.now.name) (members_view members.now.entries))) }
 {
+    let short = member(members, node.name.as_str());
+    if !may_have_long(members, node.module.as_str(), node.name.as_str()) {
+        return key_value(alloc, node, short, None);
+    }
     let long = long_name(alloc, &node.module, &node.name)?;
-    key_value(
-        alloc,
-        node,
-        member(members, node.name.as_str()),
-        member(members, long.as_str()),
-    )
+    key_value(alloc, node, short, member(members, long.as_str()))
 }
 
 // The value of a key of a node, or its fault.

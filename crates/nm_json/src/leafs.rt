@@ -1,41 +1,18 @@
 //! The values of leafs.
 
-ghost use Rattle.std.specs.Prelude.{◌≡◌, ◌&&◌, map, Some, None, Ok, Err, Option, ℤ, if◌then◌else◌};
-ghost use Rattle.std.specs.List.{list_any};
+ghost use Rattle.std.specs.Prelude.{◌≡◌};
 ghost use Rattle.serde_json.specs.View.{view, items_view};
-ghost use Rattle.nm_types.specs.Limits.{is_within, meets_ranges};
 ghost use Rattle.serde_json.specs.Data.{array};
 ghost use Rattle.nm_types.specs.LeafType.{integer};
 ghost use Rattle.nm_json.specs.Values as spec;
 
 use crate::fault::{JsonKind, Refusal};
-use nm_types::{LeafType, TypeKind, Value, ValueFault, read_value};
+use nm_types::{LeafType, TypeKind, Value, ValueFault, meets_range, read_value};
 use serde_json::Value as Json;
 use std::alloc::Global;
 
 /// From this number on the highest one of a type makes its values JSON strings (RFC 7951 section 6.1).
 const WIDE: i128 = 4_294_967_296;
-
-// Whether a number is within a part of a range.
-fn is_within(part: &(i128, i128), number: i128) -> bool
-    ensures { result ≡ is_within number part.now }
-{
-    part.0 <= number && number <= part.1
-}
-
-// Whether a number is within one of the parts of a range.
-fn meets_range(range: &[(i128, i128)], number: i128) -> bool
-    ensures { result ≡ list_any (is_within number) range.now }
-{
-    range.iter().any(|part| is_within(part, number))
-}
-
-// Whether a number meets every range along a derivation.
-fn meets_ranges(ranges: &[Vec<(i128, i128)>], number: i128) -> bool
-    ensures { result ≡ meets_ranges (map (λ range. range.items) ranges.now) number }
-{
-    ranges.iter().all(|range| meets_range(range, number))
-}
 
 // The value of a JSON string.
 fn text_value(alloc: Global, leaf_type: &LeafType, part: &Json) -> Result<Value, Refusal>
@@ -62,7 +39,7 @@ fn number_value(leaf_type: &LeafType, low: i128, high: i128, part: &Json) -> Res
     let Some(number) = number.as_i128() else {
         return Err(Refusal::Bad(JsonKind::BadValue));
     };
-    if low <= number && number <= high && meets_ranges(&leaf_type.limits, number) {
+    if low <= number && number <= high && meets_range(&leaf_type.limits, number) {
         return Ok(Value::Int(number));
     }
     Err(Refusal::Bad(JsonKind::BadValue))

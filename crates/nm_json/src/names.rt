@@ -1,6 +1,6 @@
 //! The nodes that the names of members lead to.
 
-ghost use Rattle.std.specs.Prelude.{◌≡◌, option_map, slice_get, MatchOption, true, false};
+ghost use Rattle.std.specs.Prelude.{◌≡◌, ◌∷◌, ◌++◌, None, option_map, slice_get, MatchOption, true, false};
 ghost use Rattle.std.specs.List.{before_first, after_first};
 ghost use Rattle.serde_json.specs.View.{view, members_view};
 ghost use Rattle.serde_json.specs.Find.{get_member};
@@ -81,6 +81,29 @@ pub fn is_twice(within: Option<usize>, name: &str, all: &Map<String, Json>) -> b
         None => false,
         Some((_, rest)) => member(all, rest).is_some(),
     }
+}
+
+// Whether a text may be a name with its module's before it. No other text is that name.
+fn may_be_long(text: &str, module: &str, name: &str) -> bool
+    ensures { text.now ≡ «module».now ++ 58 ∷ name.now → result ≡ true }
+{
+    match text.as_bytes().strip_prefix(module.as_bytes()) {
+        None => false,
+        Some(rest) => rest.len() == name.len() + 1,
+    }
+}
+
+/// Whether a member may be named with its module's name before its own. Where none may be, none is, and no text is made to
+/// find that out.
+pub fn may_have_long(all: &Map<String, Json>, module: &str, name: &str) -> bool
+    ensures { result ≡ false → get_member («module».now ++ 58 ∷ name.now) (members_view all.now.entries) ≡ None }
+{
+    for (own, _) in all {
+        if may_be_long(own.as_str(), module, name) {
+            return true;
+        }
+    }
+    false
 }
 
 /// The member of a name.

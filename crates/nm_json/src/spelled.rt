@@ -27,7 +27,7 @@ fn canonical(alloc: Global, value: &Value) -> Result<Label, NoMemory>
 {
     let any = LeafType {
         kind: TypeKind::Text,
-        limits: Vec::new(alloc),
+        limits: None,
     };
     write_value(alloc, &any, value)
 }

@@ -2,6 +2,8 @@ use nm_ending::laws as ending;
 use nm_pair::{change_sets, device_side, laws as pair, manager_side};
 use nm_proto::FlatContent;
 use nm_safety::laws as safety;
+use nm_type_laws::laws as types;
+use nm_yang_laws::laws as yang;
 
 // The laws are functions that do nothing.
 #[test]
@@ -75,4 +77,20 @@ fn runs_end(rt: HostRuntime) {
     nm_recording::laws::drained_commits_are_recorded(&content);
     nm_recording::laws::ends_are_recorded(&content);
     nm_recording::laws::drained_ends_are_recorded(&content);
+}
+
+#[test]
+fn faults_have_causes() {
+    yang::fault_in_text();
+    yang::fault_has_cause();
+    yang::same_fault();
+}
+
+#[test]
+fn types_are_read_alike() {
+    types::integers_alike();
+    types::lengths_alike();
+    types::decimals_alike();
+    types::bits_rise();
+    types::bits_stay();
 }

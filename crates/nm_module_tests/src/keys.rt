@@ -4,7 +4,7 @@ use nm_base::NoMemory;
 use nm_schema_keys::{
     Keys, Uniques, flawed_uniques, key_flaw, key_leafs, keys_of, unique_flaw, uniques_of,
 };
-use nm_schema_names::Names;
+use nm_schema_names::RowNames;
 use nm_schema_rows::{Flaw, Rows, Word, rows_of};
 use nm_schema_shape::{Shape, are_named, shape_of};
 use nm_yang::read_module;
@@ -12,7 +12,7 @@ use std::alloc::{AllocError, Global};
 use std::test::Fail;
 
 // The grouping of each uses.
-fn groupings_of(alloc: Global, names: &Names<'_>) -> Result<Vec<Option<usize>>, NoMemory> {
+fn groupings_of(alloc: Global, names: &RowNames<'_>) -> Result<Vec<Option<usize>>, NoMemory> {
     let mut groupings = Vec::new(alloc);
     for at in 0..names.rows().len() {
         groupings.push(names.leads_to(at))?;
@@ -31,7 +31,7 @@ fn flaw_text(alloc: Global, flaw: &Flaw, at: usize) -> Result<String, AllocError
 
 fn row_flaw(
     alloc: Global,
-    names: &Names<'_>,
+    names: &RowNames<'_>,
     shape: &Shape<'_>,
     at: usize,
 ) -> Result<Option<Flaw>, NoMemory>
@@ -44,7 +44,7 @@ fn row_flaw(
 }
 
 // The first flaw, and the number of its row.
-fn first_flaw(alloc: Global, names: &Names<'_>, shape: &Shape<'_>) -> Result<String, AllocError>
+fn first_flaw(alloc: Global, names: &RowNames<'_>, shape: &Shape<'_>) -> Result<String, AllocError>
     requires { names.now ≡ shape.now.rows }
 {
     for at in 0..names.rows().len() {
@@ -93,7 +93,7 @@ fn uniques_text(alloc: Global, uniques: &Option<Uniques>) -> Result<String, Allo
 }
 
 // The first flaw of some rows, the keys of the first list, and what is unique in it.
-fn told(alloc: Global, names: &Names<'_>, shape: &Shape<'_>) -> Result<String, Fail>
+fn told(alloc: Global, names: &RowNames<'_>, shape: &Shape<'_>) -> Result<String, Fail>
     requires { names.now ≡ shape.now.rows }
 {
     let list = list_in(names.rows());
@@ -107,7 +107,7 @@ fn told(alloc: Global, names: &Names<'_>, shape: &Shape<'_>) -> Result<String, F
 fn told_of(alloc: Global, text: &str) -> Result<String, Fail> {
     let modules = [read_module(alloc, text.as_bytes())?];
     let rows = rows_of(alloc, &modules)?;
-    let names = Names::new(alloc, &rows)?;
+    let names = RowNames::new(alloc, &rows)?;
     let groupings = groupings_of(alloc, &names)?;
     if !are_named(&rows, &groupings) {
         return Ok(String::from_str(alloc, "no grouping")?);
@@ -181,7 +181,7 @@ fn marks_keys(rt: HostRuntime) -> Result<(), Fail> {
         "module m { prefix p; grouping g { leaf a; leaf b; } list l { key a; uses g; leaf c; } list k { key c; leaf c; } }";
     let modules = [read_module(alloc, text.as_bytes())?];
     let rows = rows_of(alloc, &modules)?;
-    let names = Names::new(alloc, &rows)?;
+    let names = RowNames::new(alloc, &rows)?;
     let groupings = groupings_of(alloc, &names)?;
     if are_named(&rows, &groupings) {
         let shape = shape_of(alloc, &rows, &groupings)?;
@@ -200,7 +200,7 @@ fn marks_keys(rt: HostRuntime) -> Result<(), Fail> {
 fn flawed_of(alloc: Global, text: &str) -> Result<String, Fail> {
     let modules = [read_module(alloc, text.as_bytes())?];
     let rows = rows_of(alloc, &modules)?;
-    let names = Names::new(alloc, &rows)?;
+    let names = RowNames::new(alloc, &rows)?;
     let groupings = groupings_of(alloc, &names)?;
     if !are_named(&rows, &groupings) {
         return Ok(String::from_str(alloc, "no grouping")?);

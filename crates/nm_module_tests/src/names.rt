@@ -1,5 +1,5 @@
 use nm_base::NoMemory;
-use nm_schema_names::{Names, is_marker};
+use nm_schema_names::{RowNames, is_marker};
 use nm_schema_rows::{Flaw, Rows, Word, rows_of};
 use nm_yang::read_module;
 use std::alloc::{AllocError, Global};
@@ -25,7 +25,7 @@ fn flaw_text(alloc: Global, flaw: &Flaw, owner: usize, place: u32) -> Result<Str
 }
 
 // The first flaw of two modules as its kind, its name, its module and its place.
-fn first_flaw(alloc: Global, names: &Names<'_>) -> Result<String, AllocError> {
+fn first_flaw(alloc: Global, names: &RowNames<'_>) -> Result<String, AllocError> {
     let rows = names.rows();
     for at in 0..rows.len() {
         let Some(row) = rows.row(at) else {
@@ -78,7 +78,7 @@ fn finds_flaws(rt: HostRuntime) -> Result<(), Fail> {
         let (one, rest) = row.split_once(" => ").ok_or("no row")?;
         let (other, expected) = rest.split_once(" => ").ok_or("no row")?;
         let rows = rows_in(alloc, one, other)?;
-        let names = Names::new(alloc, &rows)?;
+        let names = RowNames::new(alloc, &rows)?;
         assert_eq!(rt;
             first_flaw(alloc, &names)?.as_str(),
             expected,
@@ -134,7 +134,7 @@ fn leads(rt: HostRuntime) -> Result<(), Fail> {
     let alloc = rt.alloc();
     for (one, other, at, expected) in &LEADS {
         let rows = rows_in(alloc, one, other)?;
-        let names = Names::new(alloc, &rows)?;
+        let names = RowNames::new(alloc, &rows)?;
         assert_eq!(rt; names.leads_to(*at), *expected, "{one} {other}");
     }
     Ok(())
@@ -148,7 +148,7 @@ const OTHER: &str = "module b { grouping g { leaf x; } }";
 fn finds_names(rt: HostRuntime) -> Result<(), Fail> {
     let alloc = rt.alloc();
     let rows = rows_in(alloc, ONE, OTHER)?;
-    let names = Names::new(alloc, &rows)?;
+    let names = RowNames::new(alloc, &rows)?;
     assert_eq!(rt; names.named(Some(0), Word::Leaf, "x"), Some(4));
     assert_eq!(rt; names.named(Some(7), Word::Leaf, "x"), None);
     assert_eq!(rt; names.named_in(Some(8), Word::Leaf, "x"), Some(9));
@@ -164,7 +164,7 @@ fn finds_names(rt: HostRuntime) -> Result<(), Fail> {
 fn finds_modules(rt: HostRuntime) -> Result<(), Fail> {
     let alloc = rt.alloc();
     let rows = rows_in(alloc, ONE, OTHER)?;
-    let names = Names::new(alloc, &rows)?;
+    let names = RowNames::new(alloc, &rows)?;
     assert_eq!(rt; names.top(1), Some(7));
     assert_eq!(rt; names.top(2), None);
     assert_eq!(rt; names.parent_of(9), Some(8));
@@ -221,7 +221,7 @@ fn makes_graphs(rt: HostRuntime) -> Result<(), Fail> {
     let alloc = rt.alloc();
     for (one, other, expected) in &GRAPHS {
         let rows = rows_in(alloc, one, other)?;
-        let names = Names::new(alloc, &rows)?;
+        let names = RowNames::new(alloc, &rows)?;
         let graph = names.successors(alloc)?;
         assert_eq!(rt; shown(alloc, &graph)?.as_str(), *expected, "{one} {other}");
     }

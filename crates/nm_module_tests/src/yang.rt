@@ -400,11 +400,17 @@ fn limits_depth(rt: HostRuntime) -> Result<(), Fail> {
     Ok(())
 }
 
-// A text with blanks up to a length, and then more.
-fn padded(alloc: Global, text: &str, length: usize, more: &str) -> Result<String, AllocError> {
+// A text filled up to a length, and then more.
+fn padded(
+    alloc: Global,
+    text: &str,
+    filling: &str,
+    length: usize,
+    more: &str,
+) -> Result<String, AllocError> {
     let mut out = String::from_str(alloc, text)?;
     for _ in text.len()..length {
-        out.push_str(" ")?;
+        out.push_str(filling)?;
     }
     out.push_str(more)?;
     Ok(out)
@@ -424,9 +430,26 @@ fn limits_length(rt: HostRuntime) -> Result<(), Fail> {
         ("module m { $", 262145, "", "bad-keyword 11"),
     ];
     for (text, length, more, expected) in &table {
-        let whole = padded(rt.alloc(), text, *length, more)?;
+        let whole = padded(rt.alloc(), text, " ", *length, more)?;
         let found = outcome(rt.alloc(), whole.as_bytes())?;
         assert_eq!(rt; found.as_str(), *expected, "{text}");
+    }
+    Ok(())
+}
+
+// Words that the limit cuts within a character, or behind one.
+#[test]
+fn limits_word(rt: HostRuntime) -> Result<(), Fail> {
+    let table = [
+        (262142, "\u{e9}", "not-module 0"),
+        (262142, "\u{e9};", "too-long 262144"),
+        (262143, "\u{e9}", "too-long 262144"),
+        (262141, "\u{1f600}", "too-long 262144"),
+    ];
+    for (length, more, expected) in &table {
+        let whole = padded(rt.alloc(), "module ", "a", *length, more)?;
+        let found = outcome(rt.alloc(), whole.as_bytes())?;
+        assert_eq!(rt; found.as_str(), *expected, "{more}");
     }
     Ok(())
 }

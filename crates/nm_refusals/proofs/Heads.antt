@@ -1,93 +1,59 @@
--- What is told of the head of a scenario, and of its devices.
-use Rattle.std.proofs.Common.{◌≡◌, ℕ, List, [], Option, Some, None, Result, Ok, Err, codes, refl, ap, ◌∙◌}
-use Rattle.std.specs.Prelude.{if◌then◌else◌, ◌||◌, unwrap_or}
-use Rattle.std.specs.Str.{bytes_eq}
+-- The modules of a head that is said.
+use Rattle.std.proofs.Common.{◌≡◌, ◌≤◌, List, length, Bool, true, false, codes, subst}
 use Rattle.serde_json.specs.Data.{Data}
-use Rattle.serde_json.specs.Find.{as_str}
-use Rattle.nm_yang.specs.Tree.{Tree}
-use Rattle.nm_yang.specs.Module.{reading}
-use Rattle.nm_yang.specs.declared.fault.Fault.{Fault as TextFault}
-use Rattle.nm_proto.specs.Flat.{FlatState}
-use Rattle.nm_tree.specs.Nodes.{SchemaTree}
-use Rattle.nm_config.specs.Rows.{Rows}
-use Rattle.nm_proto.specs.declared.kind.ScenarioKind.TheVariants as kind
-use Rattle.nm_scenario_parts.specs.Reading.{here, required, object_at, only_known, list_at, some_of}
-use Rattle.nm_scenario_events.specs.Limits.{device_limit}
-use Rattle.nm_scenario.specs.declared.head.Form.TheVariants as form
+use Rattle.serde_json.specs.Find.{get}
+use Rattle.nm_scenario_parts.specs.Words.{item_count}
+use Rattle.nm_scenario_form.specs.Form.{object, leaf, chosen}
+use Rattle.nm_scenario_form.specs.Says.{Says}
+use Rattle.nm_scenario.specs.declared.head.Head.TheVariants.{Flat, Yang}
 use Rattle.nm_scenario.specs.declared.head.ReadModule.{ReadModule}
-use Rattle.nm_scenario.specs.Head.{form_of, form_at, module_limit, module_read, module_of, module_at, modules_at}
-use Rattle.nm_scenario.specs.Devices.{knows_device, running_at, device_at, devices_at}
-use Rattle.nm_scenario.specs.Yang.{data_at, yang_device_at, yang_devices_at}
-use Rattle.nm_refusals.specs.Roles as role
-use Rattle.nm_refusals.specs.Roles.{cells, data_of}
-use Rattle.nm_refusals.specs.Members as must
-use Rattle.nm_refusals.specs.Steps as step
-use Rattle.nm_refusals.specs.Wrong.{no_form, no_text, no_module}
-use Rattle.nm_refusals.specs.Told.{Told}
-use Rattle.nm_refusals.proofs.Sound.{IsSound, is_read, then_so, by_test}
-use Rattle.nm_refusals.proofs.Parts.{wrong, object_is, object_so, required_so, known_so, each_so, list_read, some_so}
-use Rattle.nm_refusals.proofs.Flats.{running_so}
-use Rattle.nm_refusals.proofs.Data.{data_so}
+use Rattle.nm_scenario.specs.Counts.{count_in}
+use Rattle.nm_scenario.specs.Head.{has_word, any_name, module_said, module_limit, modules_form, plain_parts, flat_parts, yang_parts, head_form}
+use Rattle.nm_refusals.proofs.Lists.{ListKeeps, list_keeps, optional_list}
 
--- ---- the form of the contents
+-- modules that were read
+abbrev AreRead : Data → List ReadModule → Type 0
+AreRead whole modules = ListKeeps (λ m. Unit {0}) 0 module_limit (count_in (codes "modules") whole) modules
 
-form_or : (part : Data) (word : Option (List ℕ)) → as_str part ≡ word → IsSound (Told role.form part) (form_of word)
-form_or part None e = wrong kind.BadValue (no_form (ap (λ w. bytes_eq (unwrap_or w []) (codes "flat") || bytes_eq (unwrap_or w []) (codes "yang")) e))
-form_or part (Some word) e =
-    by_test (bytes_eq word (codes "flat")) (Ok form.Flat) (if bytes_eq word (codes "yang") then Ok form.Yang else here kind.BadValue) (λ hold. is_read form.Flat)
-    (λ fail. by_test (bytes_eq word (codes "yang")) (Ok form.Yang) (here kind.BadValue) (λ hold. is_read form.Yang)
-    (λ neither. wrong kind.BadValue (no_form (ap (λ w. bytes_eq (unwrap_or w []) (codes "flat") || bytes_eq (unwrap_or w []) (codes "yang")) e ∙ (ap (λ b. b || bytes_eq word (codes "yang")) fail ∙ neither)))))
+modules_are : (part : Data) (modules : List ReadModule) → Says modules_form part modules → ListKeeps (λ m. Unit {0}) 0 module_limit (item_count part) modules
+unfolding modules_form
+modules_are part modules says = list_keeps (λ m. Unit {0}) 0 module_limit (λ n. leaf module_said) (λ n child x said. tt) part modules says
 
-pub form_so : (part : Data) → IsSound (Told role.form part) (form_at part)
-unfolding form_at
-form_so part = form_or part (as_str part) refl
+yang_is : (whole : Data) (modules : List ReadModule) → Says (object any_name yang_parts (λ version contents modules. Yang modules)) whole (Yang modules)
+    → AreRead whole modules
+unfolding Says
+yang_is whole modules says =
+    let parts = says.parts in
+    let found : AreRead whole parts.2.2.0 =
+    optional_list (λ m. Unit {0}) module_limit (λ part b. Says modules_form part b) modules_are (get (codes "modules") whole) parts.2.2.0 parts.2.2.1 in
+    let made : Yang parts.2.2.0 ≡ Yang modules = parts.2.2.2 in
+    let same : parts.2.2.0 ≡ modules = cc in
+    subst (AreRead whole) same found
 
--- ---- modules
+flat_none : (whole : Data) (modules : List ReadModule) → Says (object any_name flat_parts (λ version contents modules. Flat)) whole (Yang modules) → ⊥
+unfolding Says
+flat_none whole modules says = let made : Flat ≡ Yang modules = says.parts.2.2.2 in cc
 
-read_so : (part : Data) (text : List ℕ) (r : Result Tree TextFault) → as_str part ≡ Some text → reading text ≡ r → IsSound (Told role.module_text part) (module_read text r)
-read_so part text (Ok tree) e is = is_read (record { text = text; statement = tree })
-read_so part text (Err fault) e is = wrong kind.Yang (no_module text fault e is)
+plain_none : (whole : Data) (modules : List ReadModule) → Says (object any_name plain_parts (λ version contents. Flat)) whole (Yang modules) → ⊥
+unfolding Says
+plain_none whole modules says = let made : Flat ≡ Yang modules = says.parts.2.2 in cc
 
-text_so : (part : Data) (text : Option (List ℕ)) → as_str part ≡ text → IsSound (Told role.module_text part) (module_of text)
-text_so part None e = wrong kind.BadValue (no_text e)
-text_so part (Some text) e = read_so part text (reading text) e refl
+by_contents : (whole : Data) (modules : List ReadModule) (yang flat : Bool)
+    → Says (chosen yang (object any_name yang_parts (λ version contents modules. Yang modules))
+    (chosen flat (object any_name flat_parts (λ version contents modules. Flat)) (object any_name plain_parts (λ version contents. Flat)))) whole (Yang modules)
+    → AreRead whole modules
+by_contents whole modules true flat says = yang_is whole modules says
+by_contents whole modules false true says = absurd (flat_none whole modules says)
+by_contents whole modules false false says = absurd (plain_none whole modules says)
 
-module_so : (before : List ReadModule) (part : Data) → IsSound (Told role.module_text part) (module_at before part)
-unfolding module_at
-module_so before part = text_so part (as_str part) refl
+pub modules_read : (whole : Data) (modules : List ReadModule) → Says head_form whole (Yang modules) → AreRead whole modules
+unfolding Says head_form
+modules_read whole modules says =
+    by_contents whole modules (has_word (codes "contents") (codes "yang") whole) (has_word (codes "contents") (codes "flat") whole) says
 
-pub modules_so : (part : Data) → IsSound (Told role.modules part) (modules_at part)
-unfolding modules_at
-modules_so part = each_so role.modules part module_limit module_at refl refl role.module_text (λ n. step.one_module) module_so
+pub few_modules : (whole : Data) (modules : List ReadModule) → Says head_form whole (Yang modules) → length modules ≤ module_limit
+few_modules whole modules says = let are : AreRead whole modules = modules_read whole modules says in are.most
 
--- ---- devices
-
-device_so : (before : List FlatState) (part : Data) → IsSound (Told (role.device cells) part) (device_at before part)
-unfolding device_at
-device_so before part =
-    then_so (object_at part) _ (object_so (role.device cells) part refl)
-    (λ u o. then_so (required (codes "running") running_at part) _
-    (required_so (role.device cells) part (codes "running") (role.running cells) running_at (object_is part u o) must.running_of step.running_of (λ child e. running_so child))
-    (λ x e. then_so (only_known knows_device part) _ (known_so (role.device cells) part (object_is part u o)) (λ k e. is_read x)))
-
-pub devices_so : (part : Data) → IsSound (Told (role.devices cells) part) (devices_at part)
-unfolding devices_at
-devices_so part =
-    then_so (list_at device_limit device_at part) some_of
-    (each_so (role.devices cells) part device_limit device_at refl refl (role.device cells) (λ n. step.one_device) device_so)
-    (λ xs e. some_so (role.devices cells) part device_limit xs refl (list_read part device_limit device_at xs e))
-
-yang_device_so : (tree : SchemaTree) (before : List Rows) (part : Data) → IsSound (Told (role.device (data_of tree)) part) (yang_device_at tree before part)
-unfolding yang_device_at
-yang_device_so tree before part =
-    then_so (object_at part) _ (object_so (role.device (data_of tree)) part refl)
-    (λ u o. then_so (required (codes "running") (data_at tree) part) _
-    (required_so (role.device (data_of tree)) part (codes "running") (role.running (data_of tree)) (data_at tree) (object_is part u o) must.running_of step.running_of (λ child e. data_so tree child))
-    (λ x e. then_so (only_known knows_device part) _ (known_so (role.device (data_of tree)) part (object_is part u o)) (λ k e. is_read x)))
-
-pub yang_devices_so : (tree : SchemaTree) (part : Data) → IsSound (Told (role.devices (data_of tree)) part) (yang_devices_at tree part)
-unfolding yang_devices_at
-yang_devices_so tree part =
-    then_so (list_at device_limit (yang_device_at tree) part) some_of
-    (each_so (role.devices (data_of tree)) part device_limit (yang_device_at tree) refl refl (role.device (data_of tree)) (λ n. step.one_device) (yang_device_so tree))
-    (λ xs e. some_so (role.devices (data_of tree)) part device_limit xs refl (list_read part device_limit (yang_device_at tree) xs e))
+-- as many as stand there
+pub count_modules : (whole : Data) (modules : List ReadModule) → Says head_form whole (Yang modules) → length modules ≡ count_in (codes "modules") whole
+count_modules whole modules says = let are : AreRead whole modules = modules_read whole modules says in are.count_is

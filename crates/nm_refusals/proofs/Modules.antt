@@ -19,7 +19,7 @@ use Rattle.nm_schema_flaws.specs.Flaw.{flaw_at}
 use Rattle.nm_schema_flaws.specs.Fault.{first_some, flawed, is_last, large_by, large_in, large_at, fault_at, first_fault}
 use Rattle.nm_schema.specs.FactsOf.{facts_in}
 use Rattle.nm_schema.specs.Built.{outcome, built, built_of}
-use Rattle.nm_refusals.specs.Told.{module_of_fault}
+use Rattle.nm_scenario.specs.Scenario.{module_of}
 
 -- ---- the rows of a module have its number
 
@@ -69,7 +69,7 @@ row_below modules i row e = found_below (rows_of modules) (length modules) i row
 -- ---- the first fault
 
 abbrev InModule : ℕ → Fault → Type 0
-InModule count fault = module_of_fault fault < count
+InModule count fault = module_of fault < count
 
 -- a fault, if there is one, is in a module
 abbrev IfIn : ℕ → Option Fault → Type 0
@@ -119,15 +119,15 @@ first_fault_in modules facts = first_in (length modules) (fault_at (rows_of modu
 
 -- ---- what modules give
 
-outcome_in : (modules : List Tree) (facts : Facts) (first : Option Fault) (fault : Fault) → IfIn (length modules) first → Err fault ≡ outcome (rows_of modules) facts first → module_of_fault fault < length modules
+outcome_in : (modules : List Tree) (facts : Facts) (first : Option Fault) (fault : Fault) → IfIn (length modules) first → Err fault ≡ outcome (rows_of modules) facts first → module_of fault < length modules
 outcome_in modules facts (Some f) fault is e = let same : fault ≡ f = cc in subst (InModule (length modules)) (sym same) is
 outcome_in modules facts None fault is e = cc
 
-built_in : (modules : List Tree) (facts : Facts) (fault : Fault) → Err fault ≡ built (rows_of modules) facts → module_of_fault fault < length modules
+built_in : (modules : List Tree) (facts : Facts) (fault : Fault) → Err fault ≡ built (rows_of modules) facts → module_of fault < length modules
 unfolding built
 built_in modules facts fault e = outcome_in modules facts (first_fault (rows_of modules) facts) fault (first_fault_in modules facts) e
 
 -- a fault that modules have is in one of them
-pub fault_in_module : (modules : List Tree) (fault : Fault) → built_of modules ≡ Err fault → module_of_fault fault < length modules
+pub fault_in_module : (modules : List Tree) (fault : Fault) → built_of modules ≡ Err fault → module_of fault < length modules
 unfolding built_of
 fault_in_module modules fault e = built_in modules (facts_in (rows_of modules)) fault (sym e)

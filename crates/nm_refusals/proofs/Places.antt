@@ -1,49 +1,232 @@
--- Where the places of faults lead.
-use Rattle.std.proofs.Common.{◌≡◌, inl, inr, cond, ℕ, zero, suc, ◌<◌, List, [], ◌∷◌, length, Bool, true, false, Option, Some, None, option_and_then, Result, Ok, Err, codes, refl, ap, subst, ◌∙◌, arith}
+-- Where the places of faults lead: the tables of a scenario are in order, and a fault of modules is in one of them.
+use Rattle.std.proofs.Common.{◌≡◌, inl, inr, cond, ℕ, zero, suc, ◌<◌, List, [], ◌∷◌, length, Bool, true, false, Option, Some, None, option_and_then, Result, Ok, Err, codes, refl, ◌∙◌, arith}
 use Rattle.std.proofs.lemmas.List.{length-map}
-use Rattle.std.specs.Prelude.{is_some, nat_lt}
+use Rattle.std.specs.Prelude.{is_some, nat_lt, nat_le, ◌&&◌, ◌||◌, ◌==◌}
+use Rattle.std.specs.Str.{bytes_eq}
+use Rattle.std.specs.Ordering.{nat_cmp}
+use Rattle.std.specs.FinMap.{FinMap}
 use Rattle.serde_json.specs.Data.{Data, null, boolean, number, string, array, object, Items, no_items, item, Members}
-use Rattle.serde_json.specs.Find.{get, at, get_member, get_item, as_object}
+use Rattle.serde_json.specs.Find.{get, at, get_item, as_array, as_object, as_str}
+use Rattle.nm_base.specs.Words.{manager}
 use Rattle.nm_base.specs.declared.tag.Tag.{Tag}
 use Rattle.nm_base.specs.declared.tag.Tag.TheVariants.{InUse, InvalidValue, LockDenied, AccessDenied, DataExists, DataMissing, OperationFailed, ResourceDenied, UnknownElement, BadAttribute, MissingElement}
+use Rattle.nm_yang.specs.Tree.{Tree}
+use Rattle.nm_yang.specs.Module.{reading}
+use Rattle.nm_yang.specs.declared.fault.Fault.{Fault as TextFault}
 use Rattle.nm_tree.specs.Nodes.{SchemaTree}
+use Rattle.nm_config.specs.Rows.{Rows}
+use Rattle.nm_json.specs.declared.fault.JsonFault.{JsonFault}
+use Rattle.nm_json.specs.declared.fault.JsonFault.TheVariants.{NotJson, Bad, TooManyRows, NoMemory}
+use Rattle.nm_json.specs.Whole.{config_read}
+use Rattle.nm_check.specs.Told.{violation_told}
+use Rattle.nm_schema_flaws.specs.declared.fault.Fault.{Fault as SchemaFault}
+use Rattle.nm_schema_flaws.specs.declared.fault.Fault.TheVariants.{Flawed, TooLarge}
 use Rattle.nm_schema.specs.Built.{built_of}
 use Rattle.nm_edit.specs.declared.edit.EditNode.{EditNode}
 use Rattle.nm_edit_json.specs.Whole.{edit_read}
 use Rattle.nm_proto.specs.Content.{Refusal}
-use Rattle.nm_proto.specs.declared.flat.FlatEdit.{FlatEdit}
+use Rattle.nm_proto.specs.Flat.{FlatState, flat_violation}
 use Rattle.nm_proto.specs.declared.kind.ScenarioKind.{ScenarioKind}
 use Rattle.nm_proto.specs.declared.kind.ScenarioKind.TheVariants as kind
 use Rattle.nm_scenario_parts.specs.declared.fault.Step.{Step}
 use Rattle.nm_scenario_parts.specs.declared.fault.Step.TheVariants.{Name, Item}
+use Rattle.nm_scenario_parts.specs.declared.fault.Cause.{Cause}
 use Rattle.nm_scenario_parts.specs.declared.fault.Fault.{Fault}
-use Rattle.nm_scenario_parts.specs.Reading.{under, optional_from, optional, count_of, plain}
+use Rattle.nm_scenario_parts.specs.Reading.{count_of, natural_of, plain}
 use Rattle.nm_scenario_parts.specs.Words.{item_count}
+use Rattle.nm_scenario_form.specs.Order.{IsFirst}
+use Rattle.nm_scenario_form.specs.Form.{Form, leaf, chosen}
+use Rattle.nm_scenario_form.specs.Says.{Says}
+use Rattle.nm_scenario_form.specs.Exact.{Somewhere}
+use Rattle.nm_scenario_form.specs.Places.{walked, IsPlace, IsThere, InOrder}
+use Rattle.nm_scenario_form.proofs.InOrder.{number_in_order, above_in_order, switch_in_order, leaf_in_order, list_in_order, by_in_order, object_in_order, member_in_order, no_more_named}
+use Rattle.nm_scenario_form.proofs.Placed.{placed}
+use Rattle.nm_scenario_events.proofs.Order.{operation_in_order, events_in_order}
+use Rattle.nm_scenario.specs.declared.head.Head.{Head}
+use Rattle.nm_scenario.specs.declared.head.Head.TheVariants as head
 use Rattle.nm_scenario.specs.declared.head.ReadModule.{ReadModule}
-use Rattle.nm_scenario.specs.Head.{module_limit, module_at, modules_at, statement_of, statements_of}
-use Rattle.nm_refusals.specs.Roles.{Role, Contents, cells, data_of}
-use Rattle.nm_scenario_form.proofs.InOrder.{leaf_in_order}
-use Rattle.nm_scenario_events.specs.declared.arguments.Counts.{Counts}
-use Rattle.nm_scenario_events.proofs.Order.{events_placed}
-use Rattle.nm_scenario.specs.Flat.{node_limit, member_count, is_change, all_members, flat_edit_of, flat_edit_said, flat_edit}
-use Rattle.nm_scenario.specs.Yang.{edit_cause, edit_from, data_edit_said, data_edit}
-use Rattle.nm_scenario_form.specs.Places.{stepped, walked, LacksMember, IsPlace, IsThere, InOrder}
-use Rattle.nm_refusals.specs.Wrong as wrong
-use Rattle.nm_refusals.specs.Wrong.{Wrong}
-use Rattle.nm_refusals.specs.Told.{OfEvents, Tells, here, missing, unknown, in_events, inside, TellsWhole, in_part, in_module, module_of_fault}
-use Rattle.nm_refusals.proofs.Sound.{both}
-use Rattle.nm_refusals.proofs.Parts.{Listed, list_read}
+use Rattle.nm_scenario.specs.Causes.{edit_cause_by}
+use Rattle.nm_scenario.specs.Nothing.{nothing, nothing_in, nothing_said}
+use Rattle.nm_scenario.specs.Flat.{row_limit, node_limit, member_count, change_of, are_entries, entries_in, unmarked, valid_state, state_of, cells_said, edit_of, changes_said}
+use Rattle.nm_scenario.specs.Yang.{holds_marks, valid_rows, rows_from, data_said, nodes_from, nodes_said}
+use Rattle.nm_scenario.specs.Counts.{items_of, count_in, counts_of}
+use Rattle.nm_scenario.specs.Devices.{devices_form}
+use Rattle.nm_scenario.specs.Changes.{edits_form, changes_form}
+use Rattle.nm_scenario.specs.Operators.{user_limit, user, user_in, user_said, operators_form}
+use Rattle.nm_scenario.specs.Head.{has_word, contents, contents_in, contents_said, module_read, module_in, module_said, modules_form, head_form, statement_of, statements_of}
+use Rattle.nm_scenario.specs.Members.{members_form}
+use Rattle.nm_scenario.specs.Scenario.{module_cause, module_of, WrongModule, WrongBuilt, WrongAfter, WrongScenario, WrongWhole, WrongValue, WrongBytes, whole_of}
+use Rattle.nm_refusals.specs.Placed.{IsPlacedIn, IsPlaced}
 use Rattle.nm_refusals.proofs.Modules.{fault_in_module}
+use Rattle.nm_refusals.proofs.Heads.{count_modules}
 
-get_in : (part : Data) (name : List ℕ) (members : Members) → as_object part ≡ Some members → get name part ≡ get_member name members
-get_in (object m) name ms e = let same : m ≡ ms = cc in ap (get_member name) same
-get_in null name ms e = cc
-get_in (boolean b) name ms e = cc
-get_in (number n) name ms e = cc
-get_in (string text) name ms e = cc
-get_in (array items) name ms e = cc
+-- ---- leafs tell of no missing member
 
--- a list of enough items has an item at a place
+two_there : {A : Type 0} (a b : Bool) (k l : ScenarioKind) (x : A) → (k ≡ kind.Missing → ⊥) → (l ≡ kind.Missing → ⊥)
+    → IsThere (cond a (Err (plain k)) (cond b (Ok x) (Err (plain l))))
+two_there true b k l x known also = known
+two_there false true k l x known also = tt
+two_there false false k l x known also = also
+
+one_there : {A : Type 0} (a : Bool) (k : ScenarioKind) (x : A) → (k ≡ kind.Missing → ⊥) → IsThere (cond a (Ok x) (Err (plain k)))
+one_there true k x known = tt
+one_there false k x known = known
+
+nothing_there : (otherwise : ScenarioKind) → (otherwise ≡ kind.Missing → ⊥) → (o : Option Items) → IsThere (nothing_in otherwise o)
+nothing_there otherwise known None = λ e. cc
+nothing_there otherwise known (Some items) = one_there (count_of items == 0) otherwise tt known
+
+nothing_in_order : (otherwise : ScenarioKind) → (otherwise ≡ kind.Missing → ⊥) → InOrder (nothing otherwise)
+unfolding nothing_said
+nothing_in_order otherwise known = leaf_in_order _ (λ part. nothing_there otherwise known (as_array part))
+
+entries_there : {V : Type 0} (most : ℕ) (value : Data → Option V) (some : V) (o : Option Members) → IsThere (entries_in most value some o)
+entries_there most value some None = λ e. cc
+entries_there most value some (Some members) =
+    two_there (nat_lt most (member_count members)) (are_entries value members) kind.TooMany kind.Content _ (λ e. cc) (λ e. cc)
+
+valid_there : (state : FlatState) (violation : Option Refusal) → IsThere (valid_state state violation)
+valid_there state None = tt
+valid_there state (Some refusal) = λ e. cc
+
+state_there : (r : Result (FinMap nat_cmp ℕ) Cause) → IsThere r → IsThere (state_of r)
+state_there (Ok cells) is = valid_there (unmarked cells) (flat_violation (unmarked cells))
+state_there (Err cause) is = is
+
+cells_there : (part : Data) → IsThere (cells_said part)
+unfolding cells_said
+cells_there part = state_there (entries_in row_limit natural_of 0 (as_object part)) (entries_there row_limit natural_of 0 (as_object part))
+
+edit_there : (r : Result (FinMap nat_cmp (Option ℕ)) Cause) → IsThere r → IsThere (edit_of r)
+edit_there (Ok changes) is = tt
+edit_there (Err cause) is = is
+
+changes_there : (part : Data) → IsThere (changes_said part)
+unfolding changes_said
+changes_there part = edit_there (entries_in node_limit change_of None (as_object part)) (entries_there node_limit change_of None (as_object part))
+
+checked_there : (rows : Rows) (marked : Bool) (violation : Option Refusal) → IsThere (valid_rows rows marked violation)
+checked_there rows true violation = λ e. cc
+checked_there rows false None = tt
+checked_there rows false (Some refusal) = λ e. cc
+
+rows_there : (tree : SchemaTree) (r : Result Rows JsonFault) → IsThere (rows_from tree r)
+rows_there tree (Ok rows) = checked_there rows (holds_marks rows) (violation_told tree rows)
+rows_there tree (Err (Bad k path)) = λ e. cc
+rows_there tree (Err TooManyRows) = λ e. cc
+rows_there tree (Err NotJson) = λ e. cc
+rows_there tree (Err NoMemory) = λ e. cc
+
+data_there : (tree : SchemaTree) (part : Data) → IsThere (data_said tree part)
+unfolding data_said
+data_there tree part = rows_there tree (config_read tree part)
+
+cause_there : (tag : Tag) (refusal : Refusal) → (edit_cause_by tag refusal).kind ≡ kind.Missing → ⊥
+cause_there InUse refusal e = cc
+cause_there InvalidValue refusal e = cc
+cause_there LockDenied refusal e = cc
+cause_there AccessDenied refusal e = cc
+cause_there DataExists refusal e = cc
+cause_there DataMissing refusal e = cc
+cause_there OperationFailed refusal e = cc
+cause_there ResourceDenied refusal e = cc
+cause_there UnknownElement refusal e = cc
+cause_there BadAttribute refusal e = cc
+cause_there MissingElement refusal e = cc
+
+from_there : (r : Result (List EditNode) Refusal) → IsThere (nodes_from r)
+from_there (Ok nodes) = tt
+from_there (Err refusal) = cause_there refusal.tag refusal
+
+nodes_there : (tree : SchemaTree) (part : Data) → IsThere (nodes_said tree part)
+unfolding nodes_said
+nodes_there tree part = from_there (edit_read tree part)
+
+user_there : (o : Option (List ℕ)) → IsThere (user_in o)
+user_there None = λ e. cc
+user_there (Some name) =
+    two_there (bytes_eq name manager) (nat_le 1 (length name) && nat_le (length name) user_limit) kind.BadValue kind.BadValue name (λ e. cc) (λ e. cc)
+
+user_in_order : InOrder user
+unfolding user_said
+user_in_order = leaf_in_order _ (λ part. user_there (as_str part))
+
+contents_there : (o : Option (List ℕ)) → IsThere (contents_in o)
+contents_there None = λ e. cc
+contents_there (Some word) = one_there (bytes_eq word (codes "flat") || bytes_eq word (codes "yang")) kind.BadValue tt (λ e. cc)
+
+contents_in_order : InOrder contents
+unfolding contents_said
+contents_in_order = leaf_in_order _ (λ part. contents_there (as_str part))
+
+read_there : (text : List ℕ) (r : Result Tree TextFault) → IsThere (module_read text r)
+read_there text (Ok tree) = tt
+read_there text (Err fault) = λ e. cc
+
+module_there : (o : Option (List ℕ)) → IsThere (module_in o)
+module_there None = λ e. cc
+module_there (Some text) = read_there text (reading text)
+
+text_in_order : InOrder (leaf module_said)
+unfolding module_said
+text_in_order = leaf_in_order _ (λ part. module_there (as_str part))
+
+-- ---- tables
+
+modules_in_order : InOrder modules_form
+unfolding modules_form
+modules_in_order = list_in_order _ _ _ _ (λ n. text_in_order)
+
+chosen_in_order : {A : Type 0} (test : Bool) (this other : Form A) → InOrder this → InOrder other → InOrder (chosen test this other)
+chosen_in_order true this other order also = order
+chosen_in_order false this other order also = also
+
+head_in_order : InOrder head_form
+unfolding head_form
+head_in_order =
+    by_in_order _ (λ whole. chosen_in_order (has_word (codes "contents") (codes "yang") whole) _ _
+    (object_in_order _ _ _ (member_in_order _ _ _ _ (number_in_order _ _) (member_in_order _ _ _ _ contents_in_order
+    (member_in_order _ _ _ _ modules_in_order (no_more_named _)))))
+    (chosen_in_order (has_word (codes "contents") (codes "flat") whole) _ _
+    (object_in_order _ _ _ (member_in_order _ _ _ _ (number_in_order _ _) (member_in_order _ _ _ _ contents_in_order
+    (member_in_order _ _ _ _ (nothing_in_order kind.BadValue (λ e. cc)) (no_more_named _)))))
+    (object_in_order _ _ _ (member_in_order _ _ _ _ (number_in_order _ _) (member_in_order _ _ _ _ contents_in_order (no_more_named _))))))
+
+operators_in_order : InOrder operators_form
+unfolding operators_form
+operators_in_order =
+    list_in_order _ _ _ _ (λ n. object_in_order _ _ _ (member_in_order _ _ _ _ user_in_order
+    (member_in_order _ _ _ _ (nothing_in_order kind.NotBuilt (λ e. cc)) (no_more_named _))))
+
+devices_in_order : {C : Type 0} (config : Data → Result C Cause) → ((part : Data) → IsThere (config part)) → InOrder (devices_form config)
+unfolding devices_form
+devices_in_order config there = list_in_order _ _ _ _ (λ n. object_in_order _ _ _ (member_in_order _ _ _ _ (leaf_in_order config there) (no_more_named _)))
+
+edits_in_order : {E : Type 0} (edit : Form E) → InOrder edit → (devices : ℕ) → InOrder (edits_form edit devices)
+unfolding edits_form
+edits_in_order edit order devices =
+    by_in_order _ (λ whole. list_in_order _ _ _ _ (λ n. object_in_order _ _ _ (member_in_order _ _ _ _ (above_in_order _ _)
+    (member_in_order _ _ _ _ operation_in_order (member_in_order _ _ _ _ order (no_more_named _))))))
+
+changes_in_order : {E : Type 0} (edit : Form E) → InOrder edit → (devices : ℕ) → InOrder (changes_form edit devices)
+unfolding changes_form
+changes_in_order edit order devices =
+    list_in_order _ _ _ _ (λ n. object_in_order _ _ _ (member_in_order _ _ _ _ (number_in_order _ _)
+    (member_in_order _ _ _ _ (edits_in_order edit order devices) (no_more_named _))))
+
+members_in_order : {C E : Type 0} (config : Data → Result C Cause) (edit : Data → Result E Cause) → ((part : Data) → IsThere (config part))
+    → ((part : Data) → IsThere (edit part)) → InOrder (members_form config edit)
+unfolding members_form
+members_in_order config edit configs edits =
+    by_in_order _ (λ whole. object_in_order _ _ _ (member_in_order _ _ _ _ (devices_in_order config configs)
+    (member_in_order _ _ _ _ (changes_in_order (leaf edit) (leaf_in_order edit edits) (count_in (codes "devices") whole))
+    (member_in_order _ _ _ _ operators_in_order
+    (member_in_order _ _ _ _ (nothing_in_order kind.NotBuilt (λ e. cc))
+    (member_in_order _ _ _ _ (events_in_order (leaf edit) (leaf_in_order edit edits) (counts_of whole))
+    (member_in_order _ _ _ _ switch_in_order (member_in_order _ _ _ _ switch_in_order (no_more_named _)))))))))
+
+-- ---- modules
+
 item_there : (items : Items) (n : ℕ) → n < count_of items → get_item n items ≡ None → ⊥
 item_there no_items n less e = omega arith
 item_there (item part rest) zero less e = cc
@@ -57,124 +240,6 @@ at_there (number m) n less e = omega arith
 at_there (string text) n less e = omega arith
 at_there (object m) n less e = omega arith
 
--- ---- events
-
-tested_there : (a b : Bool) (x : FlatEdit) → IsThere (cond a (Err (plain kind.TooMany)) (cond b (Ok x) (Err (plain kind.Content))))
-tested_there true b x = λ e. cc
-tested_there false true x = tt
-tested_there false false x = λ e. cc
-
-edit_there : (o : Option Members) → IsThere (flat_edit_of o)
-edit_there None = λ e. cc
-edit_there (Some members) = tested_there (nat_lt node_limit (member_count members)) (all_members is_change members) _
-
-flat_edit_in_order : InOrder flat_edit
-unfolding flat_edit_said
-flat_edit_in_order = leaf_in_order _ (λ whole. edit_there (as_object whole))
-
-cause_there : (tag : Tag) → (edit_cause tag).kind ≡ kind.Missing → ⊥
-cause_there InUse e = cc
-cause_there InvalidValue e = cc
-cause_there LockDenied e = cc
-cause_there AccessDenied e = cc
-cause_there DataExists e = cc
-cause_there DataMissing e = cc
-cause_there OperationFailed e = cc
-cause_there ResourceDenied e = cc
-cause_there UnknownElement e = cc
-cause_there BadAttribute e = cc
-cause_there MissingElement e = cc
-
-data_there : (r : Result (List EditNode) Refusal) → IsThere (edit_from r)
-data_there (Ok nodes) = tt
-data_there (Err refusal) = cause_there refusal.tag
-
-data_edit_in_order : (tree : SchemaTree) → InOrder (data_edit tree)
-unfolding data_edit_said
-data_edit_in_order tree = leaf_in_order _ (λ whole. data_there (edit_read tree whole))
-
--- the first fault of events has a place
-events_placed_so : (contents : Contents) (counts : Counts) (part : Data) (fault : Fault) → OfEvents contents counts part fault
-    → IsPlace fault.cause.kind fault.place part
-events_placed_so cells counts part fault is =
-    events_placed flat_edit flat_edit_in_order counts part fault.cause fault.place (is.spot, is.there)
-events_placed_so (data_of tree) counts part fault is =
-    events_placed (data_edit tree) (data_edit_in_order tree) counts part fault.cause fault.place (is.spot, is.there)
-
-first_there : (k : ScenarioKind) (place : List Step) (part : Data) → IsPlace k place part → (k ≡ kind.Missing → ⊥) → is_some (walked place part) ≡ true
-first_there k place part (inl is) known = is.1
-first_there k place part (inr is) known = absurd (known is.0)
-
-first_lacks : (k : ScenarioKind) (place : List Step) (part : Data) → IsPlace k place part → k ≡ kind.Missing → LacksMember part place
-first_lacks k place part (inl is) missed = absurd (is.0 missed)
-first_lacks k place part (inr is) missed = is.1
-
--- ---- all parts
-
--- where a member isn't missing, the part is there
-pub place_there : {r : Role} {part : Data} {k : ScenarioKind} {place : List Step} → Tells r part k place → (k ≡ kind.Missing → ⊥) → is_some (walked place part) ≡ true
-place_there (here w) known = refl
-place_there (missing l) known = absurd (known refl)
-place_there (unknown {part = part} {name = name} s) known = ap (λ o. is_some (option_and_then (walked []) o)) (get_in part name s.members s.object_is ∙ s.there)
-place_there (in_events {contents = contents} {counts = counts} {part = part} fault is) known = first_there fault.cause.kind fault.place part (events_placed_so contents counts part fault is) known
-place_there (inside {step = step} {place = place} inner child below there t) known = ap (λ o. is_some (option_and_then (walked place) o)) there ∙ place_there t known
-
--- kinds of faults that are told of a part itself
-abbrev is_own : ScenarioKind → Bool
-is_own kind.Missing = false
-is_own _ = true
-
-own : {r : Role} {k : ScenarioKind} {part : Data} → Wrong r k part → is_own k ≡ true
-own (wrong.no_object a b) = refl
-own (wrong.no_list a b) = refl
-own (wrong.no_item a b) = refl
-own (wrong.no_number a) = refl
-own (wrong.no_switch a) = refl
-own (wrong.no_form a) = refl
-own (wrong.no_text a) = refl
-own (wrong.no_operation a) = refl
-own (wrong.no_user a) = refl
-own (wrong.some_module a) = refl
-own (wrong.too_many_items limit a b) = refl
-own (wrong.too_many_cells ms a b) = refl
-own (wrong.too_many_nodes ms a b) = refl
-own (wrong.too_many_named refusal a b) = refl
-own (wrong.too_many_rows a) = refl
-own (wrong.no_module text fault a b) = refl
-own (wrong.no_cells a) = refl
-own (wrong.no_edit a) = refl
-own (wrong.no_data_edit refusal a) = refl
-own (wrong.no_data k path a) = refl
-own (wrong.invalid found refusal a b) = refl
-own (wrong.marked_data rows a b) = refl
-own (wrong.invalid_data rows refusal a b) = refl
-own (wrong.unbuilt_list a) = refl
-
--- what lacks a member one step further in
-below_lacks : (part child : Data) (step : Step) (place : List Step) → stepped step part ≡ Some child → LacksMember child place → LacksMember part (step ∷ place)
-below_lacks part child step place there l =
-    record {
-      above = step ∷ l.above;
-      name = l.name;
-      place_is = ap (λ p. step ∷ p) l.place_is;
-      part = l.part;
-      part_is = ap (option_and_then (walked l.above)) there ∙ l.part_is;
-      members = l.members;
-      object_is = l.object_is;
-      absent = l.absent;
-    }
-
--- where a member is missing, the object is there and doesn't have it
-pub member_lacks : {r : Role} {part : Data} {k : ScenarioKind} {place : List Step} → Tells r part k place → k ≡ kind.Missing → LacksMember part place
-member_lacks (here w) is = let t : is_own kind.Missing ≡ true = subst (λ m. is_own m ≡ true) is (own w) in cc
-member_lacks (missing {part = part} {name = name} l) is =
-    record { above = []; name = name; place_is = refl; part = part; part_is = refl; members = l.members; object_is = l.object_is; absent = l.absent }
-member_lacks (unknown s) is = cc
-member_lacks (in_events {contents = contents} {counts = counts} {part = part} fault first) is = first_lacks fault.cause.kind fault.place part (events_placed_so contents counts part fault first) is
-member_lacks (inside {part = part} {step = step} {place = place} inner child below there t) is = below_lacks part child step place there (member_lacks t is)
-
--- ---- whole scenarios
-
 some_there : {A : Type 0} (found : Option A) → (found ≡ None → ⊥) → is_some found ≡ true
 some_there None there = absurd (there refl)
 some_there (Some x) there = refl
@@ -183,29 +248,52 @@ walked_one : (found : Option Data) → is_some (option_and_then (walked []) foun
 walked_one None = refl
 walked_one (Some part) = refl
 
-modules_count : (part : Data) (modules : List ReadModule) → modules_at part ≡ Ok modules → length modules ≡ item_count part
-unfolding modules_at
-modules_count part modules e = let l : Listed part module_limit modules = list_read part module_limit module_at modules e in l.count
+part_there : (found : Option Data) (m : ℕ) → m < items_of found → is_some (option_and_then (walked (Item m ∷ [])) found) ≡ true
+part_there None m less = absurd (omega (arith, less))
+part_there (Some part) m less = walked_one (at m part) ∙ some_there (at m part) (at_there part m less)
 
-under_ok : {A : Type 0} (name : List ℕ) (read : Result A Fault) (x : A) → under (Name name) read ≡ Ok x → read ≡ Ok x
-under_ok name (Ok y) x e = e
-under_ok name (Err fault) x e = cc
+cause_known : (fault : SchemaFault) → (module_cause fault).kind ≡ kind.Missing → ⊥
+cause_known (Flawed flaw m place) e = cc
+cause_known (TooLarge m place) e = cc
 
-module_there : (found : Option Data) (modules : List ReadModule) (m : ℕ) → optional_from (codes "modules") [] modules_at found ≡ Ok modules → m < length modules → is_some (option_and_then (walked (Item m ∷ [])) found) ≡ true
-module_there None modules m e less = let same : [] ≡ modules = cc in absurd (omega (arith, less, ap length same))
-module_there (Some part) modules m e less =
-    let read : modules_at part ≡ Ok modules = under_ok (codes "modules") (modules_at part) modules e in
-    walked_one (at m part) ∙ some_there (at m part) (at_there part m (omega (arith, less, modules_count part modules read)))
+module_placed : (whole : Data) (modules : List ReadModule) (fault : SchemaFault) (cause : Cause) (place : List Step) (spot : List ℕ)
+    → Says head_form whole (head.Yang modules) → built_of (statements_of modules) ≡ Err fault → WrongModule fault cause place spot → IsPlace cause.kind place whole
+module_placed whole modules fault cause place spot says given wrong =
+    let less : module_of fault < count_in (codes "modules") whole =
+    omega (arith, fault_in_module (statements_of modules) fault given, length-map modules statement_of, count_modules whole modules says) in
+    let placed_so : IsPlace (module_cause fault).kind (Name (codes "modules") ∷ Item (module_of fault) ∷ []) whole =
+    inl (cause_known fault, part_there (get (codes "modules") whole) (module_of fault) less) in
+    rw (wrong.cause_is, wrong.place_is) placed_so
 
--- where a member isn't missing, the part is there
-pub whole_there : (whole : Data) (k : ScenarioKind) (place : List Step) → TellsWhole whole k place → (k ≡ kind.Missing → ⊥) → is_some (walked place whole) ≡ true
-whole_there whole k place (in_part frame is t) known = place_there t known
-whole_there whole k place (in_module fault is g) known =
-    let b = both (optional (codes "modules") [] modules_at whole) (λ modules. Ok (built_of (statements_of modules))) (Err fault) g in
-    let given : built_of (statements_of b.value) ≡ Err fault = cc in
-    module_there (get (codes "modules") whole) b.value (module_of_fault fault) b.first (omega (arith, fault_in_module (statements_of b.value) fault given, length-map b.value statement_of))
+-- ---- the whole
 
--- where a member is missing, the object is there and doesn't have it
-pub whole_lacks : (whole : Data) (k : ScenarioKind) (place : List Step) → TellsWhole whole k place → k ≡ kind.Missing → LacksMember whole place
-whole_lacks whole k place (in_part frame is t) missed = member_lacks t missed
-whole_lacks whole k place (in_module fault is g) missed = cc
+built_placed : (whole : Data) (modules : List ReadModule) (given : Result SchemaTree SchemaFault) → Says head_form whole (head.Yang modules)
+    → built_of (statements_of modules) ≡ given → (cause : Cause) (place : List Step) (spot : List ℕ) → WrongBuilt given whole cause place spot → IsPlace cause.kind place whole
+unfolding WrongBuilt
+built_placed whole modules (Ok tree) says e cause place spot wrong =
+    placed (members_form (data_said tree) (nodes_said tree)) whole (members_in_order (data_said tree) (nodes_said tree) (data_there tree) (nodes_there tree)) cause place spot wrong
+built_placed whole modules (Err fault) says e cause place spot wrong = module_placed whole modules fault cause place spot says e wrong
+
+after_placed : (whole : Data) (h : Head) → Says head_form whole h → (cause : Cause) (place : List Step) (spot : List ℕ) → WrongAfter h whole cause place spot
+    → IsPlace cause.kind place whole
+unfolding WrongAfter
+after_placed whole head.Flat says cause place spot wrong =
+    placed (members_form cells_said changes_said) whole (members_in_order cells_said changes_said cells_there changes_there) cause place spot wrong
+after_placed whole (head.Yang modules) says cause place spot wrong =
+    built_placed whole modules (built_of (statements_of modules)) says refl cause place spot wrong
+
+wrong_placed : (whole : Data) (cause : Cause) (place : List Step) (spot : List ℕ) → WrongScenario whole cause place spot → IsPlace cause.kind place whole
+wrong_placed whole cause place spot (inl is) = placed head_form whole head_in_order cause place spot is
+wrong_placed whole cause place spot (inr is) = after_placed whole is.head is.says cause place spot is.wrong
+
+-- a fault of a scenario has a place there
+pub whole_placed : (whole : Data) (cause : Cause) (place : List Step) → Somewhere (WrongScenario whole) cause place → IsPlace cause.kind place whole
+whole_placed whole cause place wrong = wrong_placed whole cause place wrong.0 wrong.1
+
+found_placed : (found : Result Data Cause) (fault : Fault) → IsFirst (WrongValue found) fault → IsPlacedIn found fault
+unfolding WrongValue
+found_placed (Ok whole) fault is = whole_placed whole fault.cause fault.place (is.spot, is.there)
+found_placed (Err cause) fault is = let wrong : WrongWhole cause fault.cause fault.place is.spot = is.there in wrong.place_is
+
+pub bytes_placed : (bytes : List ℕ) (fault : Fault) → IsFirst (WrongBytes bytes) fault → IsPlaced bytes fault
+bytes_placed bytes fault is = found_placed (whole_of bytes) fault is

@@ -1,5 +1,5 @@
 -- What is read of texts that differ in the order of members.
-use Rattle.std.proofs.Common.{◌≡◌, ℕ, ◌≤◌, List, length, true, false, cond, Option, Some, None, option_map, option_and_then, Ordering, Less, Equal, Greater, refl, ap, sym, ◌∙◌, arith}
+use Rattle.std.proofs.Common.{◌≡◌, ℕ, ◌≤◌, List, length, true, false, cond, Option, Some, None, option_map, option_and_then, Result, Ok, Err, Ordering, Less, Equal, Greater, refl, ap, sym, subst, ◌∙◌, arith}
 use Rattle.std.specs.Prelude.{nat_lt}
 use Rattle.std.specs.Str.{is_utf8}
 use Rattle.std.specs.Ordering.{nat_cmp, ordering_reverse, is_eq}
@@ -12,8 +12,11 @@ use Rattle.json.specs.Json as json
 use Rattle.serde_json.specs.Data.{Data, array, object, Items, item, Members, no_members, member, put}
 use Rattle.serde_json.specs.Read.{of_json, of_items, of_members, read}
 use Rattle.nm_proto.specs.declared.kind.ScenarioKind.TheVariants as kind
-use Rattle.nm_scenario_parts.specs.Reading.{◌>>=◌, here}
-use Rattle.nm_scenario.specs.Scenario.{byte_limit, json_of, parsed, whole_of, scenario_at, bytes_read}
+use Rattle.nm_scenario_parts.specs.declared.fault.Fault.{Fault}
+use Rattle.nm_scenario_parts.specs.Reading.{plain}
+use Rattle.nm_scenario_form.specs.Order.{IsFirst}
+use Rattle.nm_scenario.specs.declared.scenario.Scenario.{Scenario}
+use Rattle.nm_scenario.specs.Scenario.{byte_limit, json_of, parsed, whole_of, SaysValue, WrongValue, ReadsBytes}
 use Rattle.nm_refusals.specs.Order.{spelled, Reordered, ReorderedItems, ReorderedMembers, same, in_array, in_object, no_more, another, as_before, neighbours, within, further, Spells}
 
 -- ---- two members of different names are put in either order
@@ -102,11 +105,12 @@ short bytes fits = grind (arith, nat_tests)
 
 whole_is : (bytes : List ℕ) → is_utf8 bytes ≡ true → length bytes ≤ byte_limit → whole_of bytes ≡ parsed (read bytes)
 unfolding whole_of
-whole_is bytes utf8 fits = ap (λ b. cond b (here kind.TooLong) (parsed (json_of bytes))) (short bytes fits) ∙ ap parsed (json_of_is bytes utf8)
+whole_is bytes utf8 fits = ap (λ b. cond b (Err (plain kind.TooLong)) (parsed (json_of bytes))) (short bytes fits) ∙ ap parsed (json_of_is bytes utf8)
 
 whole_same : (one other : List ℕ) (value second : json.Json) → Spells one value → Spells other second → Reordered value second → whole_of one ≡ whole_of other
 whole_same one other value second s t r = whole_is one s.utf8 s.within ∙ (ap parsed (read_same one other value second s.is t.is r) ∙ sym (whole_is other t.utf8 t.within))
 
-pub outcome_same : (one other : List ℕ) (value second : json.Json) → Spells one value → Spells other second → Reordered value second → bytes_read one ≡ bytes_read other
-unfolding bytes_read
-outcome_same one other value second s t r = ap (λ whole. whole >>= scenario_at) (whole_same one other value second s t r)
+pub outcome_same : (one other : List ℕ) (value second : json.Json) → Spells one value → Spells other second → Reordered value second
+    → (outcome : Result Scenario Fault) → ReadsBytes one outcome → ReadsBytes other outcome
+outcome_same one other value second s t r (Ok scenario) says = subst (λ found. SaysValue found scenario) (whole_same one other value second s t r) says
+outcome_same one other value second s t r (Err fault) first = subst (λ found. IsFirst (WrongValue found) fault) (whole_same one other value second s t r) first

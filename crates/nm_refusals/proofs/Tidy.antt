@@ -13,7 +13,7 @@ use Rattle.nm_scenario_parts.specs.declared.fault.Step.{Step}
 use Rattle.nm_scenario_parts.specs.declared.fault.Step.TheVariants.{Name, Item}
 use Rattle.nm_scenario.specs.Scenario.{json_of}
 use Rattle.nm_scenario_form.specs.Places.{stepped, walked}
-use Rattle.nm_refusals.specs.Told.{AllAbove, Ascending}
+use Rattle.nm_refusals.specs.Order.{AllAbove, Ascending}
 
 mutual
   -- the members of all objects ascend

@@ -1,11 +1,13 @@
 -- What holds of every scenario that was read (this project's own): no count is outside its limits, and no number of a change set, a
--- device, an operator or a turn; and operators open sessions of their own users.
-use Rattle.std.specs.Prelude.{◌≡◌, ℕ, ◌-◌, ◌^◌, ◌≤◌, ◌<◌, List, [], ◌∷◌, length, map, slice_get, true, false, Some, None}
+-- device, an operator, a turn, an edit or a selection; and operators open sessions of their own users.
+use Rattle.std.specs.Prelude.{◌≡◌, ℕ, ◌-◌, ◌^◌, ◌≤◌, ◌<◌, List, [], ◌∷◌, length, map, slice_get, true, false, not, ◌&&◌, nat_le, Some, None}
+use Rattle.std.specs.Str.{bytes_eq}
 use Rattle.std.specs.List.{All, sum_by}
 use Rattle.std.specs.FinMap.{empty, len}
+use Rattle.nm_base.specs.Words.{manager}
 use Rattle.nm_proto.specs.declared.flat.FlatEdit.{FlatEdit}
 use Rattle.nm_proto.specs.declared.message.Request.{Request}
-use Rattle.nm_proto.specs.declared.message.Request.TheVariants.{OpenSession}
+use Rattle.nm_proto.specs.declared.message.Request.TheVariants.{OpenSession, PartialLock, Edit}
 use Rattle.nm_proto.specs.declared.plan.Event.{Event}
 use Rattle.nm_proto.specs.declared.plan.Event.TheVariants.{Foreign}
 use Rattle.nm_proto.specs.declared.plan.ChangePlan.{ChangePlan}
@@ -27,8 +29,8 @@ use Rattle.nm_scenario.specs.declared.scenario.Body.TheVariants.{Flat, Yang}
 use Rattle.nm_scenario.specs.declared.scenario.Scenario.{Scenario}
 use Rattle.nm_scenario.specs.Flat.{row_limit, node_limit}
 use Rattle.nm_scenario.specs.Head.{module_limit}
+use Rattle.nm_scenario.specs.Operators.{user_limit}
 use Rattle.nm_scenario.specs.Yang.{holds_marks}
-use Rattle.nm_refusals.specs.Wrong.{is_user}
 
 -- ---- contents
 
@@ -66,6 +68,11 @@ abbrev pub devices_in : Body → ℕ
 devices_in (Flat devices edits) = length devices
 devices_in (Yang modules tree devices edits) = length devices
 
+-- and how many edits
+abbrev pub edits_in : Body → ℕ
+edits_in (Flat devices edits) = length edits
+edits_in (Yang modules tree devices edits) = length edits
+
 abbrev pub BodyKeeps : Body → Type 0
 BodyKeeps (Flat devices edits) = All StateKeeps devices × All EditKeeps edits
 BodyKeeps (Yang modules tree devices edits) = DataAreKept modules tree devices edits
@@ -88,9 +95,9 @@ pub record ChangeKeeps (devices : ℕ) (change : ChangePlan) : Type 0 where
 
 -- ---- the whole
 
--- a user's name that may stand in a scenario
+-- a user's name that may stand in a scenario: one to 64 bytes, and not the manager's
 abbrev pub UserKeeps : List ℕ → Type 0
-UserKeeps name = is_user (Some name) ≡ true
+UserKeeps name = (not (bytes_eq name manager) && (nat_le 1 (length name) && nat_le (length name) user_limit)) ≡ true
 
 -- a request of an operator, of those with these users, opens a session of that operator's user alone
 abbrev pub IsOwnOpening : List (List ℕ) → ℕ → Request → Type 0
@@ -101,6 +108,21 @@ IsOwnOpening users operator _ = Unit {0}
 abbrev pub OpensOwn : List (List ℕ) → Event → Type 0
 OpensOwn users (Foreign operator device request) = IsOwnOpening users operator request
 OpensOwn users _ = Unit {0}
+
+-- a request names an edit and a selection that there are, if it names any
+abbrev pub RequestNames : ℕ → ℕ → Request → Type 0
+RequestNames edits selects (Edit edit operation marks) = edit.0 < edits
+RequestNames edits selects (PartialLock select) = select.0 < selects
+RequestNames edits selects _ = Unit {0}
+
+-- so does an event, if an operator asks in it
+abbrev pub EventNames : ℕ → ℕ → Event → Type 0
+EventNames edits selects (Foreign operator device request) = RequestNames edits selects request
+EventNames edits selects _ = Unit {0}
+
+-- so do the edits of a change set
+abbrev pub PlanNames : ℕ → ChangePlan → Type 0
+PlanNames edits change = All (λ planned. planned.edit.0 < edits) change.edits
 
 -- how many change sets, devices and operators there are
 abbrev pub counts_in : Scenario → Counts
@@ -117,3 +139,5 @@ pub record ScenarioKeeps (scenario : Scenario) : Type 0 where
   pub event_count : sum_by weight scenario.events ≤ event_limit
   pub events : All (EventKeeps (counts_in scenario)) scenario.events
   pub openings : All (OpensOwn scenario.operators) scenario.events
+  pub planned : All (PlanNames (edits_in scenario.body)) scenario.changes
+  pub named : All (EventNames (edits_in scenario.body) (length scenario.selects)) scenario.events

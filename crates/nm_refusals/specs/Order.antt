@@ -1,5 +1,9 @@
 -- JSON texts that differ in the order of the members of objects (RFC 8259 section 4).
 use Rattle.std.specs.Prelude.{◌≡◌, ◌≤◌, ℕ, List, length, true, Option, Some, option_and_then}
+use Rattle.std.specs.Ordering.{nat_cmp}
+use Rattle.std.specs.Cmp.Lexicographic.{slice_cmp}
+use Rattle.std.specs.declared.cmp.Ordering.TheVariants.{Less}
+use Rattle.serde_json.specs.Data.{Members, no_members, member}
 use Rattle.std.specs.Str.{is_utf8}
 use Rattle.json.specs.Lex.{tokens}
 use Rattle.json.specs.Json as json
@@ -34,3 +38,14 @@ pub record Spells (bytes : List ℕ) (value : json.Json) : Type 0 where
   pub utf8 : is_utf8 bytes ≡ true
   pub within : length bytes ≤ byte_limit
   pub is : spelled bytes ≡ Some value
+
+-- ---- members as they are read
+
+-- names of members ascend in the order of their bytes
+abbrev pub AllAbove : List ℕ → Members → Type 0
+AllAbove name no_members = Unit {0}
+AllAbove name (member other part rest) = (slice_cmp nat_cmp name other ≡ Less) × AllAbove name rest
+
+abbrev pub Ascending : Members → Type 0
+Ascending no_members = Unit {0}
+Ascending (member name part rest) = AllAbove name rest × Ascending rest

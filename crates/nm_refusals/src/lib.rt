@@ -1,9 +1,8 @@
-//! What is told of a scenario that is refused, and what holds of one that is read.
+//! What holds of a scenario that is read, and of the faults of one that isn't.
 //!
-//! Stands on `nm_scenario`, which reads the scenario of bytes or its first fault. The layer above may rely on it that the place
-//! of a fault leads to a part of the scenario, that its kind says what is wrong with that part (`specs/Told.antt`), that a
-//! scenario which is read is within all limits (`specs/Kept.antt`), and that the order of the members of objects changes
-//! nothing (`specs/Order.antt`).
+//! Stands on `nm_scenario`, which reads the scenario of bytes or their first fault. The layer above may rely on it that the place
+//! of a fault leads to a part of the scenario (`specs/Placed.antt`), that a scenario which is read is within all limits
+//! (`specs/Kept.antt`), and that the order of the members of objects changes nothing (`specs/Order.antt`).
 #![tactic(auto)]
 
 pub mod laws;

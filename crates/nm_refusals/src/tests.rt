@@ -53,7 +53,8 @@ fn faults_are_told(rt: HostRuntime) -> Result<(), Fail> {
 // The laws are functions that do nothing.
 #[test]
 fn laws_do_nothing() {
-    laws::kind_by_its_line();
+    nm_scenario::laws::bytes_are_exact();
+    nm_scenario::laws::scenarios_are_exact();
     laws::place_is_a_part();
     laws::limits_kept();
     laws::order_of_members();

@@ -26,7 +26,7 @@ fn kind_of(alloc: Global, shape: Shape) -> Result<NodeKind, NoMemory> {
                 alloc,
                 LeafType {
                     kind: TypeKind::Boolean,
-                    limits: Vec::new(alloc),
+                    limits: None,
                 },
             )?,
             default: None,

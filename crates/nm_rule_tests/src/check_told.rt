@@ -280,7 +280,7 @@ fn leaf_of(alloc: Global, case: usize, name: &str) -> Result<Node, NoMemory>
                 alloc,
                 LeafType {
                     kind: TypeKind::Boolean,
-                    limits: Vec::new(alloc),
+                    limits: None,
                 },
             )?,
             default: None,

@@ -15,7 +15,7 @@ use Rattle.nm_rules.specs.declared.rule.Rule.{Rule}
 use Rattle.nm_rules.specs.Violation.{Violation, violation}
 
 abbrev pub leaf_node : List ℕ → ℕ → Kind → Option Value → Node
-leaf_node name c k d = record { parent = Some 0; case_in = Some c; «module» = codes "ez"; name = name; kind = Leaf (record { kind = k; limits = [] }) d false None }
+leaf_node name c k d = record { parent = Some 0; case_in = Some c; «module» = codes "ez"; name = name; kind = Leaf (record { kind = k; limits = None }) d false None }
 
 -- container addr { choice how { mandatory true; case fixed { leaf ip { type string; } leaf len { type uint8; default 24; } } leaf dhcp { type empty; } } }
 unfoldable pub sample_tree : SchemaTree
@@ -55,7 +55,7 @@ abbrev pub node_in : Option ℕ → List ℕ → NodeKind → Node
 node_in parent name k = record { parent = parent; case_in = None; «module» = codes "ex"; name = name; kind = k }
 
 abbrev pub text_leaf : Option Reference → NodeKind
-text_leaf to = Leaf (record { kind = string; limits = [] }) None false to
+text_leaf to = Leaf (record { kind = string; limits = None }) None false to
 
 -- container sys { leaf uplink { type leafref { path "../iface/name"; } } list iface { key name; unique address; leaf name { type string; } leaf address { type string; } } }
 unfoldable pub listed_tree : SchemaTree
@@ -94,7 +94,7 @@ doubled_rows = (iface (codes "a"), Present) ∷ (address_of (codes "a"), Text (c
 
 -- a leaf of texts
 abbrev pub leaf_with : Option Value → Bool → NodeKind
-leaf_with d mandatory = Leaf (record { kind = string; limits = [] }) d mandatory None
+leaf_with d mandatory = Leaf (record { kind = string; limits = None }) d mandatory None
 
 -- container box { presence p; container inner { leaf must { type string; mandatory true; } } leaf ref { type leafref { path "../srv/port"; } }
 --     list srv { key id; unique port; min-elements 2; leaf id { type string; } leaf port { type string; default "22"; } } }

@@ -9,6 +9,7 @@ use Rattle.nm_scenario_parts.specs.declared.fault.Fault.{Fault}
 use Rattle.nm_scenario_parts.specs.declared.fault.ReadError.{ReadError}
 use Rattle.nm_scenario_parts.specs.declared.fault.ReadError.TheVariants.{Bad}
 use Rattle.nm_scenario_parts.specs.Reading.{Gives, here}
+use Rattle.nm_scenario_form.specs.Read.{told}
 use Rattle.nm_scenario.specs.Scenario.{json_of, parsed}
 
 pub json_some : (bytes : List ℕ) (d : Data) → IsUtf8 bytes → read bytes ≡ Some d → json_of bytes ≡ Some d
@@ -26,6 +27,8 @@ moved : {A : Type 0} → Result A Fault → Result Data Fault
 moved (Ok x) = here NotJson
 moved (Err fault) = Err fault
 
-pub told_of_bytes : {A : Type 0} (bytes : List ℕ) (fault : Fault) (result : Result A ReadError) → json_of bytes ≡ None → result ≡ Err (Bad fault) → Gives result (here NotJson) → parsed (json_of bytes) ≡ Err fault
+pub told_of_bytes : {A : Type 0} (bytes : List ℕ) (fault : Fault) (result : Result A ReadError) → json_of bytes ≡ None → result ≡ Err (Bad fault)
+    → Gives result (here NotJson) → told {A = Data} (parsed (json_of bytes)) ≡ Err fault
 unfolding moved
-told_of_bytes bytes fault result none e gives = ap parsed none ∙ ap moved (subst (λ r. Gives r (here NotJson)) e gives)
+told_of_bytes bytes fault result none e gives =
+    ap (λ found. told (parsed found)) none ∙ ap moved (subst (λ r. Gives r (here NotJson)) e gives)

@@ -1,4 +1,4 @@
 pub mod Counts
-pub mod Edits
+pub mod Entries
 pub mod Json
-pub mod Single
+pub mod Whole

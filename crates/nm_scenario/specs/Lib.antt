@@ -1,9 +1,13 @@
+pub mod Causes
+pub mod Nothing
 pub mod Flat
-pub mod Devices
 pub mod Yang
+pub mod Counts
+pub mod Devices
 pub mod Changes
 pub mod Operators
-pub mod Counts
 pub mod Head
+pub mod Members
 pub mod Numbered
 pub mod Scenario
+pub mod Reading

@@ -3,7 +3,7 @@ use Rattle.std.specs.Prelude.{List, ◌++◌, length}
 use Rattle.nm_scenario_events.specs.Numbered.{events_from, edits_of_events, selects_of_events}
 use Rattle.nm_scenario.specs.declared.numbering.Numbered.{Numbered}
 use Rattle.nm_scenario.specs.declared.scenario.ReadChange.{ReadChange}
-use Rattle.nm_scenario.specs.declared.rest.Rest.{Rest}
+use Rattle.nm_scenario.specs.declared.members.Rest.{Rest}
 use Rattle.nm_scenario.specs.Changes.{plans_from, edits_of}
 
 -- what was read, once it is numbered

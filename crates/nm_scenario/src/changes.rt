@@ -1,117 +1,116 @@
-ghost use Rattle.std.specs.Prelude.{◌≡◌, ◌-◌, ◌^◌, ◌≤◌, min};
-ghost use Rattle.nm_scenario_parts.specs.Reading.{number_within};
+ghost use Rattle.std.specs.Prelude.{◌≡◌, ◌-◌, ◌^◌, ◌||◌, Some, false, codes, min};
+ghost use Rattle.std.specs.Str.{bytes_eq};
+ghost use Rattle.serde_json.specs.View.{view};
+ghost use Rattle.nm_scenario_form.specs.Form.{leaf};
+ghost use Rattle.nm_scenario_form.specs.Leafs.{above, number};
 ghost use Rattle.nm_scenario_events.specs.Limits.{device_limit};
-ghost use Rattle.nm_scenario.specs.Changes.{knows_change, knows_edit, last_device, device_within, entry_at, entries_at, change_at, changes_read_at};
+ghost use Rattle.nm_scenario.specs.Changes.{above_at, change_form, changes_form, device_in, edit_form, edits_form};
 
+use crate::contents::{Edits, Written};
 use crate::scenario::{ReadChange, ReadEdit};
 use nm_base::{DEFAULT_TIMEOUT, DeviceNo};
 use nm_proto::{DefaultOperation, Listed};
 use nm_scenario_events::Operation;
 use nm_scenario_events::limits::{CHANGE_LIMIT, DEVICE_LIMIT};
-use nm_scenario_form::{ByForm, Reader as FormReader};
-use nm_scenario_parts::reader::{
-    ItemReader, Names, Reader, fault_here, optional_member, read_list, read_object,
-    read_only_known, required_member,
+use nm_scenario_form::{
+    ItemReader, Reader, no_other_names, optional, read_above, read_list, read_number, read_object,
+    required,
 };
-use nm_scenario_parts::values::at_least_one;
-use nm_scenario_parts::{ReadError, ScenarioKind};
+use nm_scenario_parts::ReadError;
+use nm_scenario_parts::reader::KnownNames;
 use serde_json::Value;
 use std::alloc::Global;
+
+/// A device of the scenario above another number.
+#[derive(Drop)]
+struct DeviceAbove {
+    below: u64,
+    devices: usize,
+}
+
+impl Reader for DeviceAbove {
+    type Out = DeviceNo;
+
+    ghost form = { λ r. above r.below (min r.devices device_limit) };
+
+    fn read(&self, alloc: Global, part: &Value) -> Result<DeviceNo, ReadError> {
+        let last = self.devices.min(DEVICE_LIMIT) as u64;
+        let number = read_above(alloc, part, self.below, last)?;
+        Ok(DeviceNo::new(number as u8).unwrap())
+    }
+}
+
+// The device of an item, 0 where it has none.
+fn device_in(part: &Value) -> u64
+    ensures { result ≡ device_in (Some (view part.now)) }
+{
+    match part.get("device") {
+        None => 0,
+        Some(device) => device.as_u64().unwrap_or(0),
+    }
+}
+
+// The device of the item before this one, 0 where there is none.
+fn above_at(whole: &Value, place: usize) -> u64
+    ensures { result ≡ above_at (view whole.now) place }
+{
+    if place == 0 {
+        return 0;
+    }
+    match whole.get(place - 1) {
+        None => 0,
+        Some(part) => device_in(part),
+    }
+}
 
 #[derive(Drop)]
 struct EditNames;
 
-impl Names for EditNames {
-    ghost knows = { λ _. knows_edit };
+impl KnownNames for EditNames {
+    ghost knows = { λ _ name. bytes_eq name (codes "device") || (bytes_eq name (codes "default") || (bytes_eq name (codes "edit") || false)) };
 
     fn knows(&self, name: &str) -> bool {
         name == "device" || name == "default" || name == "edit"
     }
 }
 
-/// A device from the lowest that may come to the last of the scenario.
+/// The member `edits` of a change set, in a scenario of so many devices.
 #[derive(Drop)]
-struct DeviceWithin {
-    low: u64,
-    count: usize,
-    ghost from_one: { 1 ≤ low },
-}
-
-impl Reader for DeviceWithin {
-    type Out = DeviceNo;
-
-    ghost reads = { λ r. device_within r.low r.count };
-
-    #[tactic(auto, unfolding(crate::specs::Changes::device_within))]
-    fn read(&self, alloc: Global, part: &Value) -> Result<DeviceNo, ReadError> {
-        match part.as_u64() {
-            Some(number) if self.low <= number && number <= self.highest() => {
-                match DeviceNo::new(number as u8) {
-                    Some(device) => Ok(device),
-                    None => fault_here(alloc, ScenarioKind::BadValue),
-                }
-            }
-            _ => fault_here(alloc, ScenarioKind::BadValue),
-        }
-    }
-}
-
-impl DeviceWithin {
-    fn highest(&self) -> u64
-        ensures { result ≡ min self.now.count device_limit }
-    {
-        self.count.min(DEVICE_LIMIT) as u64
-    }
-}
-
-fn last_device<E: Drop>(before: &Listed<ReadEdit<E>>) -> u64
-    ensures value { result ≡ last_device before.now }
-    ensures small { result ≤ 32 }
-{
-    match before.as_slice().last() {
-        None => 0,
-        Some(edit) => u64::from(edit.device.get()),
-    }
-}
-
-/// One edit of a change set, in a scenario of so many devices.
-#[derive(Drop)]
-struct Entry<'a, R> {
+struct ChangeEdits<'a, W> {
     devices: usize,
-    edits: &'a R,
+    contents: &'a W,
 }
 
-impl<'a, R: FormReader> ItemReader for Entry<'a, R> {
-    type Out = ReadEdit<R::Out>;
+impl<'a, W: Written> ItemReader for ChangeEdits<'a, W> {
+    type Out = ReadEdit<W::Edit>;
 
-    ghost reads = { λ r. entry_at (R.form r.edits.now) r.devices };
+    ghost form = { λ r whole n. edit_form (leaf (W.edit_said r.contents.now)) (above_at whole n) r.devices };
 
-    #[tactic(auto, unfolding(crate::specs::Changes::entry_at))]
     fn read(
         &self,
         alloc: Global,
-        before: &Listed<ReadEdit<R::Out>>,
+        whole: &Value,
+        place: usize,
         part: &Value,
-    ) -> Result<ReadEdit<R::Out>, ReadError> {
+    ) -> Result<ReadEdit<W::Edit>, ReadError> {
+        let device = DeviceAbove {
+            below: above_at(whole, place),
+            devices: self.devices,
+        };
+        let edits = Edits {
+            contents: self.contents,
+        };
         read_object(alloc, part)?;
-        let device = required_member(
-            alloc,
-            part,
-            "device",
-            &DeviceWithin {
-                low: last_device(before) + 1,
-                count: self.devices,
-            },
-        )?;
-        let default_operation = optional_member(
+        let device = required(alloc, part, "device", &device)?;
+        let default_operation = optional(
             alloc,
             part,
             "default",
             DefaultOperation::Merge,
-            &ByForm { reader: &Operation },
+            &Operation,
         )?;
-        let edit = required_member(alloc, part, "edit", &ByForm { reader: self.edits })?;
-        read_only_known(alloc, part, &EditNames)?;
+        let edit = required(alloc, part, "edit", &edits)?;
+        no_other_names(alloc, part, &EditNames)?;
         Ok(ReadEdit {
             device,
             default_operation,
@@ -120,37 +119,14 @@ impl<'a, R: FormReader> ItemReader for Entry<'a, R> {
     }
 }
 
-/// The member `edits` of a change set.
-#[derive(Drop)]
-struct Edits<'a, R> {
-    devices: usize,
-    edits: &'a R,
-}
+impl<'a, W: Written> Reader for ChangeEdits<'a, W> {
+    type Out = Listed<ReadEdit<W::Edit>>;
 
-impl<'a, R: FormReader> Reader for Edits<'a, R> {
-    type Out = Listed<ReadEdit<R::Out>>;
+    ghost form = { λ r. edits_form (leaf (W.edit_said r.contents.now)) r.devices };
 
-    ghost reads = { λ r. entries_at (R.form r.edits.now) r.devices };
-
-    #[tactic(auto, unfolding(crate::specs::Changes::entries_at))]
-    fn read(&self, alloc: Global, part: &Value) -> Result<Listed<ReadEdit<R::Out>>, ReadError> {
-        let entry = Entry {
-            devices: self.devices,
-            edits: self.edits,
-        };
-        let edits = read_list(alloc, part, usize::MAX, &entry)?;
-        at_least_one(alloc, edits)
-    }
-}
-
-#[derive(Drop)]
-struct ChangeNames;
-
-impl Names for ChangeNames {
-    ghost knows = { λ _. knows_change };
-
-    fn knows(&self, name: &str) -> bool {
-        name == "timeout" || name == "edits"
+    #[tactic(auto, unfolding(crate::specs::Changes::edits_form))]
+    fn read(&self, alloc: Global, part: &Value) -> Result<Listed<ReadEdit<W::Edit>>, ReadError> {
+        read_list(alloc, part, 1, usize::MAX, self)
     }
 }
 
@@ -161,66 +137,62 @@ struct Timeout;
 impl Reader for Timeout {
     type Out = u32;
 
-    ghost reads = { λ _. number_within 1 (2 ^ 32 - 1) };
+    ghost form = { λ _. number 1 (2 ^ 32 - 1) };
 
-    #[tactic(auto, unfolding(nm_scenario_parts::specs::Reading::number_within))]
     fn read(&self, alloc: Global, part: &Value) -> Result<u32, ReadError> {
-        match part.as_u64() {
-            Some(number) if 1 <= number && number <= u64::from(u32::MAX) => Ok(number as u32),
-            _ => fault_here(alloc, ScenarioKind::BadValue),
-        }
+        Ok(read_number(alloc, part, 1, u64::from(u32::MAX))? as u32)
     }
 }
 
-/// One element of the member `changes`.
 #[derive(Drop)]
-struct Change<'a, R> {
-    devices: usize,
-    edits: &'a R,
+struct ChangeNames;
+
+impl KnownNames for ChangeNames {
+    ghost knows = { λ _ name. bytes_eq name (codes "timeout") || (bytes_eq name (codes "edits") || false) };
+
+    fn knows(&self, name: &str) -> bool {
+        name == "timeout" || name == "edits"
+    }
 }
 
-impl<'a, R: FormReader> ItemReader for Change<'a, R> {
-    type Out = ReadChange<R::Out>;
+/// The member `changes`, in a scenario of so many devices.
+#[derive(Drop)]
+pub struct Changes<'a, W> {
+    pub devices: usize,
+    pub contents: &'a W,
+}
 
-    ghost reads = { λ r. change_at (R.form r.edits.now) r.devices };
+impl<'a, W: Written> ItemReader for Changes<'a, W> {
+    type Out = ReadChange<W::Edit>;
 
-    #[tactic(auto, unfolding(crate::specs::Changes::change_at))]
+    ghost form = { λ r _ _. change_form (leaf (W.edit_said r.contents.now)) r.devices };
+
     fn read(
         &self,
         alloc: Global,
-        _before: &Listed<ReadChange<R::Out>>,
+        _whole: &Value,
+        _place: usize,
         part: &Value,
-    ) -> Result<ReadChange<R::Out>, ReadError> {
-        read_object(alloc, part)?;
-        let timeout = optional_member(alloc, part, "timeout", DEFAULT_TIMEOUT, &Timeout)?;
-        let edits = Edits {
+    ) -> Result<ReadChange<W::Edit>, ReadError> {
+        let edits = ChangeEdits {
             devices: self.devices,
-            edits: self.edits,
+            contents: self.contents,
         };
-        let edits = required_member(alloc, part, "edits", &edits)?;
-        read_only_known(alloc, part, &ChangeNames)?;
+        read_object(alloc, part)?;
+        let timeout = optional(alloc, part, "timeout", DEFAULT_TIMEOUT, &Timeout)?;
+        let edits = required(alloc, part, "edits", &edits)?;
+        no_other_names(alloc, part, &ChangeNames)?;
         Ok(ReadChange { timeout, edits })
     }
 }
 
-/// The member `changes`, in a scenario of so many devices whose edits are read so.
-#[derive(Drop)]
-pub struct Changes<'a, R> {
-    pub devices: usize,
-    pub edits: &'a R,
-}
+impl<'a, W: Written> Reader for Changes<'a, W> {
+    type Out = Listed<ReadChange<W::Edit>>;
 
-impl<'a, R: FormReader> Reader for Changes<'a, R> {
-    type Out = Listed<ReadChange<R::Out>>;
+    ghost form = { λ r. changes_form (leaf (W.edit_said r.contents.now)) r.devices };
 
-    ghost reads = { λ r. changes_read_at (R.form r.edits.now) r.devices };
-
-    #[tactic(auto, unfolding(crate::specs::Changes::changes_read_at))]
-    fn read(&self, alloc: Global, part: &Value) -> Result<Listed<ReadChange<R::Out>>, ReadError> {
-        let change = Change {
-            devices: self.devices,
-            edits: self.edits,
-        };
-        read_list(alloc, part, CHANGE_LIMIT, &change)
+    #[tactic(auto, unfolding(crate::specs::Changes::changes_form))]
+    fn read(&self, alloc: Global, part: &Value) -> Result<Listed<ReadChange<W::Edit>>, ReadError> {
+        read_list(alloc, part, 0, CHANGE_LIMIT, self)
     }
 }

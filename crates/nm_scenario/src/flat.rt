@@ -1,13 +1,17 @@
-ghost use Rattle.std.specs.Prelude.{◌≡◌, ℕ, if◌then◌else◌, nat_lt, Some, string_bytes};
+//! Flat contents: their configurations and edits are objects of numbered cells.
+
+ghost use Rattle.std.specs.Prelude.{◌≡◌, None, Some, string_bytes};
 ghost use Rattle.std.specs.FinMap.{empty};
 ghost use Rattle.serde_json.specs.View.{view, members_view};
-ghost use Rattle.nm_scenario_parts.specs.Reading.{Gives, here, natural_of};
+ghost use Rattle.nm_proto.specs.Flat.{flat_violation};
+ghost use Rattle.nm_scenario_parts.specs.Reading.{Gives, natural_of};
 ghost use Rattle.nm_scenario_form.specs.Read.{told};
-ghost use Rattle.nm_scenario.specs.Flat.{flat_edit, flat_edit_of, flat_edit_read, row_limit, key_of, change_of, or_unread, member_count, cells_after, cells_at, changes_read};
+ghost use Rattle.nm_scenario.specs.Flat.{cells_said, change_of, changes_said, edit_of, edit_read, entries_in, entries_read, entries_within, key_of, node_limit, or_unread, row_limit, state_of, state_read, valid_state};
 
+use crate::causes::refusal_fault;
+use crate::contents::Written;
 use nm_base::read_decimal;
-use nm_proto::{FlatEdit, NumberMap};
-use nm_scenario_form::Reader;
+use nm_proto::{CheckFault, Content, FlatConfig, FlatContent, FlatEdit, NumberMap};
 use nm_scenario_parts::reader::fault_here;
 use nm_scenario_parts::{ReadError, ScenarioKind};
 use serde_json::{Map, Value};
@@ -19,20 +23,64 @@ pub const ROW_LIMIT: usize = 20_000;
 /// How many nodes an edit may name.
 pub const NODE_LIMIT: usize = 5_000;
 
-/// The cells of a flat configuration.
-pub fn read_cells(alloc: Global, part: &Value) -> Result<NumberMap<u64>, ReadError>
-    ensures { Gives result (cells_at (view part.now)) }
+impl Written for FlatContent {
+    type Config = FlatConfig;
+
+    type Edit = FlatEdit;
+
+    ghost config_said = { λ _. cells_said };
+
+    ghost edit_said = { λ _. changes_said };
+
+    #[tactic(auto, unfolding(crate::specs::Flat::cells_said))]
+    fn read_config(&self, alloc: Global, part: &Value) -> Result<FlatConfig, ReadError> {
+        match part.as_object() {
+            None => fault_here(alloc, ScenarioKind::Content),
+            Some(members) => state_in(alloc, members),
+        }
+    }
+
+    #[tactic(auto, unfolding(crate::specs::Flat::changes_said))]
+    fn read_edit(&self, alloc: Global, part: &Value) -> Result<FlatEdit, ReadError> {
+        match part.as_object() {
+            None => fault_here(alloc, ScenarioKind::Content),
+            Some(members) => edit_in(alloc, members),
+        }
+    }
+}
+
+// ---- configurations
+
+#[tactic(auto, using(crate::proofs::Entries::state_gives))]
+fn state_in(alloc: Global, members: &Map<String, Value>) -> Result<FlatConfig, ReadError>
+    ensures { Gives result (told (state_of (entries_in row_limit natural_of 0 (Some (members_view members.now.entries))))) }
 {
-    match part.as_object() {
-        None => fault_here(alloc, ScenarioKind::Content),
-        Some(members) => cells_within(alloc, members),
+    read_state(alloc, members)
+}
+
+fn read_state(alloc: Global, members: &Map<String, Value>) -> Result<FlatConfig, ReadError>
+    ensures { Gives result (state_read (members_view members.now.entries)) }
+{
+    let cells = cells_within(alloc, members)?;
+    only_valid(alloc, FlatConfig::new(alloc, cells))
+}
+
+// A configuration that is valid.
+fn only_valid(alloc: Global, config: FlatConfig) -> Result<FlatConfig, ReadError>
+    ensures { Gives result (told (valid_state config (flat_violation config))) }
+{
+    match FlatContent::new(alloc).check(&config) {
+        Ok(()) => Ok(config),
+        Err(CheckFault::Violation { tag, path }) => {
+            refusal_fault(alloc, ScenarioKind::Invalid, tag, path)
+        }
+        Err(CheckFault::NoMemory) => Err(ReadError::NoMemory),
     }
 }
 
 #[tactic(auto, using(crate::proofs::Counts::counts))]
 fn cells_within(alloc: Global, members: &Map<String, Value>) -> Result<NumberMap<u64>, ReadError>
-    ensures { Gives result (if nat_lt row_limit (member_count (members_view members.now.entries))
-        then here ScenarioKind.TooMany else cells_after empty (members_view members.now.entries)) }
+    ensures { Gives result (entries_within row_limit natural_of (members_view members.now.entries)) }
 {
     if members.len() > ROW_LIMIT {
         return fault_here(alloc, ScenarioKind::TooMany);
@@ -41,7 +89,7 @@ fn cells_within(alloc: Global, members: &Map<String, Value>) -> Result<NumberMap
 }
 
 fn cells(alloc: Global, members: &Map<String, Value>) -> Result<NumberMap<u64>, ReadError>
-    ensures { Gives result (cells_after empty (members_view members.now.entries)) }
+    ensures { Gives result (entries_read natural_of empty (members_view members.now.entries)) }
 {
     let mut found = NumberMap::new(alloc);
     for (name, part) in members {
@@ -71,44 +119,37 @@ fn read_natural(alloc: Global, part: &Value) -> Result<u64, ReadError>
     }
 }
 
-/// A flat edit.
-#[derive(Drop)]
-pub struct FlatEdits;
+// ---- edits
 
-impl Reader for FlatEdits {
-    type Out = FlatEdit;
-
-    ghost form = { λ _. flat_edit };
-
-    #[tactic(auto, unfolding(crate::specs::Flat::flat_edit_said))]
-    fn read(&self, alloc: Global, part: &Value) -> Result<FlatEdit, ReadError> {
-        match part.as_object() {
-            None => fault_here(alloc, ScenarioKind::Content),
-            Some(members) => edit_of(alloc, members),
-        }
-    }
+#[tactic(auto, using(crate::proofs::Entries::edit_gives))]
+fn edit_in(alloc: Global, members: &Map<String, Value>) -> Result<FlatEdit, ReadError>
+    ensures { Gives result (told (edit_of (entries_in node_limit change_of None (Some (members_view members.now.entries))))) }
+{
+    read_changes(alloc, members)
 }
 
-#[tactic(auto, using(crate::proofs::Edits::edit_gives))]
-fn edit_of(alloc: Global, members: &Map<String, Value>) -> Result<FlatEdit, ReadError>
-    ensures { Gives result (told (flat_edit_of (Some (members_view members.now.entries)))) }
+fn read_changes(alloc: Global, members: &Map<String, Value>) -> Result<FlatEdit, ReadError>
+    ensures { Gives result (edit_read (members_view members.now.entries)) }
 {
-    changes_within(alloc, members)
+    let changes = changes_within(alloc, members)?;
+    Ok(FlatEdit { changes })
 }
 
 #[tactic(auto, using(crate::proofs::Counts::counts))]
-fn changes_within(alloc: Global, members: &Map<String, Value>) -> Result<FlatEdit, ReadError>
-    ensures { Gives result (flat_edit_read (members_view members.now.entries)) }
+fn changes_within(
+    alloc: Global,
+    members: &Map<String, Value>,
+) -> Result<NumberMap<Option<u64>>, ReadError>
+    ensures { Gives result (entries_within node_limit change_of (members_view members.now.entries)) }
 {
     if members.len() > NODE_LIMIT {
         return fault_here(alloc, ScenarioKind::TooMany);
     }
-    let changes = changes(alloc, members)?;
-    Ok(FlatEdit { changes })
+    changes(alloc, members)
 }
 
 fn changes(alloc: Global, members: &Map<String, Value>) -> Result<NumberMap<Option<u64>>, ReadError>
-    ensures { Gives result (changes_read empty (members_view members.now.entries)) }
+    ensures { Gives result (entries_read change_of empty (members_view members.now.entries)) }
 {
     let mut found = NumberMap::new(alloc);
     for (name, part) in members {

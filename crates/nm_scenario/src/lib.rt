@@ -2,20 +2,24 @@
 //! place.
 //!
 //! Stands on the messages and the flat contents of `nm_proto`, on `nm_scenario_parts` and `nm_scenario_events`, which read the parts of JSON
-//! values and events, and for YANG contents on `nm_yang`, `nm_schema`, `nm_json`, `nm_edit_json` and `nm_check`. The layer
-//! above relies on `read_scenario`, which answers what `specs/Scenario.antt` reads of the bytes.
+//! values and events, on the forms of `nm_scenario_form`, and for YANG contents on `nm_yang`, `nm_schema`, `nm_json`, `nm_edit_json`
+//! and `nm_check`. The layer above relies on `read_scenario`, which answers the scenario that bytes say or their first fault
+//! (`specs/Scenario.antt`), and on the laws of `laws`: bytes say one scenario exactly where nothing is wrong with them.
 #![tactic(auto)]
 
+mod causes;
 mod changes;
+mod contents;
 mod data;
 mod devices;
 mod flat;
-mod flat_scenario;
 pub mod head;
+pub mod laws;
+mod members;
+mod nothing;
 mod numbering;
 mod operators;
 mod read;
-mod rest;
 pub mod scenario;
 mod yang;
 

@@ -4,7 +4,7 @@ ghost use Rattle.std.specs.Prelude.{◌≡◌, ◌++◌, ◌+◌, length, map, O
 ghost use Rattle.nm_scenario.specs.Changes.{planned_from, plans_from, edits_of};
 ghost use Rattle.nm_scenario.specs.Numbered as spec;
 
-use crate::rest::Rest;
+use crate::members::Rest;
 use crate::scenario::{ReadChange, ReadEdit};
 use nm_base::{Label, NoMemory};
 use nm_proto::{ChangePlan, Event, Listed, PlannedEdit};

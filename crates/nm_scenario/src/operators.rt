@@ -1,15 +1,17 @@
-ghost use Rattle.std.specs.Prelude.{Some};
+ghost use Rattle.std.specs.Prelude.{◌||◌, Some, false, codes};
+ghost use Rattle.std.specs.Str.{bytes_eq};
 ghost use Rattle.nm_scenario_parts.specs.Reading.{Gives};
-ghost use Rattle.nm_scenario.specs.Operators.{knows_operator, user_of, user_at, operator_at, operators_at};
+ghost use Rattle.nm_scenario_form.specs.Read.{told};
+ghost use Rattle.nm_scenario.specs.Operators.{operator_form, operators_form, user, user_in};
 
+use crate::nothing::Nothing;
 use nm_base::{Label, MANAGER};
 use nm_proto::Listed;
 use nm_scenario_events::limits::OPERATOR_LIMIT;
-use nm_scenario_parts::reader::{
-    ItemReader, Names, Reader, fault_here, optional_member, read_list, read_object,
-    read_only_known, required_member,
+use nm_scenario_form::{
+    ItemReader, Reader, no_other_names, optional, read_list, read_object, required,
 };
-use nm_scenario_parts::values::EmptyList;
+use nm_scenario_parts::reader::{KnownNames, fault_here};
 use nm_scenario_parts::{ReadError, ScenarioKind};
 use serde_json::Value;
 use std::alloc::Global;
@@ -24,9 +26,9 @@ struct User;
 impl Reader for User {
     type Out = Label;
 
-    ghost reads = { λ _. user_at };
+    ghost form = { λ _. user };
 
-    #[tactic(auto, unfolding(crate::specs::Operators::user_at))]
+    #[tactic(auto, unfolding(crate::specs::Operators::user_said))]
     fn read(&self, alloc: Global, part: &Value) -> Result<Label, ReadError> {
         match part.as_str() {
             None => fault_here(alloc, ScenarioKind::BadValue),
@@ -37,7 +39,7 @@ impl Reader for User {
 
 // The manager's name is no operator's.
 fn read_user(alloc: Global, name: &str) -> Result<Label, ReadError>
-    ensures { Gives result (user_of (Some name.now)) }
+    ensures { Gives result (told (user_in (Some name.now))) }
 {
     if name == MANAGER {
         return fault_here(alloc, ScenarioKind::BadValue);
@@ -51,38 +53,11 @@ fn read_user(alloc: Global, name: &str) -> Result<Label, ReadError>
 #[derive(Drop)]
 struct OperatorNames;
 
-impl Names for OperatorNames {
-    ghost knows = { λ _. knows_operator };
+impl KnownNames for OperatorNames {
+    ghost knows = { λ _ name. bytes_eq name (codes "user") || (bytes_eq name (codes "script") || false) };
 
     fn knows(&self, name: &str) -> bool {
         name == "user" || name == "script"
-    }
-}
-
-/// One element of the member `operators`.
-#[derive(Drop)]
-struct Operator;
-
-impl ItemReader for Operator {
-    type Out = Label;
-
-    ghost reads = { λ _. operator_at };
-
-    #[tactic(auto, unfolding(crate::specs::Operators::operator_at))]
-    fn read(
-        &self,
-        alloc: Global,
-        _before: &Listed<Label>,
-        part: &Value,
-    ) -> Result<Label, ReadError> {
-        read_object(alloc, part)?;
-        let user = required_member(alloc, part, "user", &User)?;
-        let script = EmptyList {
-            otherwise: ScenarioKind::NotBuilt,
-        };
-        optional_member(alloc, part, "script", (), &script)?;
-        read_only_known(alloc, part, &OperatorNames)?;
-        Ok(user)
     }
 }
 
@@ -90,13 +65,36 @@ impl ItemReader for Operator {
 #[derive(Drop)]
 pub struct Operators;
 
+impl ItemReader for Operators {
+    type Out = Label;
+
+    ghost form = { λ _ _ _. operator_form };
+
+    fn read(
+        &self,
+        alloc: Global,
+        _whole: &Value,
+        _place: usize,
+        part: &Value,
+    ) -> Result<Label, ReadError> {
+        let none = Nothing {
+            otherwise: ScenarioKind::NotBuilt,
+        };
+        read_object(alloc, part)?;
+        let user = required(alloc, part, "user", &User)?;
+        optional(alloc, part, "script", (), &none)?;
+        no_other_names(alloc, part, &OperatorNames)?;
+        Ok(user)
+    }
+}
+
 impl Reader for Operators {
     type Out = Listed<Label>;
 
-    ghost reads = { λ _. operators_at };
+    ghost form = { λ _. operators_form };
 
-    #[tactic(auto, unfolding(crate::specs::Operators::operators_at))]
+    #[tactic(auto, unfolding(crate::specs::Operators::operators_form))]
     fn read(&self, alloc: Global, part: &Value) -> Result<Listed<Label>, ReadError> {
-        read_list(alloc, part, OPERATOR_LIMIT, &Operator)
+        read_list(alloc, part, 0, OPERATOR_LIMIT, self)
     }
 }

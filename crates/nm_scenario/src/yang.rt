@@ -1,126 +1,92 @@
 //! A scenario of YANG contents, after its head.
 
+ghost use Rattle.std.specs.Prelude.{Result, codes};
 ghost use Rattle.serde_json.specs.View.{view};
-ghost use Rattle.nm_scenario_parts.specs.Reading.{Gives};
-ghost use Rattle.nm_scenario.specs.Yang.{yang_device_at, yang_devices_at};
-ghost use Rattle.nm_scenario.specs.Scenario.{at_module, yang_rest_at, yang_scenario_at};
+ghost use Rattle.nm_scenario_parts.specs.declared.fault.Fault.{Fault};
+ghost use Rattle.nm_scenario_parts.specs.declared.fault.Step.TheVariants.{Name, Item};
+ghost use Rattle.nm_scenario_parts.specs.Reading.{Gives, under};
+ghost use Rattle.nm_scenario.specs.declared.head.Head.TheVariants as head;
+ghost use Rattle.nm_scenario.specs.Reading.{after_read, data_read};
 
-use crate::data::{DataEdits, Running};
-use crate::devices::DeviceNames;
+use crate::causes::{flaw_fault, large_fault};
 use crate::head::{ModuleParts, ReadModule, parts_of};
+use crate::members::{Members, read_members};
 use crate::numbering::{Numbered, number_all};
-use crate::rest::{read_changes, read_rest};
 use crate::scenario::{Body, Scenario};
 use nm_base::Label;
-use nm_config::Config;
 use nm_content::{YangContent, marks_path, yang_content};
 use nm_proto::Listed;
-use nm_scenario_events::limits::DEVICE_LIMIT;
-use nm_scenario_parts::reader::{
-    ItemReader, Reader, fault_at, read_list, read_object, read_only_known, required_member,
-    seen_from_outside,
-};
-use nm_scenario_parts::values::at_least_one;
-use nm_scenario_parts::{ReadError, ScenarioKind, Step};
+use nm_scenario_parts::reader::seen_from_outside;
+use nm_scenario_parts::{ReadError, Step};
 use nm_schema::{SchemaFault, build};
 use serde_json::Value;
 use std::alloc::Global;
 
-/// One element of the member `devices`.
-#[derive(Drop)]
-struct Device<'a> {
-    content: &'a YangContent,
-}
-
-impl<'a> ItemReader for Device<'a> {
-    type Out = Config;
-
-    ghost reads = { λ r. yang_device_at r.content.now };
-
-    #[tactic(auto, unfolding(crate::specs::Yang::yang_device_at))]
-    fn read(
-        &self,
-        alloc: Global,
-        _before: &Listed<Config>,
-        part: &Value,
-    ) -> Result<Config, ReadError> {
-        read_object(alloc, part)?;
-        let reader = Running {
-            content: self.content,
-        };
-        let running = required_member(alloc, part, "running", &reader)?;
-        read_only_known(alloc, part, &DeviceNames)?;
-        Ok(running)
-    }
-}
-
-/// The member `devices`.
-#[derive(Drop)]
-struct Devices<'a> {
-    content: &'a YangContent,
-}
-
-impl<'a> Reader for Devices<'a> {
-    type Out = Listed<Config>;
-
-    ghost reads = { λ r. yang_devices_at r.content.now };
-
-    #[tactic(auto, unfolding(crate::specs::Yang::yang_devices_at))]
-    fn read(&self, alloc: Global, part: &Value) -> Result<Listed<Config>, ReadError> {
-        let device = Device {
-            content: self.content,
-        };
-        let devices = read_list(alloc, part, DEVICE_LIMIT, &device)?;
-        at_least_one(alloc, devices)
-    }
-}
-
 /// The scenario of YANG contents of a JSON value whose head, with these modules, has been read.
-#[tactic(auto, unfolding(crate::specs::Scenario::yang_scenario_at))]
 pub fn read_yang(
     alloc: Global,
     whole: &Value,
     modules: Listed<ReadModule>,
 ) -> Result<Scenario, ReadError>
-    ensures { Gives result (yang_scenario_at modules (view whole.now)) }
+    ensures { Gives result (after_read (head.Yang modules) (view whole.now)) }
 {
     let ModuleParts { texts, statements } = parts_of(alloc, modules)?;
     let marks = marks_path(alloc)?;
     match build(alloc, statements.as_slice()) {
         Ok(schema) => read_built(alloc, whole, texts, yang_content(alloc, schema, marks)),
-        Err(SchemaFault::Flawed { module: number, .. }) => fault_in(alloc, number),
-        Err(SchemaFault::TooLarge { module: number, .. }) => fault_in(alloc, number),
+        Err(
+            SchemaFault::Flawed {
+                flaw,
+                module: number,
+                place,
+            },
+        ) => in_module(alloc, number, flaw_fault(alloc, flaw, place)),
+        Err(
+            SchemaFault::TooLarge {
+                module: number,
+                place,
+            },
+        ) => in_module(alloc, number, large_fault(alloc, place)),
         Err(SchemaFault::NoMemory) => Err(ReadError::NoMemory),
     }
 }
 
-// A fault of the module of a number.
-fn fault_in<T>(alloc: Global, number: usize) -> Result<T, ReadError>
-    ensures { Gives result (at_module number) }
+// What was told in the module of a number, seen from the whole.
+fn in_module<T>(alloc: Global, number: usize, told: Result<T, ReadError>) -> Result<T, ReadError>
+    ensures { (read : Result T Fault) → Gives told read → Gives result (under (Name (codes "modules")) (under (Item number) read)) }
+{
+    match told {
+        Ok(value) => Ok(value),
+        Err(error) => seen_in(alloc, number, error),
+    }
+}
+
+fn seen_in<T>(alloc: Global, number: usize, error: ReadError) -> Result<T, ReadError>
+    ensures { (read : Result T Fault) → Gives (Err error) read → Gives result (under (Name (codes "modules")) (under (Item number) read)) }
 {
     let step = Step::Name(Label::new(alloc, "modules")?);
-    let fault: Result<T, ReadError> = fault_at(alloc, ScenarioKind::Schema, Step::Item(number));
-    match fault {
+    let seen: Result<T, ReadError> = seen_from_outside(error, Step::Item(number));
+    match seen {
         Ok(value) => Ok(value),
         Err(error) => seen_from_outside(error, step),
     }
 }
 
 // What follows modules that gave a tree.
-#[tactic(auto, unfolding(crate::specs::Scenario::yang_rest_at))]
+#[tactic(auto, unfolding(crate::specs::Reading::data_read))]
 fn read_built(
     alloc: Global,
     whole: &Value,
     texts: Listed<Label>,
     content: YangContent,
 ) -> Result<Scenario, ReadError>
-    ensures { Gives result (yang_rest_at content texts (view whole.now)) }
+    ensures { Gives result (data_read content texts (view whole.now)) }
 {
-    let reader = Devices { content: &content };
-    let devices = required_member(alloc, whole, "devices", &reader)?;
-    let reader = DataEdits { content: &content };
-    let changes = read_changes(alloc, whole, &reader)?;
-    let rest = read_rest(alloc, whole, &reader)?;
+    let Members {
+        devices,
+        changes,
+        rest,
+    } = read_members(alloc, whole, &content)?;
     let Numbered {
         edits,
         changes,

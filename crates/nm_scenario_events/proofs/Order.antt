@@ -30,7 +30,7 @@ operation_there : (o : Option (List ℕ)) → IsThere (operation_of o)
 operation_there None = λ e. cc
 operation_there (Some text) = tested_operation (bytes_eq text (codes "merge")) (bytes_eq text (codes "replace")) (bytes_eq text (codes "none"))
 
-operation_in_order : InOrder operation
+pub operation_in_order : InOrder operation
 unfolding operation_said
 operation_in_order = leaf_in_order _ (λ whole. operation_there (as_str whole))
 
@@ -103,7 +103,7 @@ event_in_order : {E : Type 0} (edit : Form E) → InOrder edit → (c : Counts) 
 unfolding event_form
 event_in_order edit order c = built_in_order _ _ _ _ (search arguments_order depth 12) (elementary_in_order edit order c)
 
-events_in_order : {E : Type 0} (edit : Form E) → InOrder edit → (c : Counts) → InOrder (events_form edit c)
+pub events_in_order : {E : Type 0} (edit : Form E) → InOrder edit → (c : Counts) → InOrder (events_form edit c)
 unfolding events_form
 events_in_order edit order c = list_in_order _ _ _ _ (λ n. event_in_order edit order c)
 

@@ -18,20 +18,20 @@ use Rattle.nm_scenario_events.specs.declared.arguments.Counts.{Counts}
 use Rattle.nm_scenario_events.specs.Arguments.{operation}
 use Rattle.nm_scenario_events.specs.Requests.{asked_edit, commit_form, plain_commit, cancel_form, plain_cancel, request_form}
 use Rattle.nm_scenario_events.specs.Events.{elementary_form}
-use Rattle.nm_scenario_events.specs.Kept.{IsWithin, EventKeeps, is_asked, opens, OpensUnsaid, ReadKeeps, weight, read_weight}
+use Rattle.nm_scenario_events.specs.Kept.{IsWithin, EventKeeps, is_asked, names_any, NamesNone, ReadKeeps, weight, read_weight}
 use Rattle.nm_scenario_events.specs.Numbered.{edit_of_request, edit_of_event}
 
 -- ---- requests: their edits and sessions
 
--- a request says no user, and its edit has this, if there is one
+-- a request names nothing by itself, and its edit has this, if there is one
 pub record RequestKeeps {E : Type 0} (Q : E → Type 0) (request : ReadRequest E) : Type 0 where
-  pub unsaid : OpensUnsaid request
+  pub unsaid : NamesNone request
   pub edits : All Q (edit_of_request request)
 
 open_keeps : {E : Type 0} (Q : E → Type 0) → RequestKeeps Q Open
 open_keeps Q = record { unsaid = tt; edits = All-nil Q }
 
-known_keeps : {E : Type 0} (Q : E → Type 0) (request : Request) → opens request ≡ false → RequestKeeps Q (Known request)
+known_keeps : {E : Type 0} (Q : E → Type 0) (request : Request) → names_any request ≡ false → RequestKeeps Q (Known request)
 known_keeps Q request silent = record { unsaid = silent; edits = All-nil Q }
 
 edit_keeps : {E : Type 0} (Q : E → Type 0) (operation : DefaultOperation) (edit : E) → Q edit → RequestKeeps Q (WithEdit operation edit)
@@ -54,21 +54,21 @@ any_holds : {B F A : Type 0} (key : Key) (missing : B) (form : Form B) (parts : 
 any_holds key missing form parts make P all =
     missing_holds key missing form parts make P (all missing) (always form (λ b. HoldsParts parts (make b) P) all)
 
-commit_opens : Holds commit_form (λ request. opens request ≡ false)
+commit_opens : Holds commit_form (λ request. names_any request ≡ false)
 commit_opens =
     object_holds _ _ _ _
     (any_holds _ _ _ _ _ _ (λ confirmed. any_holds _ _ _ _ _ _ (λ timeout.
     any_holds _ _ _ _ _ _ (λ persist. any_holds _ _ _ _ _ _ (λ id. done_holds _ _ refl)))))
 
-cancel_opens : Holds cancel_form (λ request. opens request ≡ false)
+cancel_opens : Holds cancel_form (λ request. names_any request ≡ false)
 cancel_opens = object_holds _ _ _ _ (any_holds _ _ _ _ _ _ (λ id. done_holds _ _ refl))
 
 -- a request that may be left out
-or_else_keeps : {E : Type 0} (Q : E → Type 0) (plain : Request) (form : Form Request) → opens plain ≡ false
-    → Holds form (λ request. opens request ≡ false) → HoldsParts (or_else plain form done) Known (RequestKeeps {E = E} Q)
+or_else_keeps : {E : Type 0} (Q : E → Type 0) (plain : Request) (form : Form Request) → names_any plain ≡ false
+    → Holds form (λ request. names_any request ≡ false) → HoldsParts (or_else plain form done) Known (RequestKeeps {E = E} Q)
 or_else_keeps Q plain form silent holds =
     missing_holds _ _ _ _ _ _ (done_holds _ _ (known_keeps Q plain silent))
-    (implied form (λ request. opens request ≡ false) _ holds (λ request is. done_holds _ _ (known_keeps Q request is)))
+    (implied form (λ request. names_any request ≡ false) _ holds (λ request is. done_holds _ _ (known_keeps Q request is)))
 
 ruleset requests = (slot_holds, done_holds, arguments_hold, always, open_keeps, known_keeps, select_keeps)
 

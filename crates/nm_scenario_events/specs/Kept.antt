@@ -4,7 +4,7 @@ use Rattle.std.specs.List.{All, sum_by}
 use Rattle.nm_proto.specs.declared.plan.Event.{Event}
 use Rattle.nm_proto.specs.declared.plan.Event.TheVariants.{Submit, Turn, Deliver, Answer, Break, Lose, Advance, Restart, Forget, Crash, Renew, Foreign, Leave, Round}
 use Rattle.nm_proto.specs.declared.message.Request.{Request}
-use Rattle.nm_proto.specs.declared.message.Request.TheVariants.{OpenSession}
+use Rattle.nm_proto.specs.declared.message.Request.TheVariants.{OpenSession, PartialLock, Edit}
 use Rattle.nm_scenario_events.specs.declared.event.ReadRequest.{ReadRequest}
 use Rattle.nm_scenario_events.specs.declared.event.ReadRequest.TheVariants.{Open, Known, WithEdit, WithSelect}
 use Rattle.nm_scenario_events.specs.declared.event.ReadEvent.{ReadEvent}
@@ -38,22 +38,24 @@ abbrev pub is_asked : Event → Bool
 is_asked (Foreign operator device request) = true
 is_asked _ = false
 
--- this request opens a session
-abbrev pub opens : Request → Bool
-opens (OpenSession user) = true
-opens _ = false
+-- this request opens a session of a user, or names an edit or a selection by its number
+abbrev pub names_any : Request → Bool
+names_any (OpenSession user) = true
+names_any (PartialLock select) = true
+names_any (Edit edit operation marks) = true
+names_any _ = false
 
--- a request opens a session only without saying for which user, which is then the operator's own
-abbrev pub OpensUnsaid : {E : Type 0} → ReadRequest E → Type 0
-OpensUnsaid Open = Unit {0}
-OpensUnsaid (Known request) = opens request ≡ false
-OpensUnsaid (WithEdit operation edit) = Unit {0}
-OpensUnsaid (WithSelect texts) = Unit {0}
+-- a request is read without the user of its session, which is then the operator's own, and without the number of its edit or selection
+abbrev pub NamesNone : {E : Type 0} → ReadRequest E → Type 0
+NamesNone Open = Unit {0}
+NamesNone (Known request) = names_any request ≡ false
+NamesNone (WithEdit operation edit) = Unit {0}
+NamesNone (WithSelect texts) = Unit {0}
 
 -- the same before edits have numbers; operators ask in no other events
 abbrev pub ReadKeeps : {E : Type 0} → Counts → ReadEvent E → Type 0
 ReadKeeps c (Other event) = EventKeeps c event × (is_asked event ≡ false)
-ReadKeeps c (Asked operator device request) = IsWithin 1 c.operators operator × IsWithin 1 c.devices device × OpensUnsaid request
+ReadKeeps c (Asked operator device request) = IsWithin 1 c.operators operator × IsWithin 1 c.devices device × NamesNone request
 
 -- how many elementary events an event stands for: three for each turn of a round, else one
 abbrev pub weight : Event → ℕ

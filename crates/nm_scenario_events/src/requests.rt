@@ -23,7 +23,7 @@ use nm_scenario_form::{
     read_list, read_object, required, takes,
 };
 use nm_scenario_parts::ReadError;
-use nm_scenario_parts::reader::Names;
+use nm_scenario_parts::reader::KnownNames;
 use nm_scenario_parts::words::is_word;
 use serde_json::Value;
 use std::alloc::Global;
@@ -78,7 +78,7 @@ fn has_mark<E>(alloc: Global, whole: &Value) -> Result<ReadRequest<E>, ReadError
 #[derive(Drop)]
 struct EditNames;
 
-impl Names for EditNames {
+impl KnownNames for EditNames {
     ghost knows = { λ _. knows (asked_edit_parts {E = Unit {0}} not_built) };
 
     fn knows(&self, name: &str) -> bool {
@@ -184,7 +184,7 @@ impl Reader for Seconds {
 #[derive(Drop)]
 struct CommitNames;
 
-impl Names for CommitNames {
+impl KnownNames for CommitNames {
     ghost knows = { λ _. knows commit_parts };
 
     fn knows(&self, name: &str) -> bool {
@@ -240,7 +240,7 @@ fn commit<E>(alloc: Global, whole: &Value) -> Result<ReadRequest<E>, ReadError>
 #[derive(Drop)]
 struct CancelNames;
 
-impl Names for CancelNames {
+impl KnownNames for CancelNames {
     ghost knows = { λ _. knows cancel_parts };
 
     fn knows(&self, name: &str) -> bool {

@@ -12,7 +12,7 @@ use Rattle.nm_scenario_form.specs.Says.{Says}
 use Rattle.nm_scenario_form.specs.Wrong.{Wrong}
 use Rattle.nm_scenario_parts.specs.Reading.{Gives}
 use Rattle.nm_scenario_form.specs.Read.{read}
-use Rattle.nm_scenario_form.specs.Exact.{IsExact, Reads}
+use Rattle.nm_scenario_form.specs.Exact.{AreExact, IsExact, ReadsAs, Reads}
 use Rattle.nm_scenario_form.proofs.Orders.{first_one}
 use Rattle.nm_scenario_form.proofs.Answers.{Answers}
 use Rattle.nm_scenario_form.proofs.Said.{said}
@@ -36,20 +36,20 @@ wrong_first : {A : Type 0} (says : A → Type 0) (wrong : Faults) (r : Result A 
 wrong_first says wrong (Ok x) a cause place spot is = absurd (a.1 cause place spot is)
 wrong_first says wrong (Err fault) a cause place spot is = (fault, a)
 
-one_said : {A : Type 0} (form : Form A) (whole : Data) (x y : A) → Says form whole x → Says form whole y → x ≡ y
-one_said form whole x y s t = let e : Ok x ≡ Ok y = sym (said form whole x s) ∙ said form whole y t in cc
+-- where reading answers what is said, and all that is said, both fit one another
+pub exactly : {A : Type 0} (says : A → Type 0) (wrong : Faults) (r : Result A Fault) → Answers says wrong r → ((x : A) → says x → r ≡ Ok x)
+    → AreExact says wrong
+exactly says wrong r answers all = record {
+  right = λ x is cause place at. said_right says wrong r x answers (all x is) cause place at.0 at.1;
+  read = λ none. right_said says wrong r answers none;
+  one = λ x y s t. let e : Ok x ≡ Ok y = sym (all x s) ∙ all y t in cc;
+  first = λ cause place at. wrong_first says wrong r answers cause place at.0 at.1;
+  one_fault = λ fault other f g. first_one wrong fault other f g;
+}
 
 -- every form is exact
 pub exact : {A : Type 0} (form : Form A) (whole : Data) → IsExact form whole
-exact form whole = record {
-  right = λ x is cause place wrong. said_right (Says form whole) (Wrong form whole) (read form whole) x (tells form whole)
-      (said form whole x is) cause place wrong.0 wrong.1;
-  read = λ none. right_said (Says form whole) (Wrong form whole) (read form whole) (tells form whole) none;
-  one = λ x y s t. one_said form whole x y s t;
-  first = λ cause place wrong. wrong_first (Says form whole) (Wrong form whole) (read form whole) (tells form whole) cause place wrong.0
-      wrong.1;
-  one_fault = λ fault other f g. first_one (Wrong form whole) fault other f g;
-}
+exact form whole = exactly (Says form whole) (Wrong form whole) (read form whole) (tells form whole) (λ x is. said form whole x is)
 
 answered_ok : {A : Type 0} (says : A → Type 0) (wrong : Faults) (r : Result A Fault) (x : A) → Answers says wrong r → r ≡ Ok x → says x
 answered_ok says wrong (Ok y) x a e = let same : y ≡ x = cc in subst says same a.0
@@ -60,10 +60,14 @@ answered_err : {A : Type 0} (says : A → Type 0) (wrong : Faults) (r : Result A
 answered_err says wrong (Ok y) fault a e = cc
 answered_err says wrong (Err other) fault a e = let same : other ≡ fault = cc in subst (λ f. IsFirst wrong f) same a
 
--- what gives what reading gives reads by the form
+-- what gives what reading answers reads so
+pub reads_as : {A : Type 0} (says : A → Type 0) (wrong : Faults) (r : Result A Fault) (result : Result A ReadError) → Answers says wrong r
+    → Gives result r → ReadsAs says wrong result
+reads_as says wrong r (Ok x) answers gives = answered_ok says wrong r x answers gives
+reads_as says wrong r (Err (error.Bad fault)) answers gives = answered_err says wrong r fault answers gives
+reads_as says wrong r (Err error.NoMemory) answers gives = tt
+
+-- and by a form
 pub reads : {A : Type 0} (form : Form A) (whole : Data) (result : Result A ReadError) → Gives result (read form whole)
     → Reads form whole result
-reads form whole (Ok x) gives = answered_ok (Says form whole) (Wrong form whole) (read form whole) x (tells form whole) gives
-reads form whole (Err (error.Bad fault)) gives = answered_err (Says form whole) (Wrong form whole) (read form whole) fault
-    (tells form whole) gives
-reads form whole (Err error.NoMemory) gives = tt
+reads form whole result gives = reads_as (Says form whole) (Wrong form whole) (read form whole) result (tells form whole) gives

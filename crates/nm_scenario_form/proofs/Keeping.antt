@@ -12,7 +12,7 @@ of_result P (Ok y) x holds e = let same : y ≡ x = cc in subst P same holds
 of_result P (Err fault) x holds e = cc
 
 -- a part that is there has a value of which the rest holds, and so has one that is left out
-slot_kept : {B : Type 0} (says : Data → B → Type 0) (P : B → Type 0) (default : Option B) (part : Option Data) (b : B)
+pub slot_kept : {B : Type 0} (says : Data → B → Type 0) (P : B → Type 0) (default : Option B) (part : Option Data) (b : B)
     → ((part : Data) → says part b → P b) → OfDefault P default → SaysSlot says default part b → P b
 slot_kept says P default (Some part) b kept missing is = kept part is
 slot_kept says P (Some other) None b kept missing is = let same : other ≡ b = cc in subst P same missing
@@ -108,7 +108,7 @@ mutual
         (λ b is. implied_parts parts (make b) P Q is more),
   )
 
-each_kept : {A : Type 0} (says : ℕ → Data → A → Type 0) (P : A → Type 0) → ((n : ℕ) (part : Data) (x : A) → says n part x → P x)
+pub each_kept : {A : Type 0} (says : ℕ → Data → A → Type 0) (P : A → Type 0) → ((n : ℕ) (part : Data) (x : A) → says n part x → P x)
     → (n : ℕ) (items : Items) (xs : List A) → Each says n items xs → All P xs
 unfolding Each
 each_kept says P kept n no_items [] each = All-nil P

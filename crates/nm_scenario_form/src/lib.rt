@@ -11,5 +11,5 @@ pub mod words;
 
 pub use items::{ItemReader, Weigh, read_list, read_weighed};
 pub use leafs::{Above, Number, Switch, Text, Unbuilt, read_above, read_number};
-pub use reader::{ByForm, Reader, no_other_names, optional, read_object, required};
+pub use reader::{Reader, no_other_names, optional, read_object, required};
 pub use words::{argument, no_word, or_else, takes};

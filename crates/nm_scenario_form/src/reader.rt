@@ -11,7 +11,9 @@ ghost use Rattle.nm_scenario_parts.specs.Reading.{Gives, here, there, under};
 ghost use Rattle.nm_scenario_form.specs.Read.{read, told, slot_read, object_from, names_read, names_from};
 
 use nm_proto::Listed;
-use nm_scenario_parts::reader::{Names, fault_at, fault_here, missing, named, seen_from_outside};
+use nm_scenario_parts::reader::{
+    KnownNames, fault_at, fault_here, missing, named, seen_from_outside,
+};
 use nm_scenario_parts::{Cause, Fault, ReadError, ScenarioKind};
 use serde_json::{Map, Value};
 use std::alloc::Global;
@@ -25,22 +27,6 @@ pub trait Reader {
 
     fn read(&self, alloc: Global, part: &Value) -> Result<Self::Out, ReadError>
         ensures { Gives result (read (form self.now) (view part.now)) };
-}
-
-/// A reader by a form, where a reader that gives what a function does is asked for.
-#[derive(Drop)]
-pub struct ByForm<'a, R> {
-    pub reader: &'a R,
-}
-
-impl<'a, R: Reader> nm_scenario_parts::reader::Reader for ByForm<'a, R> {
-    type Out = R::Out;
-
-    ghost reads = { λ r. read (R.form r.reader.now) };
-
-    fn read(&self, alloc: Global, part: &Value) -> Result<R::Out, ReadError> {
-        self.reader.read(alloc, part)
-    }
 }
 
 /// A fault of the part that is looked at, as a lower reader told it.
@@ -113,7 +99,11 @@ pub fn read_object(alloc: Global, whole: &Value) -> Result<(), ReadError>
 }
 
 /// An object without members of other names.
-pub fn no_other_names<N: Names>(alloc: Global, whole: &Value, names: &N) -> Result<(), ReadError>
+pub fn no_other_names<N: KnownNames>(
+    alloc: Global,
+    whole: &Value,
+    names: &N,
+) -> Result<(), ReadError>
     ensures { Gives result (names_from (N.knows names.now) (as_object (view whole.now))) }
 {
     match whole.as_object() {
@@ -122,7 +112,7 @@ pub fn no_other_names<N: Names>(alloc: Global, whole: &Value, names: &N) -> Resu
     }
 }
 
-fn no_others<N: Names>(
+fn no_others<N: KnownNames>(
     alloc: Global,
     members: &Map<String, Value>,
     names: &N,

@@ -23,7 +23,7 @@ use crate::reader::{Reader, no_other_names, optional, read_object, required};
 use crate::words::{argument, no_word, or_else, takes};
 use nm_base::Label;
 use nm_proto::Listed;
-use nm_scenario_parts::reader::{Names, fault_here};
+use nm_scenario_parts::reader::{KnownNames, fault_here};
 use nm_scenario_parts::words::{is_word, item_count, natural_in};
 use nm_scenario_parts::{ReadError, ScenarioKind};
 use serde_json::Value;
@@ -98,7 +98,7 @@ pub fn events_are_kept()
 #[derive(Drop)]
 struct CommitNames;
 
-impl Names for CommitNames {
+impl KnownNames for CommitNames {
     ghost knows = { λ _. knows commit_parts };
 
     fn knows(&self, name: &str) -> bool {
@@ -316,7 +316,7 @@ impl Reader for Events {
 #[derive(Drop)]
 struct EditNames;
 
-impl Names for EditNames {
+impl KnownNames for EditNames {
     ghost knows = { λ _. knows (edit_parts 0 0) };
 
     fn knows(&self, name: &str) -> bool {
@@ -431,7 +431,7 @@ fn count_in(whole: &Value, name: &str) -> usize
 #[derive(Drop)]
 struct SampleNames;
 
-impl Names for SampleNames {
+impl KnownNames for SampleNames {
     ghost knows = { λ _. knows (sample_parts 0) };
 
     fn knows(&self, name: &str) -> bool {

@@ -14,20 +14,22 @@ pub enum Step {
     Item(usize),
 }
 
-/// Where a lower reader found a fault inside the text that it was given.
+/// Where a lower reader found a fault.
 #[derive(Drop)]
 pub enum InnerPlace {
-    /// So many bytes from the text's beginning.
-    Byte(u64),
-    /// At a path of its own.
+    /// So many bytes from the beginning of a module's text.
+    Byte(u32),
+    /// At the path of a node of a configuration or an edit.
     Path(Label),
 }
 
-/// What a lower reader told of a module's text, a configuration, an edit or a path.
+/// What a lower reader told of a module's text, a configuration or an edit.
 #[derive(Drop)]
 pub struct Inner {
-    /// The lower reader's own word for the fault.
+    /// The kind of the fault: the lower reader's own word for it.
     pub what: Label,
+    /// The keyword or the name in the module's text that is wrong, where the lower reader names one.
+    pub about: Option<Label>,
     pub place: InnerPlace,
 }
 

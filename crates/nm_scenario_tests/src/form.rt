@@ -266,7 +266,8 @@ fn weights_are_counted(rt: HostRuntime) -> Result<(), Fail> {
 #[test]
 fn lower_faults_are_kept(rt: HostRuntime) -> Result<(), Fail> {
     let inner = Inner {
-        what: Label::new(rt.alloc(), "bad-name")?,
+        what: Label::new(rt.alloc(), "bad-keyword")?,
+        about: None,
         place: InnerPlace::Byte(17),
     };
     let cause = Cause {
@@ -283,7 +284,7 @@ fn lower_faults_are_kept(rt: HostRuntime) -> Result<(), Fail> {
             assert_eq!(rt; fault_text(rt.alloc(), &fault)?.as_str(), "yang /3");
             match &fault.cause.inner {
                 Some(inner) => {
-                    assert_eq!(rt; inner.what.as_str(), "bad-name");
+                    assert_eq!(rt; inner.what.as_str(), "bad-keyword");
                     assert!(rt; matches!(inner.place, InnerPlace::Byte(17)));
                 }
                 None => return Err(Fail::new("what was told is lost")),

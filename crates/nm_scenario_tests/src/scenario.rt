@@ -2,7 +2,7 @@ use nm_base::{DeviceNo, EditNo, Label};
 use nm_proto::{DefaultOperation, Event, PlannedEdit, Request};
 use nm_scenario::head::{Head, parts_of, read_head};
 use nm_scenario::{Body, Fault, ReadError, Scenario, read_scenario};
-use nm_scenario_parts::write_place;
+use nm_scenario_parts::{InnerPlace, write_place};
 use serde_json::Value;
 use std::alloc::Global;
 use std::test::Fail;
@@ -115,6 +115,72 @@ fn faults_are_told(rt: HostRuntime) -> Result<(), Fail> {
     for Case(text, want) in &CASES {
         let found = told(rt.alloc(), read_scenario(rt.alloc(), text.as_bytes()))?;
         assert_eq!(rt; found.as_slice(), want.as_bytes(), "{text}");
+    }
+    Ok(())
+}
+
+// What a reader of modules, configurations or edits told: its word, what that is about, and the place.
+fn told_inside(alloc: Global, text: &str) -> Result<String, Fail> {
+    match read_scenario(alloc, text.as_bytes()) {
+        Err(ReadError::Bad(fault)) => inner_text(alloc, &fault),
+        _ => Err(Fail::new("no fault")),
+    }
+}
+
+fn inner_text(alloc: Global, fault: &Fault) -> Result<String, Fail> {
+    match &fault.cause.inner {
+        None => Ok(format!(in alloc; "nothing")?),
+        Some(inner) => {
+            let about = match &inner.about {
+                None => "-",
+                Some(name) => name.as_str(),
+            };
+            let what = inner.what.as_str();
+            match &inner.place {
+                InnerPlace::Byte(place) => Ok(format!(in alloc; "{what} {about} {place}")?),
+                InnerPlace::Path(path) => Ok(format!(in alloc;
+                    "{what} {about} {}",
+                    path.as_str()
+                )?),
+            }
+        }
+    }
+}
+
+// Bytes are counted in the module's text; paths are those of the data.
+static INSIDE: [Case; 7] = [
+    Case(
+        r#"{"netm":1,"contents":"yang","modules":["module m {"]}"#,
+        "unclosed-brace - 9",
+    ),
+    Case(
+        r#"{"netm":1,"contents":"yang","modules":["module a {namespace 'u:a';prefix a;leaf l {type binary;}}"]}"#,
+        "unsupported binary 43",
+    ),
+    Case(
+        r#"{"netm":1,"contents":"yang","devices":[{"running":{"a:b":1}}]}"#,
+        "unknown - /a:b",
+    ),
+    Case(
+        r#"{"netm":1,"contents":"yang","modules":["module m {namespace 'u:m';prefix m;leaf a {type uint8;mandatory true;}}"],"devices":[{"running":{}}]}"#,
+        "data-missing - /m:a",
+    ),
+    Case(
+        r#"{"netm":1,"contents":"yang","devices":[{"running":{}}],"changes":[{"edits":[{"device":1,"edit":{"m:a":1}}]}]}"#,
+        "unknown-element - /m:a",
+    ),
+    Case(
+        r#"{"netm":1,"contents":"flat","devices":[{"running":{"7":1000001}}]}"#,
+        "invalid-value - 7",
+    ),
+    Case(r#"{"netm":1,"contents":"flat"}"#, "nothing"),
+];
+
+#[test]
+fn lower_readers_are_told(rt: HostRuntime) -> Result<(), Fail> {
+    for Case(text, want) in &INSIDE {
+        let found = told_inside(rt.alloc(), text)?;
+        assert_eq!(rt; found.as_str(), *want, "{text}");
     }
     Ok(())
 }

@@ -34,7 +34,7 @@ use Rattle.nm_schema_leafref.specs.declared.fault.PathFault.TheVariants as fault
 use Rattle.nm_schema_leafref.specs.Place.{parent_in, parent_of, is_leaf, is_leaf_in, is_leaf_at, is_leaf_node, is_known_node, is_known_module, is_of_module}
 use Rattle.nm_schema_leafref.specs.Walk.{spot_at, above, raised, begun, module_led, named_module, found_or, into_module, into_node, down, stepped, walked, ended, led_along, path_at, path_row_of, meaning_at, path_row, led_if, led_by, led_from, led_to}
 use Rattle.nm_schema_leafref.specs.Target.{target_in, targets, plain_in, plain_type, plain_at, type_step, type_of_node}
-use Rattle.nm_schema_leafref.specs.Fault.{IsSound, HasFault, flaw_from, flaw_in}
+use Rattle.nm_schema_leafref.specs.Fault.{HasNoFault, HasFault, flaw_from, flaw_in}
 use Rattle.nm_schema_leafref.proofs.Faults.{leads_nowhere}
 use Rattle.nm_schema_flaws.specs.Facts.{Facts, AreFacts, definitions, tree}
 use Rattle.nm_schema_flaws.specs.Flaw.{path_flaw}
@@ -188,7 +188,7 @@ module _ (rows : List Row) (facts : Facts) (are : AreFacts rows facts) (all : Ar
       by None e = refl
       by (Some f) e = absurd (cc)
 
-  sound : (p : ℕ) → p < length rows → IsSound defs t p
+  sound : (p : ℕ) → p < length rows → HasNoFault defs t p
   sound p lt = subst (λ (o : Option PathFault). HasFault defs t p o) (no_fault p lt) (are.paths p lt)
 
   -- a leafref's path is that of a row

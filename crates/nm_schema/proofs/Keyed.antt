@@ -19,7 +19,7 @@ use Rattle.nm_schema_keys.specs.declared.found.Found.{Found}
 use Rattle.nm_schema_keys.specs.declared.found.Found.TheVariants as found
 use Rattle.nm_schema_keys.specs.declared.passage.Passage.{Passage}
 use Rattle.nm_schema_keys.specs.declared.passage.Passage.TheVariants as passage
-use Rattle.nm_schema_keys.specs.Standing.{loses_state, is_lost}
+use Rattle.nm_schema_keys.specs.ConfigUse.{loses_state, is_lost}
 use Rattle.nm_schema_keys.specs.Words.{words_of, pieces_of, own_name}
 use Rattle.nm_schema_keys.specs.Found.{is_called, row_or_missing, found_among, agreed, seen_among, is_fit, fitting, named_among, member_called, fit_member, fit_among}
 use Rattle.nm_schema_keys.specs.Said.{said_within, said_in, said_at}

@@ -16,7 +16,7 @@ use Rattle.nm_schema_shape.specs.Arguments.{argument_at}
 use Rattle.nm_schema_shape.specs.Passing.{plain_members}
 use Rattle.nm_schema_keys.specs.declared.found.Found.{Found}
 use Rattle.nm_schema_keys.specs.declared.found.Found.TheVariants as found
-use Rattle.nm_schema_keys.specs.Standing.{Standing, loses_state, is_lost}
+use Rattle.nm_schema_keys.specs.ConfigUse.{ConfigUse, loses_state, is_lost}
 use Rattle.nm_schema_keys.specs.Words.{own_name, words_of}
 use Rattle.nm_schema_keys.specs.Found.{is_called, row_or_missing, is_fit, fitting, named_among, fit_among}
 use Rattle.nm_schema_keys.specs.Said.{Said, said_within, said_in, said_at}
@@ -238,7 +238,7 @@ module _ (rows : List Row) (groupings : List (Option ℕ)) (l : ℕ) (leafs : Li
       let n = none_is (key_words_flaw (key_leaf rows (Some nodes) loses m) texts) true leafs (leafs_named (key_leaf rows (Some nodes) loses m) texts) e in
       leafs_known nodes loses m texts known n.0 n.2
 
-  module _ (standing : Standing) where
+  module _ (standing : ConfigUse) where
     said_leafs : (o : Option Said) → ((s : Said) → o ≡ Some s → s.list ≡ l) → said_keys rows groupings standing o ≡ Some leafs → HasKeyRows rows groupings l leafs
     said_leafs None of e = absurd (cc)
     said_leafs (Some s) of e =

@@ -60,11 +60,11 @@ length_on_own : (d : Derivation) (text : List ℕ) (b : Built) → is_reference 
 length_on_own d text built.string own = limited_own d _ own
 length_on_own d text _ own = tt
 
-named_own : (limits : List (List (ℤ × ℤ))) (r : Result (List Member) ListFault) → IsOwn (named limits r)
+named_own : (limits : Option (List (ℤ × ℤ))) (r : Result (List Member) ListFault) → IsOwn (named limits r)
 named_own limits (Err fault) = tt
 named_own limits (Ok members) = refl
 
-flagged_own : (limits : List (List (ℤ × ℤ))) (r : Result (List Member) ListFault) → IsOwn (flagged limits r)
+flagged_own : (limits : Option (List (ℤ × ℤ))) (r : Result (List Member) ListFault) → IsOwn (flagged limits r)
 flagged_own limits (Err fault) = tt
 flagged_own limits (Ok members) = refl
 

@@ -127,7 +127,7 @@ pub data IsOutcome (numbering : Numbering) (d : Derivation) (statements : List L
 no_more : (s : Listed) (ss : List Listed) → s ∷ ss ≡ [] → ⊥
 no_more s ss e = absurd (cc)
 
-module _ (limits : List (List (ℤ × ℤ))) (s : Listed) (ss : List Listed) where
+module _ (limits : Option (List (ℤ × ℤ))) (s : Listed) (ss : List Listed) where
   named_by : (b : Built) (base : Option (List Member)) (r : Result (List Member) ListFault) → members_of Values base (s ∷ ss) ≡ r → names_on (record { built = b; limits = limits }) (s ∷ ss) b ≡ named limits (members_of Values base (s ∷ ss))
       → IsOutcome Values (record { built = b; limits = limits }) (s ∷ ss)
   unfolding members_of

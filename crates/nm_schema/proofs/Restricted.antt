@@ -1,5 +1,5 @@
 -- A type that takes each of its restrictions takes them all (RFC 7950 sections 7.4 and 9).
-use Rattle.std.proofs.Common.{◌≡◌, ◌∙◌, ℕ, ℤ, List, [], ◌∷◌, ◌++◌, Bool, true, false, Option, Some, None, Result, Ok, Err, refl, sym, ap, subst}
+use Rattle.std.proofs.Common.{◌≡◌, ◌∙◌, ℕ, ℤ, List, [], ◌∷◌, Bool, true, false, Option, Some, None, Result, Ok, Err, refl, sym, ap, subst}
 use Rattle.std.specs.Prelude.{is_some, pos}
 use Rattle.nm_schema_derive.specs.declared.members.Listed.{Listed}
 use Rattle.nm_schema_derive.specs.declared.derived.StepFault.{StepFault}
@@ -93,10 +93,10 @@ refused keyword e = absurd (cc)
 not_taken : (made : Derivation) (fault : StepFault) → Err fault ≡ Ok made → ⊥
 not_taken made fault e = absurd (cc)
 
-abbrev pub of : List (List (ℤ × ℤ)) → Built → Derivation
+abbrev pub of : Option (List (ℤ × ℤ)) → Built → Derivation
 of limits b = record { built = b; limits = limits }
 
-module _ (limits : List (List (ℤ × ℤ))) (keyword : List ℕ) where
+module _ (limits : Option (List (ℤ × ℤ))) (keyword : List ℕ) where
   pub no_digits : (b : Built) (o : Option (List ℕ)) → takes_digits b ≡ false → IsFine keyword (with_digits (of limits b)) o → o ≡ None
   no_digits b None t h = refl
   no_digits bare_decimal (Some text) t h = absurd (cc)
@@ -132,13 +132,13 @@ Keeps b r = (made : Derivation) × (r ≡ Ok made) × (made.built ≡ b)
 
 limited_taken : (keyword : List ℕ) (d : Derivation) (o : Option (List (ℤ × ℤ))) → flaw_on keyword (limited d o) ≡ None → Keeps d.built (limited d o)
 limited_taken keyword d None e = absurd (refused keyword e)
-limited_taken keyword d (Some parts) e = (record { built = d.built; limits = d.limits ++ parts ∷ [] }, refl, refl)
+limited_taken keyword d (Some parts) e = (record { built = d.built; limits = Some parts }, refl, refl)
 
-made_names : (limits : List (List (ℤ × ℤ))) (r : Result (List Member) ListFault) (e : Derivation) → named limits r ≡ Ok e → lacking e.built ≡ None
+made_names : (limits : Option (List (ℤ × ℤ))) (r : Result (List Member) ListFault) (e : Derivation) → named limits r ≡ Ok e → lacking e.built ≡ None
 made_names limits (Err fault) e is = absurd (not_taken e (step_fault fault) is)
 made_names limits (Ok members) e is = let same : record { built = names members; limits = limits } ≡ e = cc in ap (λ (d : Derivation). lacking d.built) (sym same)
 
-made_bits : (limits : List (List (ℤ × ℤ))) (r : Result (List Member) ListFault) (e : Derivation) → flagged limits r ≡ Ok e → lacking e.built ≡ None
+made_bits : (limits : Option (List (ℤ × ℤ))) (r : Result (List Member) ListFault) (e : Derivation) → flagged limits r ≡ Ok e → lacking e.built ≡ None
 made_bits limits (Err fault) e is = absurd (not_taken e (step_fault fault) is)
 made_bits limits (Ok members) e is = let same : record { built = bits members; limits = limits } ≡ e = cc in ap (λ (d : Derivation). lacking d.built) (sym same)
 
@@ -159,7 +159,7 @@ pub record AreFine (r : TypeRestrictions) (d : Derivation) : Type 0 where
   pub needs_names : lacking d.built ≡ Some Enum → r.names ≡ [] → ⊥
   pub needs_bits : lacking d.built ≡ Some Bit → r.bits ≡ [] → ⊥
 
-module _ (r : TypeRestrictions) (limits : List (List (ℤ × ℤ))) (b : Built) (are : AreFine r (of limits b)) where
+module _ (r : TypeRestrictions) (limits : Option (List (ℤ × ℤ))) (b : Built) (are : AreFine r (of limits b)) where
   abbrev d : Derivation
   d = of limits b
 
@@ -233,7 +233,7 @@ module _ (r : TypeRestrictions) (limits : List (List (ℤ × ℤ))) (b : Built) 
       (names_out r d d r.names (no_names limits are.at_length b r.names no_n are.names))
       (bits_out r d d r.bits (no_bits limits are.at_length b r.bits no_b are.bits)) whole
 
-digits_there : (r : TypeRestrictions) (limits : List (List (ℤ × ℤ))) (keyword : List ℕ) (o : Option (List ℕ)) → is_some o ≡ true → IsFine keyword (with_digits (of limits bare_decimal)) o
+digits_there : (r : TypeRestrictions) (limits : Option (List (ℤ × ℤ))) (keyword : List ℕ) (o : Option (List ℕ)) → is_some o ≡ true → IsFine keyword (with_digits (of limits bare_decimal)) o
     → (digits : ℕ) × (digits_if (of limits bare_decimal) o ≡ Ok (of limits (decimal digits)))
 digits_there r limits keyword None some h = absurd (cc)
 digits_there r limits keyword (Some text) some h = by (digits_read text) h
@@ -242,7 +242,7 @@ digits_there r limits keyword (Some text) some h = by (digits_read text) h
     by None h = absurd (refused keyword h)
     by (Some digits) h = (digits, refl)
 
-taken_by : (r : TypeRestrictions) (limits : List (List (ℤ × ℤ))) (b : Built) → AreFine r (of limits b) → IsMade r (of limits b)
+taken_by : (r : TypeRestrictions) (limits : Option (List (ℤ × ℤ))) (b : Built) → AreFine r (of limits b) → IsMade r (of limits b)
 taken_by r limits (integer low high) are =
     let first = no_digits limits are.at_digits (integer low high) r.digits refl are.digits in
     ranged r limits (integer low high) are (of limits (integer low high)) (ap (digits_if (of limits (integer low high))) first) (after_none r limits (integer low high) are first) refl refl refl refl

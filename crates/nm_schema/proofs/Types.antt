@@ -24,10 +24,12 @@ use Rattle.nm_schema_derive.specs.declared.derived.StepFault.{StepFault}
 use Rattle.nm_schema_derive.specs.BuiltIn.{integer_named, other_named, first_of}
 use Rattle.nm_schema_derive.specs.Built as built
 use Rattle.nm_schema_derive.specs.Built.{Built, Derivation}
-use Rattle.nm_schema_derive.specs.Kinds.{member_name, bit_of, kind_made, with_limits}
+use Rattle.nm_schema_derive.specs.Order.{names_in_order}
+use Rattle.nm_schema_derive.specs.Kinds.{member_name, kind_made, with_limits}
 use Rattle.nm_schema_derive.specs.Members.{later_number, number_in, new_number, number_for, one_more, with_statement, members_of}
 use Rattle.nm_schema_derive.specs.Step.{start, limited, digits_put, digits_on, digits_read, range_on, length_on, named, names_on, flagged, bits_on, lacking}
 use Rattle.nm_schema_derive.specs.Restricted.{digits_if, range_if, length_if, names_if, bits_if}
+use Rattle.nm_schema_derive.proofs.Naming.{in_order_once}
 use Rattle.nm_schema_typing.specs.Restricting.{TypeRestrictions, restrictions_of}
 use Rattle.nm_schema_typing.specs.TypeGraph.{leads, is_typed, is_type}
 use Rattle.nm_schema_typing.specs.Meaning.{Meaning, plain, reference, then_bits, then_names, then_length, then_range, restricted, is_unrestricted, whole, restricted_at, is_path, leads_to, leafref_at, kept_at, narrowed_at, is_leafref, bare, built_in_at, built_in_named, named_built_in, type_meaning, meaning_from, meaning_at, first_known, meaning_step}
@@ -131,7 +133,7 @@ length_on_fit : (d : Derivation) (text : List ℕ) (b : Built) → IsFit d.built
 length_on_fit d text built.string fit = limited_fit d _ fit
 length_on_fit d text _ fit = tt
 
-named_fit : (limits : List (List (ℤ × ℤ))) (r : Result (List Member) ListFault) → IsFitResult (named limits r)
+named_fit : (limits : Option (List (ℤ × ℤ))) (r : Result (List Member) ListFault) → IsFitResult (named limits r)
 named_fit limits (Err fault) = tt
 named_fit limits (Ok members) = tt
 
@@ -140,7 +142,7 @@ names_on_fit d statements built.bare_names = named_fit d.limits _
 names_on_fit d statements (built.names base) = named_fit d.limits _
 names_on_fit d statements _ = tt
 
-flagged_fit : (limits : List (List (ℤ × ℤ))) (r : Result (List Member) ListFault) → ((members : List Member) → r ≡ Ok members → IsOnce (map member_name members)) → IsFitResult (flagged limits r)
+flagged_fit : (limits : Option (List (ℤ × ℤ))) (r : Result (List Member) ListFault) → ((members : List Member) → r ≡ Ok members → IsOnce (map member_name members)) → IsFitResult (flagged limits r)
 flagged_fit limits (Err fault) once = tt
 flagged_fit limits (Ok members) once = once members refl
 
@@ -314,11 +316,7 @@ meaning_fit rows typedefs i = within_fit rows typedefs (length rows) i
 abbrev IsYang : TypeOfLeaf → Type 0
 IsYang t = HasLow t.kind × HasDistinctNames t.kind × HasHeldBounds t.kind
 
-bit_names : (members : List Member) → map (λ (bit : List ℕ × ℕ). bit.0) (map bit_of members) ≡ map member_name members
-bit_names [] = refl
-bit_names (m ∷ members) = ap (λ (names : List (List ℕ)). member_name m ∷ names) (bit_names members)
-
-made_fit : (limits : List (List (ℤ × ℤ))) (b : Built) (t : TypeOfLeaf) → IsFit b → with_limits limits (kind_made b) ≡ Some t → IsYang t
+made_fit : (limits : Option (List (ℤ × ℤ))) (b : Built) (t : TypeOfLeaf) → IsFit b → with_limits limits (kind_made b) ≡ Some t → IsYang t
 made_fit limits b t fit e = by b fit e
   where
     is : (k : Kind) → HasLow k × HasDistinctNames k × HasHeldBounds k → Some (record { kind = k; limits = limits }) ≡ Some t → IsYang t
@@ -330,7 +328,7 @@ made_fit limits b t fit e = by b fit e
     by built.boolean fit f = is boolean (tt, tt, tt) f
     by built.string fit f = is string (tt, tt, tt) f
     by (built.names members) fit f = is (enumeration (map member_name members)) (tt, tt, tt) f
-    by (built.bits members) fit f = is (bits (map bit_of members)) (tt, subst (λ (names : List (List ℕ)). IsOnce names) (sym (bit_names members)) fit, tt) f
+    by (built.bits members) fit f = is (bits (names_in_order members)) (tt, in_order_once members fit, tt) f
     by built.empty fit f = is empty (tt, tt, tt) f
     by built.bare_decimal fit f = absurd (cc)
     by built.bare_names fit f = absurd (cc)

@@ -16,7 +16,7 @@ use Rattle.nm_schema_keys.specs.declared.found.Found.{Found}
 use Rattle.nm_schema_keys.specs.declared.found.Found.TheVariants as found
 use Rattle.nm_schema_keys.specs.declared.passage.Passage.{Passage}
 use Rattle.nm_schema_keys.specs.declared.passage.Passage.TheVariants as passage
-use Rattle.nm_schema_keys.specs.Standing.{Standing, loses_state, is_lost}
+use Rattle.nm_schema_keys.specs.ConfigUse.{ConfigUse, loses_state, is_lost}
 use Rattle.nm_schema_keys.specs.Words.{words_of, pieces_of, own_name}
 use Rattle.nm_schema_keys.specs.Found.{is_called, row_or_missing, found_among, agreed, seen_among, is_fit, fitting, member_called, fit_member}
 use Rattle.nm_schema_keys.specs.Said.{Said, said_at}
@@ -175,7 +175,7 @@ module _ (rows : List Row) (groupings : List (Option ℕ)) (loses : Bool) where
 
 -- ---- unique statements
 
-module _ (rows : List Row) (groupings : List (Option ℕ)) (standing : Standing) (l : ℕ) where
+module _ (rows : List Row) (groupings : List (Option ℕ)) (standing : ConfigUse) (l : ℕ) where
   said_way : (o : Option Said) (ways : List (List ℕ)) (way : List ℕ) → ((s : Said) → o ≡ Some s → s.list ≡ l) → said_unique rows groupings standing o ≡ Some ways → Contains ways way → IsWay rows groupings l way
   said_way None ways way of e c = absurd (cc)
   said_way (Some s) ways way of e c =

@@ -6,7 +6,7 @@ use Rattle.nm_schema_rows.specs.Rows.{roots, same_parent}
 use Rattle.nm_schema_names.specs.Graph.{leading}
 use Rattle.nm_schema_shape.specs.Holding.{holding}
 use Rattle.nm_schema_shape.specs.Config.{is_state, configuring}
-use Rattle.nm_schema_keys.specs.Standing.{Standing}
+use Rattle.nm_schema_keys.specs.ConfigUse.{ConfigUse}
 use Rattle.nm_schema_keys.specs.Keys.{has_known, keys_of}
 use Rattle.nm_schema_expansion.specs.declared.instance.Instance.{Instance}
 use Rattle.nm_schema_expansion.specs.Expansion.{Expanded, expanded, kept_below, grown_members}
@@ -47,7 +47,7 @@ abbrev pub marks_of : List Row → (ℕ → Bool) → List Bool
 marks_of rows test = map test (range_with_len 0 (length rows))
 
 -- how rows are used
-abbrev pub standing_of : List Row → Standing
+abbrev pub standing_of : List Row → ConfigUse
 standing_of rows = record { configured = is_marked (marks_of rows (is_configured rows)); in_state = is_marked (marks_of rows (stands_in_state rows)) }
 
 -- a row is a key leaf of a list (RFC 7950 section 7.8.2)

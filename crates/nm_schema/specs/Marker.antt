@@ -9,7 +9,7 @@ use Rattle.nm_tree.specs.Nodes.{SchemaTree}
 
 -- the numbers of changes: `uint32` (RFC 7950 section 9.2)
 abbrev pub change_type : TypeOfLeaf
-change_type = record { kind = integer (pos 0) (pos 4294967295); limits = [] }
+change_type = record { kind = integer (pos 0) (pos 4294967295); limits = None }
 
 abbrev pub marker_node : Option ℕ → List ℕ → NodeKind → Node
 marker_node parent name k = record { parent = parent; case_in = None; «module» = marker_name; name = name; kind = k }

@@ -73,7 +73,7 @@ fn change_type(alloc: Global) -> Result<SharedType, NoMemory>
                 low: 0,
                 high: 4_294_967_295,
             },
-            limits: Vec::new(alloc),
+            limits: None,
         },
     )
 }

@@ -19,7 +19,7 @@ use nm_base::NoMemory;
 use nm_schema_expansion::expand;
 use nm_schema_flaws::{Grounds, definitions};
 use nm_schema_leafref::{Paths, paths_of};
-use nm_schema_names::Names;
+use nm_schema_names::RowNames;
 use nm_schema_rows::{Rows, rows_of};
 use nm_schema_shape::{Shape, shape_of};
 use nm_tree::Schema;
@@ -50,7 +50,7 @@ fn answer_made<'a>(
     requires shape { shape.now ≡ outline rows.now definitions.now }
     ensures { spec.Answered rows.now result }
 {
-    let names = Names::new(alloc, rows)?;
+    let names = RowNames::new(alloc, rows)?;
     let expansion = expand(alloc, shape)?;
     let grounds = Grounds::new(alloc, &names, definitions, shape, &expansion, paths)?;
     answer(alloc, &grounds)
@@ -61,7 +61,7 @@ fn definitions_of(alloc: Global, rows: &Rows) -> Result<Vec<Option<usize>>, NoMe
     ensures value { IfOk result (λ found. found.items ≡ facts.definitions rows.now) }
     ensures named { IfOk result (λ found. AreNamed rows.now found.items) }
 {
-    let names = Names::new(alloc, rows)?;
+    let names = RowNames::new(alloc, rows)?;
     definitions(alloc, &names)
 }
 

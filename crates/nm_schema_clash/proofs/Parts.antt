@@ -7,7 +7,7 @@ use Rattle.std.proofs.lemmas.Slice.Eq.{bytes_eq-Decides}
 use Rattle.std.proofs.lemmas.List.{get_or-set_same, get_or-set_other, get_or_default}
 use Rattle.std.proofs.lemmas.List.Folds.{list_any-append, list_any_more}
 use Rattle.nm_schema_shape.specs.Arguments.{argument_at}
-use Rattle.nm_schema_clash.specs.Clash.{has_name, Knowledge, nodes_at, names_at, brought_by, brings, AreKept, Parts, parts, has_part, AreApart}
+use Rattle.nm_schema_clash.specs.Clash.{has_name, Knowledge, nodes_at, names_at, brought_by, brings, AreSetsOfNames, Parts, parts, has_part, AreApart}
 
 bytes_equal : (a b : List ℕ) → bytes_eq a b ≡ true → a ≡ b
 bytes_equal a b e = (bytes_eq-Decides a b).0 e
@@ -85,16 +85,16 @@ or_nothing false = refl
 
 module _ (k : Knowledge) where
   -- a set that is kept is of the names that its row brings
-  pub kept-read : (sets : List (Option (List (List ℕ)))) (at : ℕ) (slot : Option (List (List ℕ))) (names : List (List ℕ)) (name : List ℕ) → AreKept k sets → at < length sets → slot ≡ get_or sets at slot → slot ≡ Some names → has_name names name ≡ brings k name at
+  pub kept-read : (sets : List (Option (List (List ℕ)))) (at : ℕ) (slot : Option (List (List ℕ))) (names : List (List ℕ)) (name : List ℕ) → AreSetsOfNames k sets → at < length sets → slot ≡ get_or sets at slot → slot ≡ Some names → has_name names name ≡ brings k name at
   unfolding brings
   kept-read sets at slot names name kept lt here is =
       let e : slice_index_or sets at None ≡ Some names = sym (get_or_default sets at slot None lt) ∙ sym here ∙ is in
       kept at names e name
 
-  pub kept_none : (sets : List (Option (List (List ℕ)))) → ((i : ℕ) → slice_index_or sets i None ≡ None) → AreKept k sets
+  pub kept_none : (sets : List (Option (List (List ℕ)))) → ((i : ℕ) → slice_index_or sets i None ≡ None) → AreSetsOfNames k sets
   kept_none sets none i names e = let f = none i in absurd (cc)
 
-  kept_each : (sets : List (Option (List (List ℕ)))) (at : ℕ) (made : List (List ℕ)) → AreKept k sets → at < length sets → ((n : List ℕ) → has_name made n ≡ brought_by k at n)
+  kept_each : (sets : List (Option (List (List ℕ)))) (at : ℕ) (made : List (List ℕ)) → AreSetsOfNames k sets → at < length sets → ((n : List ℕ) → has_name made n ≡ brought_by k at n)
       → (i : ℕ) (names : List (List ℕ)) → slice_index_or (slice_set sets at (Some made)) i None ≡ Some names → (i ≡ at) ⊎ (i ≢ at) → (name : List ℕ) → has_name names name ≡ brought_by k i name
   kept_each sets at made kept lt are i names e (inl same) name =
       let f : Some names ≡ Some made = sym e ∙ ap (λ j. slice_index_or (slice_set sets at (Some made)) j None) same ∙ get_or-set_same sets at (Some made) None lt in
@@ -102,7 +102,7 @@ module _ (k : Knowledge) where
       ap (λ (l : List (List ℕ)). has_name l name) g ∙ are name ∙ ap (λ j. brought_by k j name) (sym same)
   kept_each sets at made kept lt are i names e (inr other) name = kept i names (sym (get_or-set_other sets at i (Some made) None other) ∙ e) name
 
-  pub kept_more : (sets : List (Option (List (List ℕ)))) (at : ℕ) (made : List (List ℕ)) → AreKept k sets → at < length sets → ((n : List ℕ) → has_name made n ≡ brought_by k at n) → AreKept k (slice_set sets at (Some made))
+  pub kept_more : (sets : List (Option (List (List ℕ)))) (at : ℕ) (made : List (List ℕ)) → AreSetsOfNames k sets → at < length sets → ((n : List ℕ) → has_name made n ≡ brought_by k at n) → AreSetsOfNames k (slice_set sets at (Some made))
   kept_more sets at made kept lt are i names e = kept_each sets at made kept lt are i names e (cases_eq i at)
 
   pub named : (nodes : List ℕ) (at : ℕ) (name : List ℕ) → nodes ≡ nodes_at k at → has_name (map (argument_at k.rows) nodes) name ≡ brought_by k at name

@@ -199,8 +199,8 @@ unfoldable pub brings : Knowledge → List ℕ → ℕ → Bool
 brings k name i = brought_by k i name
 
 -- the sets that are kept are of the names that their rows bring (this project's own)
-abbrev pub AreKept : Knowledge → List (Option (List (List ℕ))) → Type 0
-AreKept k sets = (i : ℕ) (names : List (List ℕ)) → slice_index_or sets i None ≡ Some names → (name : List ℕ) → has_name names name ≡ brought_by k i name
+abbrev pub AreSetsOfNames : Knowledge → List (Option (List (List ℕ))) → Type 0
+AreSetsOfNames k sets = (i : ℕ) (names : List (List ℕ)) → slice_index_or sets i None ≡ Some names → (name : List ℕ) → has_name names name ≡ brought_by k i name
 
 -- what is brought to a row: names, and all that some rows bring (this project's own)
 pub record Parts : Type 0 where

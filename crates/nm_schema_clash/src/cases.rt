@@ -5,7 +5,7 @@ ghost use Rattle.nm_schema_rows.specs.Rows.{has_word};
 ghost use Rattle.nm_schema_rows.specs.declared.word.Word.TheVariants as word;
 ghost use Rattle.nm_schema_clash.specs.Clash as spec;
 
-use crate::names::{Names, name_at};
+use crate::names::{NameSet, name_at};
 use nm_base::{Label, NoMemory};
 use nm_schema_rows::{Rows, Word};
 use nm_schema_shape::is_node;
@@ -67,7 +67,7 @@ fn choice_of(rows: &Rows, at: usize) -> Option<usize>
 fn next_case(
     alloc: Global,
     rows: &Rows,
-    taken: &mut Vec<Names>,
+    taken: &mut Vec<NameSet>,
     at: usize,
 ) -> Result<Option<Label>, NoMemory>
     requires within { at < length rows.now }
@@ -88,12 +88,12 @@ fn next_case(
 }
 
 // No names taken in any choice.
-fn no_cases(alloc: Global, count: usize) -> Result<Vec<Names>, NoMemory>
+fn no_cases(alloc: Global, count: usize) -> Result<Vec<NameSet>, NoMemory>
     ensures { IfOk result (λ taken. taken.items ≡ replicate count []) }
 {
     let mut taken = Vec::with_capacity(alloc, count)?;
     for _ in 0..count {
-        taken.push(Names::new(alloc))?;
+        taken.push(NameSet::new(alloc))?;
     }
     Ok(taken)
 }

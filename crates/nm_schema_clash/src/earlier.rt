@@ -5,7 +5,7 @@ ghost use Rattle.std.specs.List.{find, list_any};
 ghost use Rattle.nm_schema_clash.specs.Clash as spec;
 
 use crate::known::{FEW, Known};
-use crate::names::{Names, add_names, name_at};
+use crate::names::{NameSet, add_names, name_at};
 use nm_base::{Label, NoMemory};
 use std::alloc::Global;
 use std::marker::Model;
@@ -13,7 +13,7 @@ use std::marker::Model;
 /// What nodes and uses bring to the row that they stand in: the names of those that bring few, and the rows that bring many.
 #[derive(Drop)]
 pub(crate) struct Earlier {
-    names: Names,
+    names: NameSet,
     wide: Vec<usize>,
 }
 
@@ -53,7 +53,12 @@ fn are_apart(alloc: Global, known: &Known<'_>, other: usize, at: usize) -> Resul
 
 // Whether a row brings one of some names, which are more than it brings.
 #[tactic(auto, unfolding(crate::specs::Clash::names_at))]
-fn meet_names(alloc: Global, known: &Known<'_>, names: &Names, at: usize) -> Result<bool, NoMemory>
+fn meet_names(
+    alloc: Global,
+    known: &Known<'_>,
+    names: &NameSet,
+    at: usize,
+) -> Result<bool, NoMemory>
     ensures { IfOk result (λ meet. meet ≡ list_any (spec.has_name names.now) (spec.names_at known.now at)) }
 {
     for node in known.nodes(at) {
@@ -69,7 +74,7 @@ fn meet_names(alloc: Global, known: &Known<'_>, names: &Names, at: usize) -> Res
 fn are_apart_from(
     alloc: Global,
     known: &Known<'_>,
-    names: &Names,
+    names: &NameSet,
     at: usize,
 ) -> Result<bool, NoMemory>
     ensures { IfOk result (λ apart. apart ≡ true → spec.AreApart (spec.has_name names.now) (spec.brought_by known.now at)) }
@@ -95,7 +100,7 @@ impl Earlier {
         ensures { result ≡ spec.no_parts }
     {
         Earlier {
-            names: Names::new(alloc),
+            names: NameSet::new(alloc),
             wide: Vec::new(alloc),
         }
     }

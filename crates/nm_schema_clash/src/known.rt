@@ -8,7 +8,7 @@ ghost use Rattle.std.specs.Prelude.{◌≡◌, ◌||◌, [], List, ℕ, None, If
 ghost use Rattle.nm_schema_shape.specs.Arguments.{argument_at};
 ghost use Rattle.nm_schema_clash.specs.Clash as spec;
 
-use crate::names::{Names, add_names};
+use crate::names::{NameSet, add_names};
 use nm_base::{Label, NoMemory};
 use nm_schema_rows::Rows;
 use nm_schema_shape::{Nodes, argument_at};
@@ -26,21 +26,21 @@ pub(crate) struct Known<'a> {
     // How many names were looked up among those that each row brings.
     asked: Vec<usize>,
     // The names that each row brings, where they are kept.
-    sets: Vec<Option<Names>>,
+    sets: Vec<Option<NameSet>>,
 }
 
 impl<'a> Model for Known<'a> {
-    ghost use Rattle.nm_schema_clash.specs.Clash.{Knowledge, knowledge, AreKept};
+    ghost use Rattle.nm_schema_clash.specs.Clash.{Knowledge, knowledge, AreSetsOfNames};
 
     ghost Value = { Knowledge };
 
     ghost view = { λ k. knowledge k.rows.now k.brought.now };
 
-    ghost invariant = { λ k. AreKept (knowledge k.rows.now k.brought.now) k.sets.items };
+    ghost invariant = { λ k. AreSetsOfNames (knowledge k.rows.now k.brought.now) k.sets.items };
 }
 
 // No names for any row.
-fn no_names(alloc: Global, count: usize) -> Result<Vec<Option<Names>>, NoMemory>
+fn no_names(alloc: Global, count: usize) -> Result<Vec<Option<NameSet>>, NoMemory>
     ensures { IfOk result (λ sets. sets.items ≡ replicate count None) }
 {
     let mut sets = Vec::new(alloc);
@@ -117,7 +117,7 @@ impl<'a> Known<'a> {
     fn keep(&mut self, alloc: Global, at: usize) -> Result<(), NoMemory>
         ensures { OnOk result (self.new ≡ self.old) }
     {
-        let mut names = Names::new(alloc);
+        let mut names = NameSet::new(alloc);
         add_names(alloc, self.rows, &mut names, self.nodes(at))?;
         if at >= self.sets.len() {
             return Ok(());

@@ -15,11 +15,11 @@ use std::marker::Model;
 
 /// A set of names. It is seen as the list of them.
 #[derive(Drop)]
-pub(crate) struct Names {
+pub(crate) struct NameSet {
     set: BTreeSet<Label>,
 }
 
-impl Model for Names {
+impl Model for NameSet {
     ghost use Rattle.std.specs.Prelude.{List, ℕ};
 
     ghost Value = { List (List ℕ) };
@@ -27,12 +27,12 @@ impl Model for Names {
     ghost view = { λ n. n.set.keys };
 }
 
-impl Names {
+impl NameSet {
     /// No names.
-    pub fn new(alloc: Global) -> Names
+    pub fn new(alloc: Global) -> NameSet
         ensures { result ≡ [] }
     {
-        Names {
+        NameSet {
             set: BTreeSet::new(alloc),
         }
     }
@@ -85,7 +85,7 @@ pub(crate) fn name_at(alloc: Global, rows: &Rows, at: usize) -> Result<Label, No
 pub(crate) fn add_names(
     alloc: Global,
     rows: &Rows,
-    names: &mut Names,
+    names: &mut NameSet,
     nodes: &[usize],
 ) -> Result<(), NoMemory>
     ensures { OnOk result ((n : List ℕ) → has_name names.new n ≡ (has_name (map (argument_at rows.now) nodes.now) n || has_name names.old n)) }

@@ -1,5 +1,5 @@
 -- Parts within others: what the walk along the base says of each number.
-use Rattle.std.proofs.Common.{◌≡◌, ℕ, ◌+◌, ◌<◌, Bool, true, false, List, [], ◌∷◌, length, get_or, drop, Option, Some, None, ℤ, pos, ◌+ℤ◌, ◌≤ℤ◌, ◌<ℤ◌, FitsSigned, to_z, of_z, arith, add-one, refl, ap, sym, ◌∙◌, inl, inr}
+use Rattle.std.proofs.Common.{◌≡◌, ℕ, ◌+◌, ◌<◌, ◌≤◌, suc, not, Bool, true, false, List, [], ◌∷◌, length, get_or, drop, Option, Some, None, ℤ, pos, ◌+ℤ◌, ◌≤ℤ◌, ◌<ℤ◌, FitsSigned, to_z, of_z, arith, add-one, refl, ap, sym, ◌∙◌, inl, inr}
 use Rattle.std.specs.Prelude.{int_le, int_lt, ◌&&◌, ◌||◌, All, is_some}
 use Rattle.std.specs.List.{list_all, list_any}
 use Rattle.std.proofs.Math.Seq.{drop-cons}
@@ -8,9 +8,10 @@ use Rattle.std.proofs.lemmas.Int.{ints, to_z-of_z}
 use Rattle.std.specs.Int.{w128}
 use Rattle.std.proofs.lemmas.List.Folds.{Any-from_list_any, list_any-from_Any}
 use Rattle.std.proofs.lemmas.List.Elements.{All-nil, All-cons}
-use Rattle.std.proofs.lemmas.List.Sums.{AllPass-from_list_all, list_all-from_AllPass}
+use Rattle.std.proofs.lemmas.List.Sums.{prefix_len-le-length, AllPass-from_list_all, list_all-from_AllPass}
 use Rattle.nm_types.specs.Limits.{IsWithin, is_within}
-use Rattle.nm_schema_derive.specs.Cover.{IsInside, begins_above, is_ascending, rest_from, is_inside}
+use Rattle.nm_types.specs.Parts.{begins_above, is_ascending, reaches, place_of}
+use Rattle.nm_schema_derive.specs.Cover.{IsInside, rest_from, is_inside}
 
 cut : (ps : List (ℤ × ℤ)) (i : ℕ) (d : ℤ × ℤ) → i < length ps → drop i ps ≡ get_or ps i d ∷ drop (i + 1) ps
 cut ps i d l = drop-cons ps i d l ∙ ap (λ (k : ℕ). get_or ps i d ∷ drop k ps) (sym (add-one i))
@@ -192,3 +193,35 @@ ordered_at (p ∷ ps) s =
 
 pub all_inside_to : (base parts : List (ℤ × ℤ)) → is_ascending base ≡ true → is_ascending parts ≡ true → All (IsInside base) parts → list_all (is_inside base) parts ≡ true
 all_inside_to base parts s t h = list_all-from_AllPass (is_inside base) parts (λ k d l. inside_to base (get_or parts k d) s (ordered_at parts t k d l) (h k d l))
+
+-- ---- a walk that begins where a part does
+
+-- the place is one of the parts, or behind them
+pub place_within : (ps : List (ℤ × ℤ)) (low : ℤ) → place_of ps low ≤ length ps
+unfolding place_of
+place_within ps low = prefix_len-le-length (λ part. not (reaches low part)) ps
+
+-- parts that end below a number are passed by
+pub passed : (ps : List (ℤ × ℤ)) (low high : ℤ) → rest_from (drop (place_of ps low) ps) low high ≡ rest_from ps low high
+unfolding place_of
+passed [] low high = refl
+passed (p ∷ ps) low high = elim (cases_Bool (int_lt p.1 low)) [
+  | inl a ↦ (let more : 1 + place_of ps low ≡ suc (place_of ps low) = omega arith in rw a (ap (λ (k : ℕ). rest_from (drop k (p ∷ ps)) low high) more ∙ passed ps low high))
+  | inr a ↦ (let first : place_of (p ∷ ps) low ≡ 0 = rw a refl in ap (λ (k : ℕ). rest_from (drop k (p ∷ ps)) low high) first)
+]
+
+-- where the rest of the base goes on from, it ascends
+pub left_ascends : (base left : List (ℤ × ℤ)) (low high : ℤ) → is_ascending base ≡ true → rest_from base low high ≡ Some left → is_ascending left ≡ true
+left_ascends [] left low high s e = absurd (cc)
+left_ascends (p ∷ ps) left low high s e =
+    let parts = and_parts (int_le p.0 p.1 && begins_above p.1 ps) (is_ascending ps) s in
+    elim (cases_Bool (int_lt p.1 low)) [
+      | inl a ↦ left_ascends ps left low high parts.1 (rw a at e)
+      | inr a ↦ elim (cases_Bool (int_lt low p.0)) [
+        | inl b ↦ let no : None ≡ Some left = rw (a, b) at e in absurd (cc)
+        | inr b ↦ elim (cases_Bool (int_le high p.1)) [
+          | inl c ↦ let same : Some (p ∷ ps) ≡ Some left = rw (a, b, c) at e in let lists : p ∷ ps ≡ left = cc in ap is_ascending (sym lists) ∙ s
+          | inr c ↦ left_ascends ps left (p.1 +ℤ pos 1) high parts.1 (rw (a, b, c) at e)
+        ]
+      ]
+    ]

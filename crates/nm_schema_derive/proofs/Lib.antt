@@ -4,3 +4,6 @@ pub mod Ranges
 pub mod Takings
 pub mod Numbers
 pub mod Onces
+pub mod Sorting
+pub mod Nearness
+pub mod Naming

@@ -1,5 +1,5 @@
 -- The numbers of members are within the limits of their numbering.
-use Rattle.std.proofs.Common.{◌≡◌, ℕ, ℤ, Bool, true, false, cond, List, [], ◌∷◌, ◌++◌, fold, length, Option, Some, None, is_some, Result, Ok, Err, IfOk, All, Vec, Global, refl, sym, ap, ◌∙◌}
+use Rattle.std.proofs.Common.{◌≡◌, ℕ, ℤ, Bool, true, false, cond, List, [], ◌∷◌, ◌++◌, fold, length, Option, Some, None, is_some, Result, Ok, Err, IfOk, All, refl, sym, ap, ◌∙◌}
 use Rattle.std.specs.Prelude.{⊤}
 use Rattle.std.specs.List.{list_all}
 use Rattle.std.specs.Str.{bytes_eq}
@@ -110,10 +110,10 @@ module _ (numbering : Numbering) where
           again (before ++ m ∷ []) (list_all-append member_fits before (m ∷ []) ∙ rw (all, here) refl) g
 
 -- the numbers of an answer
-pub answer_fits : (base : Option (List Member)) (statements : List Listed) (made : Result (Vec Member Global) ListFault) → BaseFits Positions base → Gives made (members_of Positions base statements) → IfOk made (λ (members : Vec Member Global). All IsPosition members.items)
+pub answer_fits : (base : Option (List Member)) (statements : List Listed) (made : Result (List Member) ListFault) → BaseFits Positions base → Gives made (members_of Positions base statements) → IfOk made (λ (members : List Member). All IsPosition members)
 unfolding members_of
 answer_fits base statements (Err fault) b g = tt
-answer_fits base statements (Ok members) b g = AllPass-from_list_all (member_fits Positions) members.items (all_fit Positions base statements [] members.items b refl g)
+answer_fits base statements (Ok members) b g = AllPass-from_list_all (member_fits Positions) members (all_fit Positions base statements [] members b refl g)
 
 pub base_of : (members : List Member) → All IsPosition members → BaseFits Positions (Some members)
 base_of members all = list_all-from_AllPass (member_fits Positions) members all

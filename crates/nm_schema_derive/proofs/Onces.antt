@@ -1,5 +1,5 @@
 -- The names of members are those of the statements, each once.
-use Rattle.std.proofs.Common.{◌≡◌, ℕ, ℤ, Bool, true, false, cond, List, [], ◌∷◌, ◌++◌, map, fold, length, Option, Some, None, is_some, Result, Ok, Err, IfOk, Contains, Vec, Global, refl, sym, ap, subst, ◌∙◌, append_assoc, inl, inr}
+use Rattle.std.proofs.Common.{◌≡◌, ℕ, ℤ, Bool, true, false, cond, List, [], ◌∷◌, ◌++◌, map, fold, length, Option, Some, None, is_some, Result, Ok, Err, IfOk, Contains, refl, sym, ap, subst, ◌∙◌, append_assoc, inl, inr}
 use Rattle.std.specs.Prelude.{◌||◌}
 use Rattle.std.specs.List.{list_any}
 use Rattle.std.specs.Str.{bytes_eq}
@@ -99,12 +99,12 @@ module _ (numbering : Numbering) (base : Option (List Member)) where
           again (before ++ m ∷ []) (subst (λ (ws : List (List ℕ)). IsOnce ws) (sym (map-append member_name before (m ∷ []))) (once_more (names before) s.name o (new_name before s n f))) g
 
   -- the names of an answer
-  pub answer_named : (statements : List Listed) (made : Result (Vec Member Global) ListFault) → Gives made (members_of numbering base statements) → IfOk made (λ (members : Vec Member Global). names members.items ≡ map listed_name statements)
+  pub answer_named : (statements : List Listed) (made : Result (List Member) ListFault) → Gives made (members_of numbering base statements) → IfOk made (λ (members : List Member). names members ≡ map listed_name statements)
   unfolding members_of
   answer_named statements (Err fault) g = tt
-  answer_named statements (Ok members) g = kept statements [] members.items g
+  answer_named statements (Ok members) g = kept statements [] members g
 
-  pub answer_once : (statements : List Listed) (made : Result (Vec Member Global) ListFault) → Gives made (members_of numbering base statements) → IfOk made (λ (members : Vec Member Global). IsOnce (names members.items))
+  pub answer_once : (statements : List Listed) (made : Result (List Member) ListFault) → Gives made (members_of numbering base statements) → IfOk made (λ (members : List Member). IsOnce (names members))
   unfolding members_of
   answer_once statements (Err fault) g = tt
-  answer_once statements (Ok members) g = once statements [] members.items tt g
+  answer_once statements (Ok members) g = once statements [] members tt g

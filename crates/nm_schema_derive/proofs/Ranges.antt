@@ -1,11 +1,12 @@
 -- What is read of a range or a length.
-use Rattle.std.proofs.Common.{◌≡◌, ℕ, Bool, true, false, cond, List, Option, Some, None, Result, Ok, Err, IfOk, IfSome, option_map, ℤ, Vec, Global, refl, sym, ap, ◌∙◌}
+use Rattle.std.proofs.Common.{◌≡◌, ℕ, Bool, true, false, cond, List, Option, Some, None, Result, Ok, Err, IfOk, IfSome, ℤ, refl, sym, ap, ◌∙◌}
 use Rattle.std.specs.Prelude.{◌&&◌, All}
 use Rattle.std.specs.List.{list_all}
 use Rattle.std.proofs.lemmas.Bool.{and_parts}
 use Rattle.nm_base.specs.declared.fault.NoMemory.{NoMemory}
 use Rattle.nm_schema_derive.specs.declared.form.NumberForm.{NumberForm}
-use Rattle.nm_schema_derive.specs.Cover.{IsInside, is_ascending, is_inside}
+use Rattle.nm_types.specs.Parts.{is_ascending}
+use Rattle.nm_schema_derive.specs.Cover.{IsInside, is_inside}
 use Rattle.nm_schema_derive.specs.Parts.{parts_of, chosen, parts_read}
 use Rattle.nm_schema_derive.proofs.Covers.{all_inside_from, all_inside_to}
 
@@ -45,26 +46,26 @@ reads form base text parts s g t h =
     rw (s, g, t, all) refl
 
 abbrev pub Answer : Type 0
-Answer = Result (Option (Vec (ℤ × ℤ) Global)) NoMemory
+Answer = Result (Option (List (ℤ × ℤ))) NoMemory
 
 abbrev pub IsExact : NumberForm → List (ℤ × ℤ) → List ℕ → Answer → Type 0
-IsExact form base text r = IfOk r (λ found. option_map (λ (parts : Vec (ℤ × ℤ) Global). parts.items) found ≡ parts_read form base text)
+IsExact form base text r = IfOk r (λ found. found ≡ parts_read form base text)
 
-pub gives : (form : NumberForm) (base : List (ℤ × ℤ)) (text : List ℕ) (r : Answer) → IsExact form base text r → IfOk r (λ found. IfSome found (λ (parts : Vec (ℤ × ℤ) Global). parts_of form base text ≡ Some parts.items))
+pub gives : (form : NumberForm) (base : List (ℤ × ℤ)) (text : List ℕ) (r : Answer) → IsExact form base text r → IfOk r (λ found. IfSome found (λ parts. parts_of form base text ≡ Some parts))
 gives form base text (Err e) h = h
 gives form base text (Ok None) h = tt
-gives form base text (Ok (Some parts)) h = (is_read form base text parts.items (sym h)).given
+gives form base text (Ok (Some parts)) h = (is_read form base text parts (sym h)).given
 
-pub ascends : (form : NumberForm) (base : List (ℤ × ℤ)) (text : List ℕ) (r : Answer) → IsExact form base text r → IfOk r (λ found. IfSome found (λ (parts : Vec (ℤ × ℤ) Global). is_ascending parts.items ≡ true))
+pub ascends : (form : NumberForm) (base : List (ℤ × ℤ)) (text : List ℕ) (r : Answer) → IsExact form base text r → IfOk r (λ found. IfSome found (λ parts. is_ascending parts ≡ true))
 ascends form base text (Err e) h = h
 ascends form base text (Ok None) h = tt
-ascends form base text (Ok (Some parts)) h = (is_read form base text parts.items (sym h)).ascending
+ascends form base text (Ok (Some parts)) h = (is_read form base text parts (sym h)).ascending
 
-pub lies_inside : (form : NumberForm) (base : List (ℤ × ℤ)) (text : List ℕ) (r : Answer) → IsExact form base text r → IfOk r (λ found. IfSome found (λ (parts : Vec (ℤ × ℤ) Global). All (IsInside base) parts.items))
+pub lies_inside : (form : NumberForm) (base : List (ℤ × ℤ)) (text : List ℕ) (r : Answer) → IsExact form base text r → IfOk r (λ found. IfSome found (λ parts. All (IsInside base) parts))
 lies_inside form base text (Err e) h = h
 lies_inside form base text (Ok None) h = tt
-lies_inside form base text (Ok (Some parts)) h = (is_read form base text parts.items (sym h)).inside
+lies_inside form base text (Ok (Some parts)) h = (is_read form base text parts (sym h)).inside
 
-pub answered : (form : NumberForm) (base : List (ℤ × ℤ)) (text : List ℕ) (r : Answer) → IsExact form base text r → (parts : List (ℤ × ℤ)) → is_ascending base ≡ true → parts_of form base text ≡ Some parts → is_ascending parts ≡ true → All (IsInside base) parts → IfOk r (λ found. option_map (λ (parts : Vec (ℤ × ℤ) Global). parts.items) found ≡ Some parts)
+pub answered : (form : NumberForm) (base : List (ℤ × ℤ)) (text : List ℕ) (r : Answer) → IsExact form base text r → (parts : List (ℤ × ℤ)) → is_ascending base ≡ true → parts_of form base text ≡ Some parts → is_ascending parts ≡ true → All (IsInside base) parts → IfOk r (λ found. found ≡ Some parts)
 answered form base text (Err e) h parts s g t i = h
 answered form base text (Ok found) h parts s g t i = h ∙ reads form base text parts s g t i

@@ -1,5 +1,5 @@
 -- Types after some steps of their derivation.
-use Rattle.std.specs.Prelude.{ℕ, ℤ, List, All, ⊤}
+use Rattle.std.specs.Prelude.{ℕ, ℤ, List, Option, All, ⊤}
 use Rattle.nm_schema_derive.specs.declared.members.Member.{Member}
 use Rattle.nm_schema_derive.specs.Members.{IsPosition}
 
@@ -17,10 +17,11 @@ pub data Built : Type 0 where
   empty : Built
   reference : Built
 
--- a type: what it is built as, and the ranges or lengths along its derivation (RFC 7950 sections 9.2.4 and 9.4.4)
+-- a type: what it is built as, and the nearest range or length along its derivation, which is within each of those
+-- behind it (RFC 7950 sections 9.2.4 and 9.4.4)
 pub record Derivation : Type 0 where
   pub built : Built
-  pub limits : List (List (ℤ × ℤ))
+  pub limits : Option (List (ℤ × ℤ))
 
 -- the bits of a type have positions
 abbrev pub HasPositions : Built → Type 0

@@ -1,21 +1,11 @@
 -- Which parts are within others.
-use Rattle.std.specs.Prelude.{ℤ, pos, ◌+ℤ◌, int_le, int_lt, Bool, true, ◌&&◌, List, [], ◌∷◌, Any, if◌then◌else◌, Option, Some, None}
+use Rattle.std.specs.Prelude.{ℤ, pos, ◌+ℤ◌, int_le, int_lt, Bool, List, [], ◌∷◌, Any, if◌then◌else◌, Option, Some, None}
 use Rattle.std.specs.Option.{is_some}
 use Rattle.nm_types.specs.Limits.{IsWithin}
 
 -- each number of a part is a number of some part of the base
 abbrev pub IsInside : List (ℤ × ℤ) → ℤ × ℤ → Type 0
 IsInside base part = (n : ℤ) → IsWithin n part → Any (IsWithin n) base
-
--- the first of some parts begins above a number
-abbrev pub begins_above : ℤ → List (ℤ × ℤ) → Bool
-begins_above n [] = true
-begins_above n (p ∷ ps) = int_lt n p.0
-
--- each part ends at or above its beginning, and begins above the end of the part before (RFC 7950 sections 9.2.4 and 9.4.4)
-abbrev pub is_ascending : List (ℤ × ℤ) → Bool
-is_ascending [] = true
-is_ascending (p ∷ ps) = int_le p.0 p.1 && begins_above p.1 ps && is_ascending ps
 
 -- the parts from the one with the number `high` on, where they have all numbers from `low` to it
 abbrev pub rest_from : List (ℤ × ℤ) → ℤ → ℤ → Option (List (ℤ × ℤ))

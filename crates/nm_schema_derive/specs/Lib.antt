@@ -5,8 +5,10 @@ pub mod Bound
 pub mod Cover
 pub mod Parts
 pub mod Members
+pub mod Order
 pub mod Built
 pub mod Shape
 pub mod Step
 pub mod Kinds
 pub mod Restricted
+pub mod Nearest

@@ -4,8 +4,6 @@ use Rattle.std.specs.Int.{int_max}
 use Rattle.std.specs.List.{list_any}
 use Rattle.std.specs.Ordering.{int_eq}
 use Rattle.std.specs.Str.{bytes_eq}
-use Rattle.std.specs.Prelude.{Vec}
-use Rattle.std.specs.declared.alloc.Global.{Global}
 use Rattle.nm_types.specs.Limits.{is_within}
 use Rattle.nm_schema_derive.specs.declared.form.NumberForm.{NumberForm}
 use Rattle.nm_schema_derive.specs.declared.form.NumberForm.TheVariants.{Integer, Length}
@@ -127,8 +125,8 @@ unfoldable pub members_of : Numbering → Option (List Member) → List Listed �
 members_of numbering base statements = fold (with_statement numbering base) (Ok []) statements
 
 -- an answer is what statements make, unless memory ran out
-abbrev pub Gives : Result (Vec Member Global) ListFault → Result (List Member) ListFault → Type 0
-Gives (Ok members) made = made ≡ Ok members.items
+abbrev pub Gives : Result (List Member) ListFault → Result (List Member) ListFault → Type 0
+Gives (Ok members) made = made ≡ Ok members
 Gives (Err (Flawed at flaw)) made = made ≡ Err (Flawed at flaw)
 Gives (Err NoMemory) made = ⊤
 

@@ -3,7 +3,8 @@ use Rattle.std.specs.Prelude.{ℕ, ℤ, Bool, ◌&&◌, List, [], ◌∷◌, ◌
 use Rattle.std.specs.List.{list_all, slice_split}
 use Rattle.nm_schema_derive.specs.declared.form.NumberForm.{NumberForm}
 use Rattle.nm_schema_derive.specs.Bound.{part_of}
-use Rattle.nm_schema_derive.specs.Cover.{is_ascending, is_inside}
+use Rattle.nm_types.specs.Parts.{is_ascending}
+use Rattle.nm_schema_derive.specs.Cover.{is_inside}
 
 abbrev pub is_bar : ℕ → Bool
 is_bar b = b == 124

@@ -1,5 +1,5 @@
 -- One step of a derivation: what a restriction makes of a type (RFC 7950 sections 9.2 to 9.7).
-use Rattle.std.specs.Prelude.{◌≡◌, ℕ, ℤ, pos, nat_abs, List, [], ◌∷◌, ◌++◌, ◌-◌, length, if◌then◌else◌, slice_get, Option, Some, None, Result, Ok, Err, ⊤}
+use Rattle.std.specs.Prelude.{◌≡◌, ℕ, ℤ, pos, nat_abs, List, [], ◌∷◌, if◌then◌else◌, Option, Some, None, Result, Ok, Err, ⊤}
 use Rattle.std.specs.Option.{unwrap_or}
 use Rattle.nm_types.specs.Limits.{is_within, i64_part}
 use Rattle.nm_schema_derive.specs.declared.form.NumberForm.{NumberForm}
@@ -41,17 +41,17 @@ unfoldable pub digits_read : List ℕ → Option ℕ
 digits_read text = digits_within (number_of Length text)
 
 -- the range or length along a derivation that is nearest, or the type's own bounds
-unfoldable pub nearest : ℤ × ℤ → List (List (ℤ × ℤ)) → List (ℤ × ℤ)
-nearest own limits = unwrap_or (slice_get limits (length limits - 1)) (own ∷ [])
+unfoldable pub nearest : ℤ × ℤ → Option (List (ℤ × ℤ)) → List (ℤ × ℤ)
+nearest own limits = unwrap_or limits (own ∷ [])
 
 -- the parts that a text makes of it (RFC 7950 sections 9.2.4 and 9.4.4)
-abbrev pub narrowed : NumberForm → ℤ × ℤ → List (List (ℤ × ℤ)) → List ℕ → Option (List (ℤ × ℤ))
+abbrev pub narrowed : NumberForm → ℤ × ℤ → Option (List (ℤ × ℤ)) → List ℕ → Option (List (ℤ × ℤ))
 narrowed form own limits text = parts_read form (nearest own limits) text
 
--- a type with one range or length more
+-- a type with a range or length, which stands for those behind it
 abbrev pub limited : Derivation → Option (List (ℤ × ℤ)) → Result Derivation StepFault
 limited d None = Err BadArgument
-limited d (Some parts) = Ok (record { built = d.built; limits = d.limits ++ parts ∷ [] })
+limited d (Some parts) = Ok (record { built = d.built; limits = Some parts })
 
 -- a decimal64 with its fraction digits
 abbrev pub digits_put : Derivation → Option ℕ → Result Derivation StepFault
@@ -90,7 +90,7 @@ step_fault (Flawed at flaw) = AtListed at flaw
 step_fault NoMemoryForList = NoMemory
 
 -- the enumeration of members
-abbrev pub named : List (List (ℤ × ℤ)) → Result (List Member) ListFault → Result Derivation StepFault
+abbrev pub named : Option (List (ℤ × ℤ)) → Result (List Member) ListFault → Result Derivation StepFault
 named limits (Err fault) = Err (step_fault fault)
 named limits (Ok members) = Ok (record { built = names members; limits = limits })
 
@@ -104,7 +104,7 @@ abbrev pub with_names : Derivation → List Listed → Result Derivation StepFau
 with_names d statements = names_on d statements d.built
 
 -- the bits type of members
-abbrev pub flagged : List (List (ℤ × ℤ)) → Result (List Member) ListFault → Result Derivation StepFault
+abbrev pub flagged : Option (List (ℤ × ℤ)) → Result (List Member) ListFault → Result Derivation StepFault
 flagged limits (Err fault) = Err (step_fault fault)
 flagged limits (Ok members) = Ok (record { built = bits members; limits = limits })
 

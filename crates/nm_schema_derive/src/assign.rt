@@ -1,10 +1,10 @@
-ghost use Rattle.std.specs.Prelude.{◌≡◌, ℤ, Some, None, IfOk, map};
+ghost use Rattle.std.specs.Prelude.{◌≡◌, Some, None, IfOk, map, option_map};
 ghost use Rattle.nm_types.specs.Spells.{IsOnce};
 ghost use Rattle.nm_schema_derive.specs.Kinds.{member_name};
 ghost use Rattle.nm_schema_derive.specs.Members.{form_of, between, within, given_number, own_number, based_number, number_for, members_of, listed_name, Gives};
 
 use crate::form::{NumberForm, read_number};
-use crate::members::{ListFault, ListFlaw, Listed, Member, Numbering};
+use crate::members::{ListFault, ListFlaw, Listed, Numbering};
 use crate::taken::Taken;
 use nm_base::Label;
 use std::alloc::Global;
@@ -101,11 +101,11 @@ fn based_number(numbering: &Numbering, base: i64, number: &Option<Label>) -> Res
 #[tactic(auto, unfolding(crate::specs::Members::number_for))]
 fn number_for(
     numbering: &Numbering,
-    base: &Option<Taken>,
+    base: Option<&Taken>,
     before: &Taken,
     listed: &Listed,
 ) -> Result<i64, ListFlaw>
-    ensures { result ≡ number_for numbering.now base.now before.now listed.now }
+    ensures { result ≡ number_for numbering.now (option_map (λ members. members.now) base.entry) before.now listed.now }
 {
     if before.number_in(&listed.name).is_some() {
         return Err(ListFlaw::NameRepeated);
@@ -123,10 +123,10 @@ fn number_for(
 fn members_of(
     alloc: Global,
     numbering: &Numbering,
-    base: &Option<Taken>,
+    base: Option<&Taken>,
     statements: &[Listed],
-) -> Result<Vec<Member>, ListFault>
-    ensures { Gives result (members_of numbering.now base.now statements.now) }
+) -> Result<Taken, ListFault>
+    ensures { Gives result (members_of numbering.now (option_map (λ members. members.now) base.entry) statements.now) }
 {
     let mut taken = Taken::new(alloc);
     for listed in statements {
@@ -140,7 +140,7 @@ fn members_of(
             }
         }
     }
-    Ok(taken.members())
+    Ok(taken)
 }
 
 /// The names and the numbers of an enumeration or of bits, from its `enum` or `bit` statements in order
@@ -152,13 +152,13 @@ pub fn numbered(
     alloc: Global,
     numbering: &Numbering,
     statements: &[Listed],
-) -> Result<Vec<Member>, ListFault>
+) -> Result<Taken, ListFault>
     ensures exact { Gives result (members_of numbering.now None statements.now) }
     // The names are those of the statements, and no two are one (RFC 7950 sections 9.6.4 and 9.7.4).
-    ensures named { IfOk result (λ members. map member_name members.items ≡ map listed_name statements.now) }
-    ensures once { IfOk result (λ members. IsOnce (map member_name members.items)) }
+    ensures named { IfOk result (λ members. map member_name members ≡ map listed_name statements.now) }
+    ensures once { IfOk result (λ members. IsOnce (map member_name members)) }
 {
-    members_of(alloc, numbering, &None, statements)
+    members_of(alloc, numbering, None, statements)
 }
 
 /// The names and the numbers of an enumeration or of bits that restricts another to some of its names
@@ -169,14 +169,13 @@ pub fn numbered(
 pub fn restricted(
     alloc: Global,
     numbering: &Numbering,
-    base: &[Member],
+    base: &Taken,
     statements: &[Listed],
-) -> Result<Vec<Member>, ListFault>
+) -> Result<Taken, ListFault>
     ensures exact { Gives result (members_of numbering.now (Some base.now) statements.now) }
     // The names are those of the statements, and no two are one (RFC 7950 sections 9.6.4 and 9.7.4).
-    ensures named { IfOk result (λ members. map member_name members.items ≡ map listed_name statements.now) }
-    ensures once { IfOk result (λ members. IsOnce (map member_name members.items)) }
+    ensures named { IfOk result (λ members. map member_name members ≡ map listed_name statements.now) }
+    ensures once { IfOk result (λ members. IsOnce (map member_name members)) }
 {
-    let base = Some(Taken::of(alloc, base)?);
-    members_of(alloc, numbering, &base, statements)
+    members_of(alloc, numbering, Some(base), statements)
 }

@@ -1,26 +1,14 @@
-ghost use Rattle.std.specs.Prelude.{◌≡◌, IsTrue, option_map};
-ghost use Rattle.std.specs.List.{list_all};
-ghost use Rattle.nm_schema_derive.specs.Cover.{is_ascending, rest_from, is_inside};
+//! Whether parts are within others. The walk along the base begins where a part does, found by halves.
 
-// Whether each part ends at or above its beginning, and begins above the end of the part before.
-pub(crate) fn is_ascending(parts: &[(i128, i128)]) -> bool
-    ensures { result ≡ is_ascending parts.now }
-{
-    for (place, part) in parts.iter().enumerate() {
-        if part.1 < part.0 {
-            return false;
-        }
-        if let Some(next) = parts.get(place + 1) {
-            if next.0 <= part.1 {
-                return false;
-            }
-        }
-    }
-    true
-}
+ghost use Rattle.std.specs.Prelude.{◌≡◌, true, option_map};
+ghost use Rattle.std.specs.List.{list_all};
+ghost use Rattle.nm_types.specs.Parts.{is_ascending};
+ghost use Rattle.nm_schema_derive.specs.Cover.{rest_from, is_inside};
+
+use nm_types::parts::place_of;
 
 // The parts from the one that has the highest number of a part on, where they have all its numbers.
-fn rest_from<'a>(base: &'a [(i128, i128)], part: &(i128, i128)) -> Option<&'a [(i128, i128)]>
+fn walked_from<'a>(base: &'a [(i128, i128)], part: &(i128, i128)) -> Option<&'a [(i128, i128)]>
     ensures { option_map (λ rest. rest.now) result ≡ rest_from base.now part.now.0 part.now.1 }
 {
     let mut low = part.0;
@@ -39,9 +27,18 @@ fn rest_from<'a>(base: &'a [(i128, i128)], part: &(i128, i128)) -> Option<&'a [(
     None
 }
 
-// Whether parts have all the numbers of ascending ones.
+// The same of parts that ascend.
+fn rest_from<'a>(base: &'a [(i128, i128)], part: &(i128, i128)) -> Option<&'a [(i128, i128)]>
+    requires { is_ascending base.now ≡ true }
+    ensures { option_map (λ rest. rest.now) result ≡ rest_from base.now part.now.0 part.now.1 }
+{
+    walked_from(&base[place_of(base, part.0)..], part)
+}
+
+// Whether parts that ascend have all the numbers of others that do.
 pub(crate) fn covers_all(base: &[(i128, i128)], parts: &[(i128, i128)]) -> bool
-    requires { IsTrue (is_ascending parts.now) }
+    requires base { is_ascending base.now ≡ true }
+    requires parts { is_ascending parts.now ≡ true }
     ensures { result ≡ list_all (is_inside base.now) parts.now }
 {
     let mut rest = base;

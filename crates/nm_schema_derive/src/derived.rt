@@ -1,25 +1,29 @@
-ghost use Rattle.std.specs.Prelude.{◌≡◌, List, [], Result, IfOk, All, map, option_map};
+ghost use Rattle.std.specs.Prelude.{◌≡◌, List, Result, None, IfOk, All, map};
 ghost use Rattle.nm_schema_derive.specs.declared.members.Member.{Member};
 ghost use Rattle.nm_schema_derive.specs.declared.members.ListFault.{ListFault};
 ghost use Rattle.nm_schema_derive.specs.Members.{IsPosition, Gives as GivesMembers};
-ghost use Rattle.nm_schema_derive.specs.Kinds.{leaf_type_of};
+ghost use Rattle.nm_types.specs.Spells.{IsOnce};
+ghost use Rattle.nm_schema_derive.specs.Kinds.{leaf_type_of, member_name};
 ghost use Rattle.nm_schema_derive.specs.Shape.{built_of};
 ghost use Rattle.nm_schema_derive.specs.Step.{start, digits_read, narrowed, limited, step_fault, named, flagged, with_digits, with_range, with_length, with_names, with_bits, lacking, Gives};
 
 use crate::assign::{numbered, restricted};
 use crate::copies::{copy_limits, copy_shape, kind_of};
 use crate::form::{NumberForm, read_number};
-use crate::members::{ListFault, ListFlaw, Listed, Member, Numbering};
+use crate::members::{ListFault, ListFlaw, Listed, Numbering};
 use crate::names::BuiltIn;
-use crate::parts::read_parts;
+use crate::ordered::{names_in_order, names_of};
+use crate::parts::{read_parts, read_within};
+use crate::taken::Taken;
 use nm_base::NoMemory;
-use nm_types::LeafType;
+use nm_types::{LeafType, Names, Parts};
 use std::alloc::{AllocFailed, Global};
 use std::marker::Model;
+use std::sync::Arc;
 
 /// What a type is built as.
 #[derive(Drop)]
-pub enum Shape {
+pub enum TypeShape {
     /// An integer type, by its lowest and highest numbers.
     Integer { low: i128, high: i128 },
     /// `decimal64` without its fraction-digits.
@@ -31,36 +35,37 @@ pub enum Shape {
     Text,
     /// `enumeration` without a name.
     BareNames,
-    /// `enumeration` with its names and their values.
-    Names(Vec<Member>),
+    /// `enumeration` with its names and their values, and the names that its leafs share.
+    Names(Arc<Taken>, Names),
     /// `bits` without a name.
     BareBits,
-    /// `bits` with its names and their positions.
-    Bits(Vec<Member>),
+    /// `bits` with its names and their positions, and the names that its leafs share, in order of position.
+    Bits(Arc<Taken>, Names),
     Empty,
     /// `leafref`.
     Reference,
 }
 
 /// A type after some steps of its derivation (RFC 7950 section 4.2.4).
+///
+/// Of the ranges or lengths along the derivation it has the nearest, since that has only numbers of those behind it.
 #[derive(Drop)]
 pub struct Derived {
-    shape: Shape,
-    limits: Vec<Vec<(i128, i128)>>,
+    shape: TypeShape,
+    limits: Option<Parts>,
 }
 
 impl Model for Derived {
-    ghost use Rattle.std.specs.Prelude.{map};
     ghost use Rattle.nm_schema_derive.specs.Built.{Derivation};
 
     ghost Value = { Derivation };
 
-    ghost use Rattle.nm_schema_derive.specs.Shape.{built_of};
+    ghost use Rattle.nm_schema_derive.specs.Shape.{HasNames, built_of};
     ghost use Rattle.nm_schema_derive.specs.Built.{HasPositions};
 
-    ghost invariant = { λ d. HasPositions (built_of d.shape) };
+    ghost invariant = { λ d. HasPositions (built_of d.shape) × HasNames d.shape };
 
-    ghost view = { λ d. record { built = built_of d.shape; limits = map (λ range. range.items) d.limits.items } };
+    ghost view = { λ d. record { built = built_of d.shape; limits = d.limits } };
 }
 
 /// Why a restriction makes no type.
@@ -112,21 +117,21 @@ const SCALED: (i128, i128) = (-9223372036854775808, 9223372036854775807);
 const LENGTHS: (i128, i128) = (0, 18446744073709551615);
 
 // The shape of a built-in type.
-fn shape_of(built_in: &BuiltIn) -> Shape
+fn shape_of(built_in: &BuiltIn) -> TypeShape
     ensures { built_of result ≡ start built_in.now }
 {
     match built_in {
-        BuiltIn::Integer { low, high } => Shape::Integer {
+        BuiltIn::Integer { low, high } => TypeShape::Integer {
             low: *low,
             high: *high,
         },
-        BuiltIn::Decimal64 => Shape::BareDecimal,
-        BuiltIn::Boolean => Shape::Boolean,
-        BuiltIn::String => Shape::Text,
-        BuiltIn::Enumeration => Shape::BareNames,
-        BuiltIn::Bits => Shape::BareBits,
-        BuiltIn::Empty => Shape::Empty,
-        BuiltIn::Leafref => Shape::Reference,
+        BuiltIn::Decimal64 => TypeShape::BareDecimal,
+        BuiltIn::Boolean => TypeShape::Boolean,
+        BuiltIn::String => TypeShape::Text,
+        BuiltIn::Enumeration => TypeShape::BareNames,
+        BuiltIn::Bits => TypeShape::BareBits,
+        BuiltIn::Empty => TypeShape::Empty,
+        BuiltIn::Leafref => TypeShape::Reference,
     }
 }
 
@@ -155,13 +160,13 @@ fn narrowed(
     alloc: Global,
     form: &NumberForm,
     own: &(i128, i128),
-    limits: &[Vec<(i128, i128)>],
+    limits: &Option<Parts>,
     text: &str,
-) -> Result<Option<Vec<(i128, i128)>>, NoMemory>
-    ensures { IfOk result (λ found. option_map (λ parts. parts.items) found ≡ narrowed form.now own.now (map (λ range. range.items) limits.now) text.now) }
+) -> Result<Option<Parts>, NoMemory>
+    ensures { IfOk result (λ found. found ≡ narrowed form.now own.now limits.now text.now) }
 {
-    match limits.last() {
-        Some(parts) => read_parts(alloc, form, text, parts),
+    match limits {
+        Some(parts) => read_within(alloc, form, text, parts),
         None => read_parts(alloc, form, text, &[*own]),
     }
 }
@@ -178,45 +183,55 @@ fn step_fault(fault: ListFault) -> StepFault
 
 // The enumeration of some members.
 fn named(
-    limits: Vec<Vec<(i128, i128)>>,
-    made: Result<Vec<Member>, ListFault>,
+    alloc: Global,
+    limits: Option<Parts>,
+    made: Result<Taken, ListFault>,
 ) -> Result<Derived, StepFault>
-    ensures { (meant : Result (List Member) ListFault) → GivesMembers made meant → Gives result (named (map (λ range. range.items) limits.items) meant) }
+    requires { IfOk made (λ members. IsOnce (map member_name members)) }
+    ensures { (meant : Result (List Member) ListFault) → GivesMembers made meant → Gives result (named limits meant) }
 {
     match made {
-        Ok(members) => Ok(Derived {
-            shape: Shape::Names(members),
-            limits,
-        }),
+        Ok(members) => {
+            let names = names_of(alloc, members.as_slice())?;
+            Ok(Derived {
+                shape: TypeShape::Names(Arc::new(alloc, members)?, names),
+                limits,
+            })
+        }
         Err(fault) => Err(step_fault(fault)),
     }
 }
 
 // The bits type of some members.
 fn flagged(
-    limits: Vec<Vec<(i128, i128)>>,
-    made: Result<Vec<Member>, ListFault>,
+    alloc: Global,
+    limits: Option<Parts>,
+    made: Result<Taken, ListFault>,
 ) -> Result<Derived, StepFault>
-    requires { IfOk made (λ members. All IsPosition members.items) }
-    ensures { (meant : Result (List Member) ListFault) → GivesMembers made meant → Gives result (flagged (map (λ range. range.items) limits.items) meant) }
+    requires positions { IfOk made (λ members. All IsPosition members) }
+    requires once { IfOk made (λ members. IsOnce (map member_name members)) }
+    ensures { (meant : Result (List Member) ListFault) → GivesMembers made meant → Gives result (flagged limits meant) }
 {
     match made {
-        Ok(members) => Ok(Derived {
-            shape: Shape::Bits(members),
-            limits,
-        }),
+        Ok(members) => {
+            let names = names_in_order(alloc, members.as_slice())?;
+            Ok(Derived {
+                shape: TypeShape::Bits(Arc::new(alloc, members)?, names),
+                limits,
+            })
+        }
         Err(fault) => Err(step_fault(fault)),
     }
 }
 
 impl Derived {
     /// A built-in type, as a `type` statement names it.
-    pub fn of_built_in(alloc: Global, built_in: &BuiltIn) -> Derived
-        ensures { result ≡ record { built = start built_in.now; limits = [] } }
+    pub fn of_built_in(built_in: &BuiltIn) -> Derived
+        ensures { result ≡ record { built = start built_in.now; limits = None } }
     {
         Derived {
             shape: shape_of(built_in),
-            limits: Vec::new(alloc),
+            limits: None,
         }
     }
 
@@ -227,9 +242,9 @@ impl Derived {
         ensures exact { Gives result (with_digits self text.now) }
     {
         match &self.shape {
-            Shape::BareDecimal => match read_digits(text) {
+            TypeShape::BareDecimal => match read_digits(text) {
                 Some(digits) => Ok(Derived {
-                    shape: Shape::Decimal { digits },
+                    shape: TypeShape::Decimal { digits },
                     limits: self.limits,
                 }),
                 None => Err(StepFault::BadArgument),
@@ -238,19 +253,15 @@ impl Derived {
         }
     }
 
-    // The type with one range or length more.
-    fn with_limit(self, parts: Option<Vec<(i128, i128)>>) -> Result<Derived, StepFault>
-        ensures { Gives result (limited self (option_map (λ parts. parts.items) parts)) }
+    // The type with a range or length in place of the one that it had.
+    fn with_limit(self, parts: Option<Parts>) -> Result<Derived, StepFault>
+        ensures { Gives result (limited self parts) }
     {
         match parts {
-            Some(parts) => {
-                let mut limits = self.limits;
-                limits.push(parts)?;
-                Ok(Derived {
-                    shape: self.shape,
-                    limits,
-                })
-            }
+            Some(parts) => Ok(Derived {
+                shape: self.shape,
+                limits: Some(parts),
+            }),
             None => Err(StepFault::BadArgument),
         }
     }
@@ -263,17 +274,17 @@ impl Derived {
         ensures exact { Gives result (with_range self text.now) }
     {
         match &self.shape {
-            Shape::Integer { low, high } => {
+            TypeShape::Integer { low, high } => {
                 let own = (*low, *high);
                 let parts = narrowed(alloc, &NumberForm::Integer, &own, &self.limits, text)?;
                 self.with_limit(parts)
             }
-            Shape::Decimal { digits } => {
+            TypeShape::Decimal { digits } => {
                 let form = NumberForm::Decimal { digits: *digits };
                 let parts = narrowed(alloc, &form, &SCALED, &self.limits, text)?;
                 self.with_limit(parts)
             }
-            Shape::BareDecimal => Ok(self),
+            TypeShape::BareDecimal => Ok(self),
             _ => Err(StepFault::Misplaced),
         }
     }
@@ -285,7 +296,7 @@ impl Derived {
         ensures exact { Gives result (with_length self text.now) }
     {
         match &self.shape {
-            Shape::Text => {
+            TypeShape::Text => {
                 let parts = narrowed(alloc, &NumberForm::Length, &LENGTHS, &self.limits, text)?;
                 self.with_limit(parts)
             }
@@ -300,13 +311,13 @@ impl Derived {
         ensures exact { Gives result (with_names self statements.now) }
     {
         match &self.shape {
-            Shape::BareNames => {
+            TypeShape::BareNames => {
                 let made = numbered(alloc, &Numbering::Values, statements);
-                named(self.limits, made)
+                named(alloc, self.limits, made)
             }
-            Shape::Names(base) => {
+            TypeShape::Names(base, _) => {
                 let made = restricted(alloc, &Numbering::Values, base, statements);
-                named(self.limits, made)
+                named(alloc, self.limits, made)
             }
             _ => Err(StepFault::Misplaced),
         }
@@ -319,13 +330,13 @@ impl Derived {
         ensures exact { Gives result (with_bits self statements.now) }
     {
         match &self.shape {
-            Shape::BareBits => {
+            TypeShape::BareBits => {
                 let made = numbered(alloc, &Numbering::Positions, statements);
-                flagged(self.limits, made)
+                flagged(alloc, self.limits, made)
             }
-            Shape::Bits(base) => {
+            TypeShape::Bits(base, _) => {
                 let made = restricted(alloc, &Numbering::Positions, base, statements);
-                flagged(self.limits, made)
+                flagged(alloc, self.limits, made)
             }
             _ => Err(StepFault::Misplaced),
         }
@@ -336,31 +347,32 @@ impl Derived {
         ensures exact { result ≡ lacking self.now.built }
     {
         match &self.shape {
-            Shape::BareDecimal => Some(Lacking::FractionDigits),
-            Shape::BareNames => Some(Lacking::Enum),
-            Shape::BareBits => Some(Lacking::Bit),
+            TypeShape::BareDecimal => Some(Lacking::FractionDigits),
+            TypeShape::BareNames => Some(Lacking::Enum),
+            TypeShape::BareBits => Some(Lacking::Bit),
             _ => None,
         }
     }
 
-    /// An equal type. It copies no bytes of names.
-    pub fn copy(&self, alloc: Global) -> Result<Derived, NoMemory>
+    /// An equal type, which shares its names and its range.
+    pub fn copy(&self) -> Result<Derived, NoMemory>
         ensures { IfOk result (λ copied. copied ≡ self.now) }
     {
         Ok(Derived {
-            shape: copy_shape(alloc, &self.shape)?,
-            limits: copy_limits(alloc, &self.limits)?,
+            shape: copy_shape(&self.shape)?,
+            limits: copy_limits(&self.limits)?,
         })
     }
 
-    /// The type of a leaf, and `None` where a substatement lacks or the type is `leafref`.
-    pub fn leaf_type(&self, alloc: Global) -> Result<Option<LeafType>, NoMemory>
+    /// The type of a leaf, and `None` where a substatement lacks or the type is `leafref`. It shares this type's names
+    /// and range.
+    pub fn leaf_type(&self) -> Result<Option<LeafType>, NoMemory>
         ensures exact { IfOk result (λ found. found ≡ leaf_type_of self.now) }
     {
-        match kind_of(alloc, &self.shape)? {
+        match kind_of(&self.shape)? {
             Some(kind) => Ok(Some(LeafType {
                 kind,
-                limits: copy_limits(alloc, &self.limits)?,
+                limits: copy_limits(&self.limits)?,
             })),
             None => Ok(None),
         }

@@ -1,12 +1,15 @@
 ghost use Rattle.std.specs.Prelude.{◌≡◌, ℤ, List, true, Some, map, option_map, All, IfOk, IfSome};
 ghost use Rattle.nm_schema_derive.specs.Bound.{part_of};
-ghost use Rattle.nm_schema_derive.specs.Cover.{IsInside, is_ascending};
+ghost use Rattle.nm_types.specs.Parts.{is_ascending};
+ghost use Rattle.nm_schema_derive.specs.Cover.{IsInside};
 ghost use Rattle.nm_schema_derive.specs.Parts.{pieces, parts_from, parts_of, chosen, parts_read};
 
 use crate::bound::part_of;
-use crate::cover::{covers_all, is_ascending};
+use crate::cover::covers_all;
 use crate::form::NumberForm;
 use nm_base::NoMemory;
+use nm_types::Parts;
+use nm_types::parts::is_ascending;
 use std::alloc::{AllocError, Global};
 
 // The pieces of a text, which `|` parts.
@@ -51,35 +54,50 @@ fn parts_of(
 
 // Those parts, if they ascend and are within the base.
 #[tactic(auto, unfolding(crate::specs::Parts::chosen))]
-fn chosen(base: &[(i128, i128)], parts: Vec<(i128, i128)>) -> Option<Vec<(i128, i128)>>
-    ensures { option_map (λ parts. parts.items) result ≡ chosen base.now (Some parts.items) }
+fn chosen(
+    alloc: Global,
+    base: &[(i128, i128)],
+    parts: Vec<(i128, i128)>,
+) -> Result<Option<Parts>, NoMemory>
+    requires { is_ascending base.now ≡ true }
+    ensures { IfOk result (λ found. found ≡ chosen base.now (Some parts.items)) }
 {
     if !is_ascending(&parts) {
-        return None;
+        return Ok(None);
     }
     if !covers_all(base, &parts) {
-        return None;
+        return Ok(None);
     }
-    Some(parts)
+    Ok(Some(Parts::new(alloc, parts)?))
 }
 
-// The parts that a text makes of a base.
+// The parts that a text makes of a base whose parts ascend.
 #[tactic(auto, unfolding(crate::specs::Parts::parts_read, crate::specs::Parts::chosen))]
 fn read(
     alloc: Global,
     form: &NumberForm,
     text: &[u8],
     base: &[(i128, i128)],
-) -> Result<Option<Vec<(i128, i128)>>, NoMemory>
-    ensures { IfOk result (λ found. option_map (λ parts. parts.items) found ≡ parts_read form.now base.now text.now) }
+) -> Result<Option<Parts>, NoMemory>
+    requires { is_ascending base.now ≡ true }
+    ensures { IfOk result (λ found. found ≡ parts_read form.now base.now text.now) }
 {
-    if !is_ascending(base) {
-        return Ok(None);
-    }
     match parts_of(alloc, form, base, text)? {
-        Some(parts) => Ok(chosen(base, parts)),
+        Some(parts) => chosen(alloc, base, parts),
         None => Ok(None),
     }
+}
+
+// The parts of a range or a length that restricts another.
+pub(crate) fn read_within(
+    alloc: Global,
+    form: &NumberForm,
+    text: &str,
+    base: &Parts,
+) -> Result<Option<Parts>, NoMemory>
+    ensures { IfOk result (λ found. found ≡ parts_read form.now base.now text.now) }
+{
+    read(alloc, form, text.as_bytes(), base.as_slice())
 }
 
 /// The parts of a range or a length that restricts a base (RFC 7950 sections 9.2.4 and 9.4.4).
@@ -90,20 +108,24 @@ fn read(
 ///
 /// `None` exactly where the text is no such range: a bound is no number, a part ends below its beginning
 /// or begins at or below the end of the part before, or the base, whose parts ascend too, lacks a number.
+#[tactic(auto, unfolding(crate::specs::Parts::parts_read))]
 pub fn read_parts(
     alloc: Global,
     form: &NumberForm,
     text: &str,
     base: &[(i128, i128)],
-) -> Result<Option<Vec<(i128, i128)>>, NoMemory>
+) -> Result<Option<Parts>, NoMemory>
     // The answer as a function of the text.
-    ensures exact { IfOk result (λ found. option_map (λ parts. parts.items) found ≡ parts_read form.now base.now text.now) }
+    ensures exact { IfOk result (λ found. found ≡ parts_read form.now base.now text.now) }
     // What is answered ascends, is what the text gives, and each number of it is a number of the base.
-    ensures given { IfOk result (λ found. IfSome found (λ parts. parts_of form.now base.now text.now ≡ Some parts.items)) }
-    ensures ascending { IfOk result (λ found. IfSome found (λ parts. is_ascending parts.items ≡ true)) }
-    ensures inside { IfOk result (λ found. IfSome found (λ parts. All (IsInside base.now) parts.items)) }
+    ensures given { IfOk result (λ found. IfSome found (λ parts. parts_of form.now base.now text.now ≡ Some parts)) }
+    ensures ascending { IfOk result (λ found. IfSome found (λ parts. is_ascending parts ≡ true)) }
+    ensures inside { IfOk result (λ found. IfSome found (λ parts. All (IsInside base.now) parts)) }
     // What the text gives is answered, if it ascends and each number of it is a number of the base.
-    ensures found { (parts : List (ℤ × ℤ)) → is_ascending base.now ≡ true → parts_of form.now base.now text.now ≡ Some parts → is_ascending parts ≡ true → All (IsInside base.now) parts → IfOk result (λ found. option_map (λ parts. parts.items) found ≡ Some parts) }
+    ensures found { (parts : List (ℤ × ℤ)) → is_ascending base.now ≡ true → parts_of form.now base.now text.now ≡ Some parts → is_ascending parts ≡ true → All (IsInside base.now) parts → IfOk result (λ found. found ≡ Some parts) }
 {
+    if !is_ascending(base) {
+        return Ok(None);
+    }
     read(alloc, form, text.as_bytes(), base)
 }

@@ -9,7 +9,7 @@ use std::marker::Model;
 
 /// Members that have their numbers, with what finds a name and a number among them.
 #[derive(Drop)]
-pub(crate) struct Taken {
+pub struct Taken {
     members: Vec<Member>,
     names: BTreeMap<Label, i64>,
     numbers: BTreeMap<i64, ()>,
@@ -109,21 +109,10 @@ impl Taken {
         })
     }
 
-    // These members.
-    pub(crate) fn of(alloc: Global, members: &[Member]) -> Result<Taken, NoMemory>
-        ensures { IfOk result (λ taken. taken ≡ members.now) }
+    /// The members.
+    pub fn as_slice(&self) -> &[Member]
+        ensures value { result.now ≡ self.now }
     {
-        let mut taken = Taken::new(alloc);
-        for member in members {
-            taken = taken.with(&member.name, member.number)?;
-        }
-        Ok(taken)
-    }
-
-    // The members alone.
-    pub(crate) fn members(self) -> Vec<Member>
-        ensures { result.items ≡ self }
-    {
-        self.members
+        &self.members
     }
 }

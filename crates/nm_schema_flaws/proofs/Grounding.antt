@@ -8,7 +8,7 @@ use Rattle.nm_schema_typing.specs.Flaws.{AreMeanings}
 use Rattle.nm_schema_typing.specs.Listing.{AreJudgements}
 use Rattle.nm_schema_typing.specs.declared.listing.Judgement.{Judgement}
 use Rattle.nm_schema_typing.specs.Defaults.{joined, default_of}
-use Rattle.nm_schema_keys.specs.Standing.{Standing, IsStanding}
+use Rattle.nm_schema_keys.specs.ConfigUse.{ConfigUse, IsConfigUse}
 use Rattle.nm_schema_keys.specs.Keys.{keys_of, IsKey}
 use Rattle.nm_schema_keys.specs.Uniques.{unique_flaw}
 use Rattle.nm_schema_expansion.specs.Expansion.{Expanded, expanded, IsExpansion}
@@ -20,9 +20,9 @@ use Rattle.nm_schema_flaws.proofs.Standings.{marks-standing, by_standing}
 pub are_grounds : (rows : List Row) (named : List (Option ℕ)) (shape clashes : Outline) (expansion : Expanded) (types : Typings) (judgements : List Judgement) (texts : List (Option (Option (List ℕ)))) (known : Known) (keys : List (Option (List ℕ))) (cycle : Option ℕ) (configured in_state is_key flawed : List Bool)
     → named ≡ definitions rows → shape ≡ outline rows named → clashes ≡ outline rows named → expansion.rows ≡ rows → expansion.groupings ≡ named
     → AreMeanings rows named types.meanings → AreJudgements rows named judgements → ((i : ℕ) → joined (slice_index_or texts i None) ≡ default_of rows named i) → AreLeafrefs named expansion known
-    → ((s : Standing) → IsStanding shape.rows shape.groupings s → (i : ℕ) → slice_index_or keys i None ≡ keys_of shape.rows shape.groupings s i)
-    → ((s : Standing) → IsStanding shape.rows shape.groupings s → Marks (IsKey shape.rows shape.groupings s) is_key)
-    → ((s : Standing) → IsStanding shape.rows shape.groupings s → (i : ℕ) → slice_index_or flawed i false ≡ is_some (unique_flaw shape.rows shape.groupings s i))
+    → ((s : ConfigUse) → IsConfigUse shape.rows shape.groupings s → (i : ℕ) → slice_index_or keys i None ≡ keys_of shape.rows shape.groupings s i)
+    → ((s : ConfigUse) → IsConfigUse shape.rows shape.groupings s → Marks (IsKey shape.rows shape.groupings s) is_key)
+    → ((s : ConfigUse) → IsConfigUse shape.rows shape.groupings s → (i : ℕ) → slice_index_or flawed i false ≡ is_some (unique_flaw shape.rows shape.groupings s i))
     → Marks (IsConfiguration shape.rows shape.groupings) configured → Marks (IsInState shape.rows shape.groupings) in_state
     → IsCycle rows cycle → IsExpansion expansion.rows expansion.groupings expansion.nodes
     → length configured ≡ length shape.rows → length in_state ≡ length shape.rows → length is_key ≡ length shape.rows → length known.faults ≡ length expansion.rows
@@ -35,7 +35,7 @@ are_grounds rows named shape clashes expansion types judgements texts known keys
     ap (λ (r : List Row). expanded r expansion.groupings expansion.nodes) rows_is ∙ ap (λ (g : List (Option ℕ)). expanded rows g expansion.nodes) (groupings_is ∙ named_is) in
     let config_is : Marks (IsConfiguration rows defs) configured = subst (λ (o : Outline). Marks (IsConfiguration o.rows o.groupings) configured) shape_is config in
     let state_is : Marks (IsInState rows defs) in_state = subst (λ (o : Outline). Marks (IsInState o.rows o.groupings) in_state) shape_is state in
-    let stands : IsStanding rows defs (standing facts) = marks-standing rows defs facts config_is state_is in
+    let stands : IsConfigUse rows defs (standing facts) = marks-standing rows defs facts config_is state_is in
     let leafrefs_are : AreLeafrefs defs (tree rows facts) known =
     subst (λ (t : Expanded). AreLeafrefs defs t known) tree_is (subst (λ (n : List (Option ℕ)). AreLeafrefs n expansion known) named_is leafrefs) in
     let shape_rows : length shape.rows ≡ length rows = ap (λ (o : Outline). length o.rows) shape_is in

@@ -7,7 +7,7 @@ use Rattle.std.proofs.lemmas.List.{get_or_past}
 use Rattle.nm_schema_rows.specs.declared.row.Row.{Row}
 use Rattle.nm_schema_rows.specs.declared.word.Word.TheVariants as word
 use Rattle.nm_schema_rows.specs.Rows.{AreRows, children, first_with}
-use Rattle.nm_schema_keys.specs.Standing.{Standing}
+use Rattle.nm_schema_keys.specs.ConfigUse.{ConfigUse}
 use Rattle.nm_schema_keys.specs.Keys.{keys_at, keys_of}
 
 -- the values of the numbers before n
@@ -45,6 +45,6 @@ none_within rows i (k ∷ ks) are e le =
     let both = are.within i 0 some in
     absurd (omega (arith, both.0, both.1, le))
 
-pub keys_past : (rows : List Row) (groupings : List (Option ℕ)) (standing : Standing) (i : ℕ) → AreRows rows → length rows ≤ i → keys_of rows groupings standing i ≡ None
+pub keys_past : (rows : List Row) (groupings : List (Option ℕ)) (standing : ConfigUse) (i : ℕ) → AreRows rows → length rows ≤ i → keys_of rows groupings standing i ≡ None
 unfolding keys_of
 keys_past rows groupings standing i are le = ap (λ (o : Option ℕ). keys_at rows groupings standing o) (none_within rows i (children rows i) are refl le)

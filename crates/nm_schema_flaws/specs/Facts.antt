@@ -5,7 +5,7 @@ use Rattle.nm_schema_rows.specs.declared.row.Row.{Row}
 use Rattle.nm_schema_names.specs.Leads.{leads_to}
 use Rattle.nm_schema_names.specs.Graph.{leading}
 use Rattle.nm_schema_shape.specs.Config.{LeadsBy, Marks, IsConfiguration, IsInState}
-use Rattle.nm_schema_keys.specs.Standing.{Standing}
+use Rattle.nm_schema_keys.specs.ConfigUse.{ConfigUse}
 use Rattle.nm_schema_keys.specs.Keys.{IsKey}
 use Rattle.nm_schema_expansion.specs.declared.instance.Instance.{Instance}
 use Rattle.nm_schema_expansion.specs.Expansion.{Expanded, expanded, IsExpansion}
@@ -35,7 +35,7 @@ unfoldable pub is_marked : List Bool → ℕ → Bool
 is_marked marks i = slice_index_or marks i false
 
 -- how rows are used
-abbrev pub standing : Facts → Standing
+abbrev pub standing : Facts → ConfigUse
 standing facts = record { configured = is_marked facts.configured; in_state = is_marked facts.in_state }
 
 -- the tree of the modules

@@ -10,12 +10,12 @@ ghost use Rattle.nm_schema_flaws.specs.Facts.{IsCycle};
 
 use nm_base::{Label, NoMemory};
 use nm_graph::order;
-use nm_schema_names::Names;
+use nm_schema_names::RowNames;
 use nm_schema_rows::{Flaw, Rows};
 use std::alloc::Global;
 
 /// The first row that leads to itself through typedefs or groupings.
-pub(crate) fn cycle_of(alloc: Global, names: &Names<'_>) -> Result<Option<usize>, NoMemory>
+pub(crate) fn cycle_of(alloc: Global, names: &RowNames<'_>) -> Result<Option<usize>, NoMemory>
     ensures { IfOk result (IsCycle names.now) }
 {
     let graph = names.successors(alloc)?;

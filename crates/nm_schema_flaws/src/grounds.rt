@@ -15,7 +15,7 @@ use nm_schema_clash::{Clashes, clashes_of};
 use nm_schema_expansion::Expansion;
 use nm_schema_keys::{Keys, Uniques, flawed_uniques, key_leafs, uniques_of};
 use nm_schema_leafref::{Leafrefs, Paths, leafrefs_of};
-use nm_schema_names::Names;
+use nm_schema_names::RowNames;
 use nm_schema_rows::Rows;
 use nm_schema_shape::Shape;
 use nm_schema_typing::{Defaults, Judgement, Types, defaults_of, judgements_of, types_of};
@@ -25,7 +25,7 @@ use std::marker::Model;
 /// What the faults of modules are found by, all of it made once. It is seen as the rows of the modules and what is so in them.
 #[derive(Drop)]
 pub struct Grounds<'g, 'a> {
-    pub(crate) names: &'g Names<'a>,
+    pub(crate) names: &'g RowNames<'a>,
     pub(crate) definitions: &'a [Option<usize>],
     pub(crate) shape: &'a Shape<'a>,
     pub(crate) clashes: Clashes<'a>,
@@ -58,7 +58,7 @@ impl<'g, 'a> Grounds<'g, 'a> {
     /// of these are kept by the caller, each for the ones made after it.
     pub fn new(
         alloc: Global,
-        names: &'g Names<'a>,
+        names: &'g RowNames<'a>,
         definitions: &'a [Option<usize>],
         shape: &'a Shape<'a>,
         expansion: &'g Expansion<'a>,

@@ -1,12 +1,12 @@
 //! The keys of all lists.
 
 ghost use Rattle.std.specs.Prelude.{◌≡◌, ◌<◌, ℕ, IfOk, length, None, slice_index_or};
-ghost use Rattle.nm_schema_keys.specs.Standing.{Standing, IsStanding};
+ghost use Rattle.nm_schema_keys.specs.ConfigUse.{ConfigUse, IsConfigUse};
 ghost use Rattle.nm_schema_keys.specs.Keys as spec;
 
 use nm_base::NoMemory;
 use nm_schema_keys::{Keys, keys_of};
-use nm_schema_names::Names;
+use nm_schema_names::RowNames;
 use nm_schema_shape::Shape;
 use std::alloc::Global;
 
@@ -14,11 +14,11 @@ use std::alloc::Global;
 /// how many stand in the list.
 pub(crate) fn keys_of_all<'a>(
     alloc: Global,
-    names: &Names<'a>,
+    names: &RowNames<'a>,
     shape: &Shape<'_>,
 ) -> Result<Vec<Option<Keys>>, NoMemory>
     requires { names.now ≡ shape.now.rows }
-    ensures { (standing : Standing) → IsStanding shape.now.rows shape.now.groupings standing → IfOk result (λ keys. (i : ℕ) → slice_index_or keys.items i None ≡ spec.keys_of shape.now.rows shape.now.groupings standing i) }
+    ensures { (standing : ConfigUse) → IsConfigUse shape.now.rows shape.now.groupings standing → IfOk result (λ keys. (i : ℕ) → slice_index_or keys.items i None ≡ spec.keys_of shape.now.rows shape.now.groupings standing i) }
 {
     names.rows().laws();
     let mut keys = Vec::with_capacity(alloc, names.rows().len())?;

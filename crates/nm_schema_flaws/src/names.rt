@@ -5,12 +5,12 @@ ghost use Rattle.nm_schema_shape.specs.Holding.{AreNamed};
 ghost use Rattle.nm_schema_flaws.specs.Facts as spec;
 
 use nm_base::NoMemory;
-use nm_schema_names::Names;
+use nm_schema_names::RowNames;
 use std::alloc::Global;
 
 /// For each row the typedef that it names as a type, or the grouping that it names as a uses, by its row. None of built-in
 /// types, of names that lead nowhere, and of other rows.
-pub fn definitions(alloc: Global, names: &Names<'_>) -> Result<Vec<Option<usize>>, NoMemory>
+pub fn definitions(alloc: Global, names: &RowNames<'_>) -> Result<Vec<Option<usize>>, NoMemory>
     ensures value { IfOk result (λ found. found.items ≡ spec.definitions names.now) }
     ensures named { IfOk result (λ found. AreNamed names.now found.items) }
 {

@@ -7,7 +7,7 @@ use Rattle.std.proofs.lemmas.List.{get_or_past}
 use Rattle.std.proofs.lemmas.Option.{slice_get_past}
 use Rattle.nm_schema_rows.specs.declared.word.Word.TheVariants as word
 use Rattle.nm_schema_rows.specs.declared.row.Row.{Row}
-use Rattle.nm_schema_keys.specs.Standing.{Standing}
+use Rattle.nm_schema_keys.specs.ConfigUse.{ConfigUse}
 use Rattle.nm_schema_keys.specs.Said.{said_in, said_at}
 use Rattle.nm_schema_keys.specs.Uniques.{said_unique_flaw, unique_flaw}
 
@@ -39,14 +39,14 @@ marked_more mark n marks after next are is pushed = subst (λ l. AreMarked mark 
 })
 
 -- what is past the last row has no flaw
-flaw_past : (rows : List Row) (groupings : List (Option ℕ)) (standing : Standing) (i : ℕ) → length rows ≤ i → unique_flaw rows groupings standing i ≡ None
+flaw_past : (rows : List Row) (groupings : List (Option ℕ)) (standing : ConfigUse) (i : ℕ) → length rows ≤ i → unique_flaw rows groupings standing i ≡ None
 unfolding unique_flaw said_at
 flaw_past rows groupings standing i le =
     let past : slice_get rows i ≡ None = slice_get_past rows i le in
     ap (λ (o : Option Row). said_unique_flaw rows groupings standing (said_in rows word.Unique o)) past
 
 -- all rows are marked
-pub marked_all : (rows : List Row) (groupings : List (Option ℕ)) (standing : Standing) (n i : ℕ) (marks : List Bool) → AreMarked (λ k. is_some (unique_flaw rows groupings standing k)) n marks → length rows ≤ n
+pub marked_all : (rows : List Row) (groupings : List (Option ℕ)) (standing : ConfigUse) (n i : ℕ) (marks : List Bool) → AreMarked (λ k. is_some (unique_flaw rows groupings standing k)) n marks → length rows ≤ n
     → (i < n) ⊎ (n ≤ i) → slice_index_or marks i false ≡ is_some (unique_flaw rows groupings standing i)
 marked_all rows groupings standing n i marks are all (inl lt) = are.each i lt
 marked_all rows groupings standing n i marks are all (inr le) =

@@ -9,7 +9,7 @@ use Rattle.nm_schema_rows.specs.declared.word.Word.TheVariants as word
 use Rattle.nm_schema_rows.specs.declared.row.Row.{Row}
 use Rattle.nm_schema_rows.specs.Rows.{AreRows, children, first_with, first_below}
 use Rattle.nm_schema_shape.specs.Config.{Marks}
-use Rattle.nm_schema_keys.specs.Standing.{Standing}
+use Rattle.nm_schema_keys.specs.ConfigUse.{ConfigUse}
 use Rattle.nm_schema_keys.specs.Keys.{has_row, has_known, keys_at, keys_of, IsKey}
 use Rattle.nm_schema_keys.proofs.Having.{has_row-append}
 
@@ -80,14 +80,14 @@ marked_more marks start rows k i lt within before =
 -- ---- marks of keys
 
 -- row i is a key leaf of a list before row n
-pub record IsKeyBefore (rows : List Row) (groupings : List (Option ℕ)) (standing : Standing) (n i : ℕ) : Type 0 where
+pub record IsKeyBefore (rows : List Row) (groupings : List (Option ℕ)) (standing : ConfigUse) (n i : ℕ) : Type 0 where
   pub list : ℕ
   pub keys : List ℕ
   pub before : list < n
   pub known : keys_of rows groupings standing list ≡ Some keys
   pub among : Contains keys i
 
-module _ (rows : List Row) (groupings : List (Option ℕ)) (standing : Standing) where
+module _ (rows : List Row) (groupings : List (Option ℕ)) (standing : ConfigUse) where
   -- the marks of the lists before row n
   abbrev pub AreMarked : ℕ → List Bool → Type 0
   AreMarked n marks = (i : ℕ) → (slice_index_or marks i false ≡ true) ↔ IsKeyBefore rows groupings standing n i

@@ -10,7 +10,7 @@ use Rattle.nm_schema_shape.specs.Members.{members}
 use Rattle.nm_schema_shape.specs.Passing.{kept_members}
 use Rattle.nm_schema_keys.specs.declared.found.Found.{Found}
 use Rattle.nm_schema_keys.specs.declared.found.Found.TheVariants as found
-use Rattle.nm_schema_keys.specs.Standing.{is_lost}
+use Rattle.nm_schema_keys.specs.ConfigUse.{is_lost}
 use Rattle.nm_schema_keys.specs.Words.{own_name}
 
 -- row i has the name

@@ -11,7 +11,7 @@ use Rattle.nm_schema_rows.specs.Rows.{first_below}
 use Rattle.nm_schema_shape.specs.Passing.{plain_members}
 use Rattle.nm_schema_keys.specs.declared.found.Found.{Found}
 use Rattle.nm_schema_keys.specs.declared.found.Found.TheVariants as found
-use Rattle.nm_schema_keys.specs.Standing.{Standing, loses_state}
+use Rattle.nm_schema_keys.specs.ConfigUse.{ConfigUse, loses_state}
 use Rattle.nm_schema_keys.specs.Words.{words_of}
 use Rattle.nm_schema_keys.specs.Found.{fit_among}
 use Rattle.nm_schema_keys.specs.Said.{Said, said_at}
@@ -60,24 +60,24 @@ key_words_leafs leaf known texts = if is_none (key_words_flaw leaf texts) && kno
 
 -- ---- key statements
 
-abbrev pub said_key_flaw : List Row → List (Option ℕ) → Standing → Option Said → Option Flaw
+abbrev pub said_key_flaw : List Row → List (Option ℕ) → ConfigUse → Option Said → Option Flaw
 said_key_flaw rows groupings standing None = None
 said_key_flaw rows groupings standing (Some s) = key_words_flaw (key_leaf rows (plain_members rows groupings s.list) (loses_state standing s.list) s.owner) (words_of s.text)
 
 -- what is wrong with the `key` statement of row i in a list; none of other rows (RFC 7950 section 7.8.2)
-unfoldable pub key_flaw : List Row → List (Option ℕ) → Standing → ℕ → Option Flaw
+unfoldable pub key_flaw : List Row → List (Option ℕ) → ConfigUse → ℕ → Option Flaw
 key_flaw rows groupings standing i = said_key_flaw rows groupings standing (said_at rows word.Key i)
 
-abbrev pub said_keys : List Row → List (Option ℕ) → Standing → Option Said → Option (List ℕ)
+abbrev pub said_keys : List Row → List (Option ℕ) → ConfigUse → Option Said → Option (List ℕ)
 said_keys rows groupings standing None = None
 said_keys rows groupings standing (Some s) = key_words_leafs (key_leaf rows (plain_members rows groupings s.list) (loses_state standing s.list) s.owner) (is_some (plain_members rows groupings s.list)) (words_of s.text)
 
-abbrev pub keys_at : List Row → List (Option ℕ) → Standing → Option ℕ → Option (List ℕ)
+abbrev pub keys_at : List Row → List (Option ℕ) → ConfigUse → Option ℕ → Option (List ℕ)
 keys_at rows groupings standing None = None
 keys_at rows groupings standing (Some i) = said_keys rows groupings standing (said_at rows word.Key i)
 
 -- the key leafs of list l, in the order of its `key`; none where there is no `key`, or one with a flaw, or the members aren't known (RFC 7950 section 7.8.2)
-unfoldable pub keys_of : List Row → List (Option ℕ) → Standing → ℕ → Option (List ℕ)
+unfoldable pub keys_of : List Row → List (Option ℕ) → ConfigUse → ℕ → Option (List ℕ)
 keys_of rows groupings standing l = keys_at rows groupings standing (first_below rows l word.Key)
 
 -- row i is one of the key leafs, where these are known
@@ -86,7 +86,7 @@ has_known None i = false
 has_known (Some keys) i = has_row keys i
 
 -- row i is a key leaf of a list
-pub record IsKey (rows : List Row) (groupings : List (Option ℕ)) (standing : Standing) (i : ℕ) : Type 0 where
+pub record IsKey (rows : List Row) (groupings : List (Option ℕ)) (standing : ConfigUse) (i : ℕ) : Type 0 where
   pub list : ℕ
   pub keys : List ℕ
   pub known : keys_of rows groupings standing list ≡ Some keys

@@ -1,4 +1,4 @@
-pub mod Standing
+pub mod ConfigUse
 pub mod Words
 pub mod Found
 pub mod Membership

@@ -13,7 +13,7 @@ use Rattle.nm_schema_keys.specs.declared.found.Found.{Found}
 use Rattle.nm_schema_keys.specs.declared.found.Found.TheVariants as found
 use Rattle.nm_schema_keys.specs.declared.passage.Passage.{Passage}
 use Rattle.nm_schema_keys.specs.declared.passage.Passage.TheVariants as passage
-use Rattle.nm_schema_keys.specs.Standing.{Standing, loses_state}
+use Rattle.nm_schema_keys.specs.ConfigUse.{ConfigUse, loses_state}
 use Rattle.nm_schema_keys.specs.Words.{words_of, pieces_of}
 use Rattle.nm_schema_keys.specs.Found.{fit_member}
 use Rattle.nm_schema_keys.specs.Said.{Said, said_at}
@@ -80,25 +80,25 @@ unique_words_ways way (text ∷ texts) = all_there (map way (text ∷ texts))
 
 -- ---- `unique` statements
 
-abbrev pub said_unique_flaw : List Row → List (Option ℕ) → Standing → Option Said → Option Flaw
+abbrev pub said_unique_flaw : List Row → List (Option ℕ) → ConfigUse → Option Said → Option Flaw
 said_unique_flaw rows groupings standing None = None
 said_unique_flaw rows groupings standing (Some s) = unique_words_flaw (leads_nowhere rows groupings (loses_state standing s.list) s.owner s.list) (words_of s.text)
 
 -- what is wrong with the `unique` statement of row i in a list; none of other rows (RFC 7950 section 7.8.3)
-unfoldable pub unique_flaw : List Row → List (Option ℕ) → Standing → ℕ → Option Flaw
+unfoldable pub unique_flaw : List Row → List (Option ℕ) → ConfigUse → ℕ → Option Flaw
 unique_flaw rows groupings standing i = said_unique_flaw rows groupings standing (said_at rows word.Unique i)
 
-abbrev pub said_unique : List Row → List (Option ℕ) → Standing → Option Said → Option (List (List ℕ))
+abbrev pub said_unique : List Row → List (Option ℕ) → ConfigUse → Option Said → Option (List (List ℕ))
 said_unique rows groupings standing None = None
 said_unique rows groupings standing (Some s) = unique_words_ways (way_of rows groupings (loses_state standing s.list) s.owner s.list) (words_of s.text)
 
 -- for each word of the `unique` statement of row i the rows that it leads through
-unfoldable pub unique_at : List Row → List (Option ℕ) → Standing → ℕ → Option (List (List ℕ))
+unfoldable pub unique_at : List Row → List (Option ℕ) → ConfigUse → ℕ → Option (List (List ℕ))
 unique_at rows groupings standing i = said_unique rows groupings standing (said_at rows word.Unique i)
 
 unfoldable pub is_unique : List Row → ℕ → Bool
 is_unique rows i = has_word word.Unique (slice_get rows i)
 
 -- what the `unique` statements directly in list l say, in order; none where one has a flaw or isn't known (RFC 7950 section 7.8.3)
-unfoldable pub uniques_of : List Row → List (Option ℕ) → Standing → ℕ → Option (List (List (List ℕ)))
+unfoldable pub uniques_of : List Row → List (Option ℕ) → ConfigUse → ℕ → Option (List (List (List ℕ)))
 uniques_of rows groupings standing l = all_there (map (unique_at rows groupings standing) (filter (is_unique rows) (children rows l)))

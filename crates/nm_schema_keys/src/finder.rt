@@ -9,7 +9,7 @@ use crate::found::{Found, has_word, is_state};
 use crate::seen::Seen;
 use crate::words::own_name;
 use nm_base::NoMemory;
-use nm_schema_names::Names;
+use nm_schema_names::RowNames;
 use nm_schema_rows::Word;
 use nm_schema_shape::Shape;
 use std::alloc::Global;
@@ -25,7 +25,7 @@ const MOST_KEPT: usize = 1_048_576;
 /// that many words that lead through the same rows cost one search of these. It is seen as what stands in what.
 #[derive(Drop)]
 pub struct Finder<'n, 'a, 's> {
-    names: &'n Names<'a>,
+    names: &'n RowNames<'a>,
     shape: &'n Shape<'s>,
     members: BTreeMap<usize, Seen<'n, 'a>>,
     states: BTreeMap<usize, bool>,
@@ -47,7 +47,7 @@ impl<'n, 'a, 's> Model for Finder<'n, 'a, 's> {
 
 impl<'n, 'a, 's> Finder<'n, 'a, 's> {
     /// Nothing is kept yet.
-    pub fn new(alloc: Global, names: &'n Names<'a>, shape: &'n Shape<'s>) -> Finder<'n, 'a, 's>
+    pub fn new(alloc: Global, names: &'n RowNames<'a>, shape: &'n Shape<'s>) -> Finder<'n, 'a, 's>
         requires { names.now ≡ shape.now.rows }
         ensures { result ≡ shape.now }
     {
@@ -61,7 +61,7 @@ impl<'n, 'a, 's> Finder<'n, 'a, 's> {
     }
 
     /// The names of the rows.
-    pub fn names(&self) -> &'n Names<'a>
+    pub fn names(&self) -> &'n RowNames<'a>
         ensures { result.now ≡ self.now.rows }
     {
         self.names
@@ -156,7 +156,7 @@ impl<'n, 'a, 's> Finder<'n, 'a, 's> {
     }
 
     // Whether a row has a word and isn't lost.
-    #[tactic(auto, unfolding(crate::specs::Found::is_fit, crate::specs::Standing::is_lost))]
+    #[tactic(auto, unfolding(crate::specs::Found::is_fit, crate::specs::ConfigUse::is_lost))]
     fn is_fit(&mut self, loses: bool, wanted: Word, at: usize) -> Result<bool, NoMemory>
         ensures same { self.new ≡ self.old }
         ensures fit { IfOk result (λ fit. fit ≡ spec.is_fit self.old.rows loses wanted at) }

@@ -5,7 +5,7 @@ ghost use Rattle.nm_schema_rows.specs.Rows.{has_word};
 ghost use Rattle.nm_schema_shape.specs.Arguments.{argument_at};
 ghost use Rattle.nm_schema_shape.specs.Config.{is_state, says_false};
 ghost use Rattle.nm_schema_shape.specs.Holding.{is_node};
-ghost use Rattle.nm_schema_keys.specs.Standing.{Standing, IsStanding, is_lost, loses_state};
+ghost use Rattle.nm_schema_keys.specs.ConfigUse.{ConfigUse, IsConfigUse, is_lost, loses_state};
 ghost use Rattle.nm_schema_keys.specs.Found as spec;
 
 use nm_schema_rows::{Rows, Word};
@@ -77,7 +77,7 @@ pub(crate) fn is_state(rows: &Rows, at: usize) -> bool
 }
 
 // Whether a row says `config false` itself where state is lost.
-#[tactic(auto, unfolding(crate::specs::Standing::is_lost))]
+#[tactic(auto, unfolding(crate::specs::ConfigUse::is_lost))]
 fn is_lost(rows: &Rows, loses: bool, at: usize) -> bool
     ensures { result ≡ is_lost rows.now loses at }
 {
@@ -110,7 +110,7 @@ pub(crate) fn fitting(rows: &Rows, loses: bool, wanted: Word, found: Found) -> F
 
 /// Whether state is lost in a list.
 pub(crate) fn loses_state(shape: &Shape<'_>, list: usize) -> bool
-    ensures { (standing : Standing) → IsStanding shape.now.rows shape.now.groupings standing → result ≡ loses_state standing list }
+    ensures { (standing : ConfigUse) → IsConfigUse shape.now.rows shape.now.groupings standing → result ≡ loses_state standing list }
 {
     shape.is_configuration(list) || !shape.is_in_state(list)
 }

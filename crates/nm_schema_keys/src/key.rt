@@ -1,7 +1,7 @@
 //! The keys of lists.
 
 ghost use Rattle.std.specs.Prelude.{◌≡◌, ◌<◌, ◌++◌, [], All, IfOk, IfSome, None, is_some, length, map};
-ghost use Rattle.nm_schema_keys.specs.Standing.{Standing, IsStanding};
+ghost use Rattle.nm_schema_keys.specs.ConfigUse.{ConfigUse, IsConfigUse};
 ghost use Rattle.nm_schema_keys.specs.Words.{words_of};
 ghost use Rattle.nm_schema_keys.specs.Keys as spec;
 
@@ -11,7 +11,7 @@ use crate::members::Members;
 use crate::said::{Said, said_at};
 use crate::words::words_of;
 use nm_base::{Label, NoMemory};
-use nm_schema_names::Names;
+use nm_schema_names::RowNames;
 use nm_schema_rows::{Flaw, Word, name_of};
 use nm_schema_shape::Shape;
 use std::alloc::Global;
@@ -114,12 +114,12 @@ fn said_flaw<'a>(
 #[tactic(auto, unfolding(crate::specs::Keys::key_flaw))]
 pub fn key_flaw(
     alloc: Global,
-    names: &Names<'_>,
+    names: &RowNames<'_>,
     shape: &Shape<'_>,
     at: usize,
 ) -> Result<Option<Flaw>, NoMemory>
     requires { names.now ≡ shape.now.rows }
-    ensures { (standing : Standing) → IsStanding shape.now.rows shape.now.groupings standing → IfOk result (λ flaw. flaw ≡ spec.key_flaw shape.now.rows shape.now.groupings standing at) }
+    ensures { (standing : ConfigUse) → IsConfigUse shape.now.rows shape.now.groupings standing → IfOk result (λ flaw. flaw ≡ spec.key_flaw shape.now.rows shape.now.groupings standing at) }
 {
     let said = match said_at(names.rows(), Word::Key, at) {
         None => return Ok(None),
@@ -157,12 +157,12 @@ fn said_keys<'a>(
 #[tactic(auto, unfolding(crate::specs::Keys::keys_of))]
 pub fn keys_of(
     alloc: Global,
-    names: &Names<'_>,
+    names: &RowNames<'_>,
     shape: &Shape<'_>,
     list: usize,
 ) -> Result<Option<Keys>, NoMemory>
     requires { names.now ≡ shape.now.rows }
-    ensures exact { (standing : Standing) → IsStanding shape.now.rows shape.now.groupings standing → IfOk result (λ keys. keys ≡ spec.keys_of shape.now.rows shape.now.groupings standing list) }
+    ensures exact { (standing : ConfigUse) → IsConfigUse shape.now.rows shape.now.groupings standing → IfOk result (λ keys. keys ≡ spec.keys_of shape.now.rows shape.now.groupings standing list) }
     ensures within { IfOk result (λ keys. IfSome keys (All (λ leaf. leaf < length shape.now.rows))) }
 {
     let at = match names.rows().first_below(list, Word::Key) {

@@ -9,7 +9,7 @@ ghost use Rattle.nm_schema_keys.specs.Membership.{Leads, membership};
 use crate::found::{Found, argument_at, fitting};
 use crate::words::own_name;
 use nm_base::NoMemory;
-use nm_schema_names::Names;
+use nm_schema_names::RowNames;
 use nm_schema_rows::Word;
 use nm_schema_shape::{Nodes, Shape};
 use std::alloc::Global;
@@ -21,7 +21,7 @@ use std::marker::Model;
 /// To find one takes time as the logarithm of how many there are.
 #[derive(Drop)]
 pub struct Members<'n, 'a> {
-    names: &'n Names<'a>,
+    names: &'n RowNames<'a>,
     nodes: Option<Nodes>,
     first: BTreeMap<&'a str, usize>,
 }
@@ -40,7 +40,7 @@ impl<'n, 'a> Model for Members<'n, 'a> {
 // Lets each name lead to the first node that has it.
 fn first_of_each<'a>(
     alloc: Global,
-    names: &Names<'a>,
+    names: &RowNames<'a>,
     nodes: &[usize],
 ) -> Result<BTreeMap<&'a str, usize>, NoMemory>
     ensures { IfOk result (Leads names.now nodes.now) }
@@ -68,7 +68,7 @@ impl<'n, 'a> Members<'n, 'a> {
     /// The members of a row.
     pub fn new(
         alloc: Global,
-        names: &'n Names<'a>,
+        names: &'n RowNames<'a>,
         shape: &Shape<'_>,
         at: usize,
     ) -> Result<Members<'n, 'a>, NoMemory>
@@ -82,7 +82,7 @@ impl<'n, 'a> Members<'n, 'a> {
     // Some nodes of the modules by name, if they are known.
     fn of(
         alloc: Global,
-        names: &'n Names<'a>,
+        names: &'n RowNames<'a>,
         nodes: Option<Nodes>,
     ) -> Result<Members<'n, 'a>, NoMemory>
         ensures { IfOk result (λ members. members ≡ membership names.now nodes) }
@@ -98,7 +98,7 @@ impl<'n, 'a> Members<'n, 'a> {
     /// The members of a row that stand in no choice.
     pub fn plain(
         alloc: Global,
-        names: &'n Names<'a>,
+        names: &'n RowNames<'a>,
         shape: &Shape<'_>,
         at: usize,
     ) -> Result<Members<'n, 'a>, NoMemory>
@@ -112,7 +112,7 @@ impl<'n, 'a> Members<'n, 'a> {
     /// The members of a row that are no state themselves and stand in no choice that is.
     pub fn kept(
         alloc: Global,
-        names: &'n Names<'a>,
+        names: &'n RowNames<'a>,
         shape: &Shape<'_>,
         at: usize,
     ) -> Result<Members<'n, 'a>, NoMemory>

@@ -7,7 +7,7 @@ ghost use Rattle.nm_schema_keys.specs.Kept.{members_at};
 use crate::found::Found;
 use crate::members::Members;
 use nm_base::NoMemory;
-use nm_schema_names::Names;
+use nm_schema_names::RowNames;
 use nm_schema_shape::Shape;
 use std::alloc::Global;
 use std::marker::Model;
@@ -56,7 +56,7 @@ impl<'n, 'a> Seen<'n, 'a> {
     #[tactic(auto, unfolding(crate::specs::Kept::members_at))]
     pub fn new(
         alloc: Global,
-        names: &'n Names<'a>,
+        names: &'n RowNames<'a>,
         shape: &Shape<'_>,
         at: usize,
     ) -> Result<Seen<'n, 'a>, NoMemory>

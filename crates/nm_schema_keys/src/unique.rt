@@ -3,7 +3,7 @@
 ghost use Rattle.std.specs.Prelude.{◌≡◌, ℕ, IfOk, false, filter, is_some, length, map, slice_index_or};
 ghost use Rattle.std.specs.List.{find};
 ghost use Rattle.nm_graph.specs.Value.{all_there};
-ghost use Rattle.nm_schema_keys.specs.Standing.{Standing, IsStanding, loses_state};
+ghost use Rattle.nm_schema_keys.specs.ConfigUse.{ConfigUse, IsConfigUse, loses_state};
 ghost use Rattle.nm_schema_keys.specs.Uniques as spec;
 
 use crate::finder::Finder;
@@ -12,7 +12,7 @@ use crate::passage::Passage;
 use crate::said::{Said, said_at};
 use crate::words::{pieces_of, words_of};
 use nm_base::{Label, NoMemory, Numbers};
-use nm_schema_names::Names;
+use nm_schema_names::RowNames;
 use nm_schema_rows::{Flaw, Rows, Word};
 use nm_schema_shape::Shape;
 use std::alloc::Global;
@@ -79,7 +79,7 @@ struct Start {
 fn start_of(shape: &Shape<'_>, said: &Said<'_>) -> Start
     ensures list { result.list ≡ said.now.list }
     ensures owner { result.owner ≡ said.now.owner }
-    ensures loses { (standing : Standing) → IsStanding shape.now.rows shape.now.groupings standing → result.loses ≡ loses_state standing said.now.list }
+    ensures loses { (standing : ConfigUse) → IsConfigUse shape.now.rows shape.now.groupings standing → result.loses ≡ loses_state standing said.now.list }
 {
     Start {
         list: said.list,
@@ -229,7 +229,7 @@ impl<'n, 'a, 's> Finder<'n, 'a, 's> {
     #[tactic(auto, unfolding(crate::specs::Uniques::unique_flaw))]
     fn unique_flaw(&mut self, alloc: Global, at: usize) -> Result<Option<Flaw>, NoMemory>
         ensures same { self.new ≡ self.old }
-        ensures flaw { (standing : Standing) → IsStanding self.old.rows self.old.groupings standing → IfOk result (λ flaw. flaw ≡ spec.unique_flaw self.old.rows self.old.groupings standing at) }
+        ensures flaw { (standing : ConfigUse) → IsConfigUse self.old.rows self.old.groupings standing → IfOk result (λ flaw. flaw ≡ spec.unique_flaw self.old.rows self.old.groupings standing at) }
     {
         let said = match said_at(self.names().rows(), Word::Unique, at) {
             None => return Ok(None),
@@ -281,7 +281,7 @@ impl<'n, 'a, 's> Finder<'n, 'a, 's> {
     #[tactic(auto, unfolding(crate::specs::Uniques::unique_at))]
     fn unique_at(&mut self, alloc: Global, at: usize) -> Result<Option<Unique>, NoMemory>
         ensures same { self.new ≡ self.old }
-        ensures unique { (standing : Standing) → IsStanding self.old.rows self.old.groupings standing → IfOk result (λ unique. unique ≡ spec.unique_at self.old.rows self.old.groupings standing at) }
+        ensures unique { (standing : ConfigUse) → IsConfigUse self.old.rows self.old.groupings standing → IfOk result (λ unique. unique ≡ spec.unique_at self.old.rows self.old.groupings standing at) }
     {
         let said = match said_at(self.names().rows(), Word::Unique, at) {
             None => return Ok(None),
@@ -299,12 +299,12 @@ impl<'n, 'a, 's> Finder<'n, 'a, 's> {
 /// is configuration. None of other rows, and of words whose way isn't known.
 pub fn unique_flaw(
     alloc: Global,
-    names: &Names<'_>,
+    names: &RowNames<'_>,
     shape: &Shape<'_>,
     at: usize,
 ) -> Result<Option<Flaw>, NoMemory>
     requires { names.now ≡ shape.now.rows }
-    ensures { (standing : Standing) → IsStanding shape.now.rows shape.now.groupings standing → IfOk result (λ flaw. flaw ≡ spec.unique_flaw shape.now.rows shape.now.groupings standing at) }
+    ensures { (standing : ConfigUse) → IsConfigUse shape.now.rows shape.now.groupings standing → IfOk result (λ flaw. flaw ≡ spec.unique_flaw shape.now.rows shape.now.groupings standing at) }
 {
     let mut finder = Finder::new(alloc, names, shape);
     finder.unique_flaw(alloc, at)
@@ -315,12 +315,12 @@ pub fn unique_flaw(
 /// logarithm of the rows.
 pub fn flawed_uniques(
     alloc: Global,
-    names: &Names<'_>,
+    names: &RowNames<'_>,
     shape: &Shape<'_>,
 ) -> Result<Vec<bool>, NoMemory>
     requires { names.now ≡ shape.now.rows }
     ensures size { IfOk result (λ marks. length marks.items ≡ length shape.now.rows) }
-    ensures marks { (standing : Standing) → IsStanding shape.now.rows shape.now.groupings standing → IfOk result (λ marks. (at : ℕ) → slice_index_or marks.items at false ≡ is_some (spec.unique_flaw shape.now.rows shape.now.groupings standing at)) }
+    ensures marks { (standing : ConfigUse) → IsConfigUse shape.now.rows shape.now.groupings standing → IfOk result (λ marks. (at : ℕ) → slice_index_or marks.items at false ≡ is_some (spec.unique_flaw shape.now.rows shape.now.groupings standing at)) }
 {
     let mut finder = Finder::new(alloc, names, shape);
     let mut marks = Vec::with_capacity(alloc, names.rows().len())?;
@@ -357,12 +357,12 @@ fn uniques_among(alloc: Global, rows: &Rows, numbers: &[usize]) -> Result<Vec<us
 #[tactic(auto, unfolding(crate::specs::Uniques::uniques_of))]
 pub fn uniques_of(
     alloc: Global,
-    names: &Names<'_>,
+    names: &RowNames<'_>,
     shape: &Shape<'_>,
     list: usize,
 ) -> Result<Option<Uniques>, NoMemory>
     requires { names.now ≡ shape.now.rows }
-    ensures { (standing : Standing) → IsStanding shape.now.rows shape.now.groupings standing → IfOk result (λ uniques. uniques ≡ spec.uniques_of shape.now.rows shape.now.groupings standing list) }
+    ensures { (standing : ConfigUse) → IsConfigUse shape.now.rows shape.now.groupings standing → IfOk result (λ uniques. uniques ≡ spec.uniques_of shape.now.rows shape.now.groupings standing list) }
 {
     let numbers = uniques_among(alloc, names.rows(), names.rows().below(list))?;
     let mut finder = Finder::new(alloc, names, shape);

@@ -6,7 +6,7 @@ ghost use Rattle.nm_schema_rows.specs.Text.{is_some_text};
 ghost use Rattle.nm_schema_keys.specs.Words as spec;
 
 use nm_base::NoMemory;
-use nm_schema_names::Names;
+use nm_schema_names::RowNames;
 use nm_schema_rows::{is_reference, name_of, prefix_of};
 use std::alloc::{AllocError, Global};
 
@@ -66,7 +66,7 @@ pub(crate) fn pieces_of(alloc: Global, word: &str) -> Result<Vec<&str>, NoMemory
 
 /// The name of a word: of an identifier that has no prefix, or that of the module itself.
 #[tactic(auto, unfolding(crate::specs::Words::own_name))]
-pub(crate) fn own_name<'a>(names: &Names<'a>, owner: usize, word: &'a str) -> Option<&'a str>
+pub(crate) fn own_name<'a>(names: &RowNames<'a>, owner: usize, word: &'a str) -> Option<&'a str>
     ensures { MatchOption result (spec.own_name names.now owner word.now ≡ None) (λ name. spec.own_name names.now owner word.now ≡ Some name.now) }
 {
     if !is_reference(word) {

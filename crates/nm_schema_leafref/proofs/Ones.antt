@@ -7,7 +7,7 @@ use Rattle.nm_schema_leafref.specs.declared.fault.PathFault.{PathFault}
 use Rattle.nm_schema_leafref.specs.declared.fault.PathFault.TheVariants as fault
 use Rattle.nm_schema_leafref.specs.Walk.{led_to}
 use Rattle.nm_schema_leafref.specs.Target.{targets, IsCircular}
-use Rattle.nm_schema_leafref.specs.Fault.{IsFaulty, IsFirstFault, IsSound, HasFault}
+use Rattle.nm_schema_leafref.specs.Fault.{IsFaulty, IsFirstFault, HasNoFault, HasFault}
 use Rattle.nm_schema_leafref.proofs.Faults.{leads_nowhere, no_target}
 
 module _ (typedefs : List (Option ℕ)) (t : Expanded) where
@@ -33,7 +33,7 @@ module _ (typedefs : List (Option ℕ)) (t : Expanded) where
     one-first f g a b (inl lt) = absurd (b.first a.node f lt a.path a.faulty)
     one-first f g a b (inr le) = one-not_later f g a b le (cases_lt b.node a.node)
 
-    sound-no_first : (f : PathFault) → IsSound typedefs t p → IsFirstFault typedefs t p f → ⊥
+    sound-no_first : (f : PathFault) → HasNoFault typedefs t p → IsFirstFault typedefs t p f → ⊥
     sound-no_first f sound first = sound first.node f first.path first.faulty
 
     pub one-fault : (found other : Option PathFault) → HasFault typedefs t p found → HasFault typedefs t p other → found ≡ other

@@ -13,7 +13,7 @@ use Rattle.nm_schema_typing.specs.Flaws.{AreMeanings}
 use Rattle.nm_schema_typing.specs.Meaning.{Meaning}
 use Rattle.nm_schema_expansion.specs.Expansion.{Expanded, row_of}
 use Rattle.nm_schema_leafref.specs.Target.{plain_in, plain_type, plain_at, type_step, type_of_node, targets}
-use Rattle.nm_schema_leafref.specs.Known.{known_step, own_in, AreKept}
+use Rattle.nm_schema_leafref.specs.Known.{known_step, own_in, AreOwnTypes}
 use Rattle.nm_schema_leafref.proofs.Lists.{past}
 use Rattle.nm_schema_leafref.proofs.Places.{row-past}
 use Rattle.nm_schema_leafref.proofs.Targets.{targets-past}
@@ -70,11 +70,11 @@ kept_same meanings kept at i found a is lt e h =
     let here : slice_index_or (slice_set kept at found) at None ≡ Some a = subst (λ k. slice_index_or (slice_set kept at found) k None ≡ Some a) e h in
     subst (λ k. plain_in (slice_index_or meanings k None) ≡ Some a) (sym e) (sym is ∙ sym new ∙ here)
 
-kept_or : (meanings : List (Option Meaning)) (kept : List (Option TypeOfLeaf)) (at : ℕ) (found : Option TypeOfLeaf) → AreKept meanings kept → found ≡ plain_in (slice_index_or meanings at None) → at < length kept → (i : ℕ) (a : TypeOfLeaf) → slice_index_or (slice_set kept at found) i None ≡ Some a → (i ≡ at) ⊎ (i ≡ at → ⊥)
+kept_or : (meanings : List (Option Meaning)) (kept : List (Option TypeOfLeaf)) (at : ℕ) (found : Option TypeOfLeaf) → AreOwnTypes meanings kept → found ≡ plain_in (slice_index_or meanings at None) → at < length kept → (i : ℕ) (a : TypeOfLeaf) → slice_index_or (slice_set kept at found) i None ≡ Some a → (i ≡ at) ⊎ (i ≡ at → ⊥)
     → plain_in (slice_index_or meanings i None) ≡ Some a
 kept_or meanings kept at found h is lt i a e (inl same) = kept_same meanings kept at i found a is lt same e
 kept_or meanings kept at found h is lt i a e (inr differ) = h i a (sym (get_or-set_other kept at i found None differ) ∙ e)
 
 -- one more is kept
-pub kept-more : (meanings : List (Option Meaning)) (kept : List (Option TypeOfLeaf)) (at : ℕ) (found : Option TypeOfLeaf) → AreKept meanings kept → found ≡ plain_in (slice_index_or meanings at None) → at < length kept → AreKept meanings (slice_set kept at found)
+pub kept-more : (meanings : List (Option Meaning)) (kept : List (Option TypeOfLeaf)) (at : ℕ) (found : Option TypeOfLeaf) → AreOwnTypes meanings kept → found ≡ plain_in (slice_index_or meanings at None) → at < length kept → AreOwnTypes meanings (slice_set kept at found)
 kept-more meanings kept at found h is lt = λ i a e. kept_or meanings kept at found h is lt i a e (cases_eq i at)

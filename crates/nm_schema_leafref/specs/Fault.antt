@@ -28,12 +28,12 @@ pub record IsFirstFault (typedefs : List (Option ℕ)) (t : Expanded) (p : ℕ) 
   pub first : NoneFaulty typedefs t p node
 
 -- no node that has the path of row p is faulty
-abbrev pub IsSound : List (Option ℕ) → Expanded → ℕ → Type 0
-IsSound typedefs t p = (x : ℕ) (f : PathFault) → path_row typedefs t x ≡ Some p → ¬ (IsFaulty typedefs t x f)
+abbrev pub HasNoFault : List (Option ℕ) → Expanded → ℕ → Type 0
+HasNoFault typedefs t p = (x : ℕ) (f : PathFault) → path_row typedefs t x ≡ Some p → ¬ (IsFaulty typedefs t x f)
 
 -- what is wrong with the path of row p: that of the first node that is faulty by it (this project's own)
 abbrev pub HasFault : List (Option ℕ) → Expanded → ℕ → Option PathFault → Type 0
-HasFault typedefs t p found = MatchOption found (IsSound typedefs t p) (IsFirstFault typedefs t p)
+HasFault typedefs t p found = MatchOption found (HasNoFault typedefs t p) (IsFirstFault typedefs t p)
 
 -- a fault by the text of the path
 abbrev pub flaw_of : Row → PathFault → Flaw

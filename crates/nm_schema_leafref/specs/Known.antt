@@ -68,8 +68,8 @@ own_in meanings None = None
 own_in meanings (Some i) = plain_in (slice_index_or meanings i None)
 
 -- the types that are kept for rows are their own
-abbrev pub AreKept : List (Option Meaning) → List (Option TypeOfLeaf) → Type 0
-AreKept meanings kept = (i : ℕ) (t : TypeOfLeaf) → slice_index_or kept i None ≡ Some t → plain_in (slice_index_or meanings i None) ≡ Some t
+abbrev pub AreOwnTypes : List (Option Meaning) → List (Option TypeOfLeaf) → Type 0
+AreOwnTypes meanings kept = (i : ℕ) (t : TypeOfLeaf) → slice_index_or kept i None ≡ Some t → plain_in (slice_index_or meanings i None) ≡ Some t
 
 -- what is wrong with a node, by where it leads and whether it leads to itself
 abbrev pub fault_of : Option Led → Bool → Option PathFault

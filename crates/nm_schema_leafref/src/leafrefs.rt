@@ -16,7 +16,7 @@ use crate::types::types_of_nodes;
 use nm_base::{Label, NoMemory};
 use nm_graph::order;
 use nm_schema_expansion::Expansion;
-use nm_schema_names::Names;
+use nm_schema_names::RowNames;
 use nm_schema_rows::{Flaw, Rows};
 use nm_schema_shape::Shape;
 use nm_schema_typing::Types;
@@ -144,7 +144,7 @@ fn known_of<'a: 'b, 'b>(alloc: Global, scene: &Scene<'_, 'a, 'b>) -> Result<Leaf
 /// themselves, a search more for each node that leads to such a one.
 pub fn leafrefs_of<'a: 'b, 'b>(
     alloc: Global,
-    names: &Names<'a>,
+    names: &RowNames<'a>,
     paths: &'a Paths,
     shape: &Shape<'_>,
     expansion: &Expansion<'b>,

@@ -7,7 +7,7 @@ ghost use Rattle.nm_schema_leafref.specs.Place as spec;
 use crate::led::is_marked;
 use nm_base::NoMemory;
 use nm_schema_expansion::{Expansion, Instance};
-use nm_schema_names::Names;
+use nm_schema_names::RowNames;
 use nm_schema_rows::{Rows, Word};
 use nm_schema_shape::Shape;
 use std::alloc::Global;
@@ -17,7 +17,7 @@ use std::marker::Model;
 /// as the tree.
 #[derive(Drop)]
 pub struct Tree<'g, 'a, 'b> {
-    names: &'g Names<'a>,
+    names: &'g RowNames<'a>,
     expansion: &'g Expansion<'b>,
     nodes: Vec<bool>,
     modules: Vec<bool>,
@@ -80,7 +80,7 @@ fn known_nodes(
 #[tactic(auto, unfolding(crate::specs::Place::is_known_module))]
 fn is_known_module(
     alloc: Global,
-    names: &Names<'_>,
+    names: &RowNames<'_>,
     shape: &Shape<'_>,
     expansion: &Expansion<'_>,
     owner: usize,
@@ -99,7 +99,7 @@ fn is_known_module(
 // The same of each module.
 fn known_modules(
     alloc: Global,
-    names: &Names<'_>,
+    names: &RowNames<'_>,
     shape: &Shape<'_>,
     expansion: &Expansion<'_>,
 ) -> Result<Vec<bool>, NoMemory>
@@ -122,7 +122,7 @@ fn known_modules(
 /// A tree with its names, and what is known of it.
 pub fn tree_of<'g, 'a, 'b>(
     alloc: Global,
-    names: &'g Names<'a>,
+    names: &'g RowNames<'a>,
     shape: &Shape<'_>,
     expansion: &'g Expansion<'b>,
 ) -> Result<Tree<'g, 'a, 'b>, NoMemory>
@@ -153,7 +153,7 @@ fn is_leaf(word: Word) -> bool
 
 impl<'g, 'a, 'b> Tree<'g, 'a, 'b> {
     /// The names of the modules.
-    pub fn names(&self) -> &'g Names<'a>
+    pub fn names(&self) -> &'g RowNames<'a>
         ensures { result.now ≡ self.now.rows }
     {
         self.names

@@ -36,7 +36,7 @@ fn made(alloc: Global, types: &Types, at: usize) -> Result<Option<SharedType>, N
     let Some(derived) = meaning.derived() else {
         return Ok(None);
     };
-    match derived.leaf_type(alloc)? {
+    match derived.leaf_type()? {
         None => Ok(None),
         Some(leaf_type) => Ok(Some(SharedType::new(alloc, leaf_type)?)),
     }
@@ -49,9 +49,9 @@ fn own_type(
     kept: &mut Vec<Option<SharedType>>,
     row: Option<usize>,
 ) -> Result<Option<SharedType>, NoMemory>
-    requires { known.AreKept types.now.meanings kept.old.items }
+    requires { known.AreOwnTypes types.now.meanings kept.old.items }
     ensures value { IfOk result (λ found. found ≡ known.own_in types.now.meanings row) }
-    ensures kept { OnOk result (known.AreKept types.now.meanings kept.new.items) }
+    ensures kept { OnOk result (known.AreOwnTypes types.now.meanings kept.new.items) }
 {
     let Some(at) = row else {
         return Ok(None);
@@ -69,7 +69,7 @@ fn own_type(
 
 // No types for so many rows.
 fn none_kept(alloc: Global, count: usize) -> Result<Vec<Option<SharedType>>, NoMemory>
-    ensures { IfOk result (λ kept. (meanings : List (Option Meaning)) → known.AreKept meanings kept.items) }
+    ensures { IfOk result (λ kept. (meanings : List (Option Meaning)) → known.AreOwnTypes meanings kept.items) }
 {
     let mut kept = Vec::with_capacity(alloc, count)?;
     for _ in 0..count {

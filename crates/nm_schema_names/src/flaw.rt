@@ -4,7 +4,7 @@ ghost use Rattle.std.specs.Prelude.{◌≡◌, IfOk};
 ghost use Rattle.nm_schema_rows.specs.Flaw as grammar;
 ghost use Rattle.nm_schema_names.specs.Flaw as spec;
 
-use crate::names::{Names, is_marker};
+use crate::names::{RowNames, is_marker};
 use nm_base::{Label, NoMemory};
 use nm_schema_rows::{Flaw, Row, Word, is_builtin};
 
@@ -35,7 +35,7 @@ fn reference_flaw(target: Option<usize>, text: &Label) -> Result<Option<Flaw>, N
     }
 }
 
-impl<'a> Names<'a> {
+impl<'a> RowNames<'a> {
     fn module_flaw(&self, at: usize, name: &'a Label) -> Result<Option<Flaw>, NoMemory>
         ensures { IfOk result (λ flaw. flaw ≡ spec.module_flaw self.now at name.now) }
     {

@@ -3,7 +3,7 @@
 ghost use Rattle.std.specs.Prelude.{◌≡◌, IfOk};
 ghost use Rattle.nm_schema_names.specs.Graph as spec;
 
-use crate::names::Names;
+use crate::names::RowNames;
 use nm_base::NoMemory;
 use nm_schema_rows::Word;
 use std::alloc::Global;
@@ -33,7 +33,7 @@ fn listed(alloc: Global, number: Option<usize>) -> Result<Vec<usize>, NoMemory>
     Ok(list)
 }
 
-impl<'a> Names<'a> {
+impl<'a> RowNames<'a> {
     fn is_part_at(&self, at: usize) -> bool
         ensures { result ≡ spec.is_part_at self.now at }
     {

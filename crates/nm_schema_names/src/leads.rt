@@ -4,10 +4,10 @@ ghost use Rattle.std.specs.Prelude.{◌≡◌, ◌<◌, Some, IfSome, length};
 ghost use Rattle.nm_schema_names.specs.Leads as spec;
 ghost use Rattle.nm_schema_names.specs.Standing.{Stands};
 
-use crate::names::Names;
+use crate::names::RowNames;
 use nm_schema_rows::{Word, is_builtin, name_of, prefix_of};
 
-impl<'a> Names<'a> {
+impl<'a> RowNames<'a> {
     // The definition of a name in the statements around a row, from inside out.
     #[tactic(auto, using(crate::proofs::Scopes::looked, crate::proofs::Scopes::found, crate::proofs::Scopes::ended), unfolding(crate::specs::Leads::scoped, crate::specs::Leads::enclosing))]
     fn scoped(&self, at: usize, word: Word, name: &'a str) -> Option<usize>

@@ -12,4 +12,4 @@ mod modules;
 mod names;
 mod table;
 
-pub use names::{Names, is_marker};
+pub use names::{RowNames, is_marker};

@@ -16,14 +16,14 @@ use std::marker::Model;
 ///
 /// To find a row takes time as the logarithm of the rows, and a definition that once for each statement around.
 #[derive(Drop)]
-pub struct Names<'a> {
+pub struct RowNames<'a> {
     rows: &'a Rows,
     beside: Table<'a>,
     within: Table<'a>,
     modules: IndexMap<&'a str, usize>,
 }
 
-impl<'a> Model for Names<'a> {
+impl<'a> Model for RowNames<'a> {
     ghost use Rattle.std.specs.Prelude.{List};
     ghost use Rattle.nm_schema_rows.specs.declared.row.Row.{Row};
     ghost use Rattle.nm_schema_names.specs.declared.key.Reach.TheVariants as reach;
@@ -45,15 +45,15 @@ pub fn is_marker(name: &str) -> bool
     name == MARKER
 }
 
-impl<'a> Names<'a> {
+impl<'a> RowNames<'a> {
     /// The names of all rows.
-    pub fn new(alloc: Global, rows: &'a Rows) -> Result<Names<'a>, NoMemory>
+    pub fn new(alloc: Global, rows: &'a Rows) -> Result<RowNames<'a>, NoMemory>
         ensures { IfOk result (λ names. names ≡ rows.now) }
     {
         let beside = table_of(alloc, rows, Reach::Statement)?;
         let within = table_of(alloc, rows, Reach::Module)?;
         let modules = modules_of(alloc, rows)?;
-        Ok(Names {
+        Ok(RowNames {
             rows,
             beside,
             within,

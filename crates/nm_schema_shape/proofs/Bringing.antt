@@ -12,7 +12,7 @@ use Rattle.nm_schema_shape.specs.Holding.{holding, bringing, Draws, IsHolding, I
 use Rattle.nm_schema_shape.specs.Worth.{worth_within, worth_of, AreWorth}
 use Rattle.nm_schema_shape.specs.Members.{bring, bring_step, brought, gathered, members}
 use Rattle.nm_schema_shape.specs.Config.{is_kept, kept_of}
-use Rattle.nm_schema_shape.specs.Passing.{is_plain, plain_of, brought_along, gathered_along, kept_members, plain_members, AreKept, ArePlain}
+use Rattle.nm_schema_shape.specs.Passing.{is_plain, plain_of, brought_along, gathered_along, kept_members, plain_members, AreWithoutState, ArePlain}
 use Rattle.nm_schema_shape.proofs.Worths.{are_worth}
 use Rattle.nm_schema_shape.proofs.Graphs.{successors-within, successors-read, successors-past}
 
@@ -63,7 +63,7 @@ pub picked-known : (rows : List Row) (groupings : List (Option ℕ)) (test : ℕ
 picked-known rows groupings test next graph known i leads graph-is bring =
     subst (λ n. All (λ node. node < n) (filter test (holding rows groupings i))) (sym bring.size) (All-filter test (λ node. node < length rows) (holding rows groupings i) (holding-rows rows groupings graph i leads graph-is))
 
-pub kept-gathered : (rows : List Row) (groupings : List (Option ℕ)) (graph : Graph) (known : List (Option (List ℕ))) (i : ℕ) → IsHolding rows groupings graph → IsGraph graph → AreKept rows groupings known
+pub kept-gathered : (rows : List Row) (groupings : List (Option ℕ)) (graph : Graph) (known : List (Option (List ℕ))) (i : ℕ) → IsHolding rows groupings graph → IsGraph graph → AreWithoutState rows groupings known
     → gathered (length rows) (all_there (values_at known (filter (is_kept rows) (holding rows groupings i)))) ≡ kept_members rows groupings i
 unfolding kept_members kept_of
 kept-gathered rows groupings graph known i leads graph-is h = picked-gathered rows groupings (is_kept rows) (kept_of (bringing rows groupings) rows) graph known i leads graph-is h

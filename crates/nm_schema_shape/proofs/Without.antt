@@ -7,7 +7,7 @@ use Rattle.nm_schema_shape.specs.Holding.{is_fork_at, bringing}
 use Rattle.nm_schema_shape.specs.Worth.{AreWorth}
 use Rattle.nm_schema_shape.specs.Members.{brought}
 use Rattle.nm_schema_shape.specs.Config.{is_state, is_kept, kept_of}
-use Rattle.nm_schema_shape.specs.Passing.{is_plain, plain_of, brought_along, AreKept, ArePlain}
+use Rattle.nm_schema_shape.specs.Passing.{is_plain, plain_of, brought_along, AreWithoutState, ArePlain}
 use Rattle.nm_schema_shape.proofs.Bringing.{brought-is}
 use mathlib.Core.Path.{fun_ext}
 
@@ -67,7 +67,7 @@ brought-same rows groupings next values known h e same = rw e (record {
   each = λ i lt. h.each i lt ∙ sym (brought-is rows groupings i) ∙ ap (λ (n : ℕ → List ℕ). brought_along rows groupings n i) (fun_ext same);
 })
 
-pub kept-same : (rows : List Row) (groupings : List (Option ℕ)) (values known : List (Option (List ℕ))) → AreWorth (brought rows groupings) (length rows) known → values ≡ known → ((i : ℕ) → is_state rows i ≡ false) → AreKept rows groupings values
+pub kept-same : (rows : List Row) (groupings : List (Option ℕ)) (values known : List (Option (List ℕ))) → AreWorth (brought rows groupings) (length rows) known → values ≡ known → ((i : ℕ) → is_state rows i ≡ false) → AreWithoutState rows groupings values
 kept-same rows groupings values known h e none = brought-same rows groupings (kept_of (bringing rows groupings) rows) values known h e (kept-all (bringing rows groupings) rows none)
 
 pub plain-same : (rows : List Row) (groupings : List (Option ℕ)) (values known : List (Option (List ℕ))) → AreWorth (brought rows groupings) (length rows) known → values ≡ known → ((i : ℕ) → is_fork_at rows i ≡ false) → ArePlain rows groupings values

@@ -5,7 +5,7 @@ use Rattle.nm_graph.specs.Graph.{Graph, IsGraph}
 use Rattle.nm_schema_shape.specs.Holding.{holding, IsHolding}
 use Rattle.nm_schema_shape.specs.Worth.{AreWorth}
 use Rattle.nm_schema_shape.specs.Members.{brought}
-use Rattle.nm_schema_shape.specs.Passing.{AreKept, ArePlain}
+use Rattle.nm_schema_shape.specs.Passing.{AreWithoutState, ArePlain}
 use Rattle.nm_schema_shape.specs.declared.settings.Settings.{Settings}
 use Rattle.nm_schema_shape.specs.Settled.{AreSettings}
 
@@ -22,6 +22,6 @@ pub record IsShape (rows : List Row) (groupings : List (Option ℕ)) (graph : Gr
   pub leads : IsHolding rows groupings graph
   pub within : IsGraph graph
   pub bring : AreWorth (brought rows groupings) (length rows) known
-  pub bring_kept : AreKept rows groupings kept
+  pub bring_kept : AreWithoutState rows groupings kept
   pub bring_plain : ArePlain rows groupings plain
   pub settled : AreSettings (holding rows groupings) rows settings

@@ -33,8 +33,8 @@ unfoldable pub plain_members : List Row → List (Option ℕ) → ℕ → Option
 plain_members rows groupings i = gathered_along rows groupings (plain_of (bringing rows groupings) rows) (plain_of (holding rows groupings) rows i)
 
 -- each row has the nodes that it brings, but for state
-abbrev pub AreKept : List Row → List (Option ℕ) → List (Option (List ℕ)) → Type 0
-AreKept rows groupings values = AreWorth (brought_along rows groupings (kept_of (bringing rows groupings) rows)) (length rows) values
+abbrev pub AreWithoutState : List Row → List (Option ℕ) → List (Option (List ℕ)) → Type 0
+AreWithoutState rows groupings values = AreWorth (brought_along rows groupings (kept_of (bringing rows groupings) rows)) (length rows) values
 
 -- each row has the nodes that it brings, but for those in choices
 abbrev pub ArePlain : List Row → List (Option ℕ) → List (Option (List ℕ)) → Type 0

@@ -117,7 +117,7 @@ pub(crate) fn brought_kept(
     requires graph { IsGraph graph.now }
     requires bringing { IsBringing rows.now groupings.now graph.now }
     requires known { AreWorth (brought rows.now groupings.now) (length rows.now) known.now }
-    ensures { IfOk result (λ values. spec.AreKept rows.now groupings.now values.items) }
+    ensures { IfOk result (λ values. spec.AreWithoutState rows.now groupings.now values.items) }
 {
     if !has_state(rows) {
         return copied(alloc, known);

@@ -15,7 +15,7 @@ use nm_base::NoMemory;
 use nm_schema_expansion::expand;
 use nm_schema_flaws::{Fault, Grounds, definitions};
 use nm_schema_leafref::{Paths, paths_of};
-use nm_schema_names::Names;
+use nm_schema_names::RowNames;
 use nm_schema_rows::{Flaw, Rows, rows_of};
 use nm_schema_shape::{Shape, shape_of};
 use nm_yang::{Statement, read_module};
@@ -28,7 +28,7 @@ fn definitions_of(alloc: Global, rows: &Rows) -> Result<Vec<Option<usize>>, NoMe
     ensures value { IfOk result (λ found. found.items ≡ facts.definitions rows.now) }
     ensures named { IfOk result (λ found. AreNamed rows.now found.items) }
 {
-    let names = Names::new(alloc, rows)?;
+    let names = RowNames::new(alloc, rows)?;
     definitions(alloc, &names)
 }
 
@@ -43,7 +43,7 @@ fn first_fault<'a>(
     requires paths { ArePaths rows.now paths.now }
     requires shape { shape.now ≡ outline rows.now definitions.now }
 {
-    let names = Names::new(alloc, rows)?;
+    let names = RowNames::new(alloc, rows)?;
     let expansion = expand(alloc, shape)?;
     let grounds = Grounds::new(alloc, &names, definitions, shape, &expansion, paths)?;
     grounds.first_fault(alloc)

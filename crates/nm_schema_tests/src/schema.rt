@@ -14,26 +14,27 @@ fn kind_text(alloc: Global, kind: &TypeKind) -> Result<String, AllocError> {
         TypeKind::Boolean => String::from_str(alloc, "boolean"),
         TypeKind::Text => String::from_str(alloc, "string"),
         TypeKind::Names(names) => {
-            let count = names.len();
+            let count = names.as_slice().len();
             format!(in alloc; "enumeration of {count}")
         }
         TypeKind::Bits(bits) => {
-            let count = bits.len();
+            let count = bits.as_slice().len();
             format!(in alloc; "bits of {count}")
         }
         TypeKind::Empty => String::from_str(alloc, "empty"),
     }
 }
 
-// A type with the ranges or lengths along its derivation.
+// A type with its range or length, if it has one.
 fn type_text(alloc: Global, leaf_type: &LeafType) -> Result<String, AllocError> {
     let mut text = kind_text(alloc, &leaf_type.kind)?;
-    for range in &leaf_type.limits {
-        for part in range {
-            let (low, high) = *part;
-            let more = format!(in alloc; " {low}..{high}")?;
-            text.push_str(more.as_str())?;
-        }
+    let Some(parts) = &leaf_type.limits else {
+        return Ok(text);
+    };
+    for part in parts.as_slice() {
+        let (low, high) = *part;
+        let more = format!(in alloc; " {low}..{high}")?;
+        text.push_str(more.as_str())?;
     }
     Ok(text)
 }

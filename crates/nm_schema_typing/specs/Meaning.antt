@@ -107,7 +107,7 @@ is_leafref _ = false
 
 -- a built-in type, before any restriction
 abbrev pub bare : BuiltIn → Derivation
-bare b = record { built = start b; limits = [] }
+bare b = record { built = start b; limits = None }
 
 abbrev pub built_in_at : List Row → ℕ → Option BuiltIn → Option Meaning
 built_in_at rows i None = None

@@ -67,7 +67,7 @@ fn fits_meaning(alloc: Global, text: &str, meaning: &Meaning) -> Result<bool, No
     match meaning.derived() {
         None => Ok(true),
         Some(derived) => {
-            let leaf_type = derived.leaf_type(alloc)?;
+            let leaf_type = derived.leaf_type()?;
             fits_if(alloc, text, &leaf_type)
         }
     }

@@ -26,7 +26,7 @@ fn built_in_base(alloc: Global, rows: &Rows, at: usize) -> Result<Option<Arc<Der
 {
     match built_in_named(rows, at)? {
         None => Ok(None),
-        Some(built_in) => Ok(Some(Arc::new(alloc, Derived::of_built_in(alloc, &built_in))?)),
+        Some(built_in) => Ok(Some(Arc::new(alloc, Derived::of_built_in(&built_in))?)),
     }
 }
 
@@ -86,32 +86,27 @@ fn flaw_on(keyword: &Label, made: Result<Derived, StepFault>) -> Result<Option<F
 }
 
 // The type that fraction digits make, and the type itself where they are refused.
-fn digits_kept(alloc: Global, base: &Derived, digits: &str) -> Result<Derived, NoMemory>
+fn digits_kept(base: &Derived, digits: &str) -> Result<Derived, NoMemory>
     ensures { IfOk result (λ derived. derived ≡ spec.kept base.now (with_digits base.now digits.now)) }
 {
-    match base.copy(alloc)?.with_digits(digits) {
+    match base.copy()?.with_digits(digits) {
         Ok(derived) => Ok(derived),
         Err(StepFault::NoMemory) => Err(NoMemory),
-        Err(_) => base.copy(alloc),
+        Err(_) => base.copy(),
     }
 }
 
 // A type with its fraction digits, if they stand in a row.
 #[tactic(auto, unfolding(crate::specs::Flaws::after_digits))]
-fn after_digits(
-    alloc: Global,
-    rows: &Rows,
-    parent: Option<usize>,
-    base: &Derived,
-) -> Result<Derived, NoMemory>
+fn after_digits(rows: &Rows, parent: Option<usize>, base: &Derived) -> Result<Derived, NoMemory>
     ensures { IfOk result (λ derived. derived ≡ spec.after_digits rows.now parent base.now) }
 {
     let Some(at) = parent else {
-        return base.copy(alloc);
+        return base.copy();
     };
     match argument_below(rows, at, Word::FractionDigits)? {
-        None => base.copy(alloc),
-        Some(digits) => digits_kept(alloc, base, digits.as_str()),
+        None => base.copy(),
+        Some(digits) => digits_kept(base, digits.as_str()),
     }
 }
 
@@ -127,11 +122,11 @@ fn restriction_on(
 {
     match row.word {
         Word::Range => {
-            let derived = after_digits(alloc, rows, row.parent, base)?;
+            let derived = after_digits(rows, row.parent, base)?;
             flaw_on(&row.keyword, derived.with_range(alloc, text))
         }
-        Word::Length => flaw_on(&row.keyword, base.copy(alloc)?.with_length(alloc, text)),
-        Word::FractionDigits => flaw_on(&row.keyword, base.copy(alloc)?.with_digits(text)),
+        Word::Length => flaw_on(&row.keyword, base.copy()?.with_length(alloc, text)),
+        Word::FractionDigits => flaw_on(&row.keyword, base.copy()?.with_digits(text)),
         _ => Ok(None),
     }
 }

@@ -107,7 +107,7 @@ fn judged_on(
         return Ok(Judged::Fine);
     }
     let listed = listed_of(alloc, rows, numberer(numbering), &numbers)?;
-    let made = with_listed(alloc, numbering, base.copy(alloc)?, &listed);
+    let made = with_listed(alloc, numbering, base.copy()?, &listed);
     judged_of(&numbers, made)
 }
 

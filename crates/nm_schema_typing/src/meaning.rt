@@ -69,10 +69,7 @@ impl Meaning {
     {
         match &self.kind {
             Kind::Plain(derived) => Ok(Arc::try_clone(derived)?),
-            Kind::Reference(_) => Ok(Arc::new(
-                alloc,
-                Derived::of_built_in(alloc, &BuiltIn::Leafref),
-            )?),
+            Kind::Reference(_) => Ok(Arc::new(alloc, Derived::of_built_in(&BuiltIn::Leafref))?),
         }
     }
 
@@ -154,7 +151,7 @@ fn restricted(
     if is_unrestricted(restrictions) {
         return Ok(whole(Arc::try_clone(base)?));
     }
-    let copied = base.copy(alloc)?;
+    let copied = base.copy()?;
     whole_step(alloc, step(alloc, copied, restrictions))
 }
 
@@ -272,7 +269,7 @@ fn built_in_at(
             if is_leafref(built_in) {
                 return leafref_at(alloc, rows, at);
             }
-            let bare = Arc::new(alloc, Derived::of_built_in(alloc, built_in))?;
+            let bare = Arc::new(alloc, Derived::of_built_in(built_in))?;
             restricted_at(alloc, rows, at, &bare)
         }
     }

@@ -1,7 +1,7 @@
 use nm_base::{Label, NoMemory};
 use nm_schema_derive::{
-    BuiltIn, Derived, ListFault, ListFlaw, Listed, Member, NumberForm, Numbering, Restrictions,
-    StepFault, built_in, numbered, read_parts, restricted, step,
+    BuiltIn, Derived, ListFault, ListFlaw, Listed, NumberForm, Numbering, Restrictions, StepFault,
+    Taken, built_in, numbered, read_parts, restricted, step,
 };
 use nm_types::{read_value, write_value};
 use std::alloc::Global;
@@ -68,7 +68,7 @@ fn ranges_are_read(rt: HostRuntime) -> Result<(), Fail> {
     {
         let found = read_parts(rt.alloc(), &NumberForm::Integer, text, base)?;
         let first = match found {
-            Some(parts) => parts.first().copied(),
+            Some(parts) => parts.as_slice().first().copied(),
             None => None,
         };
         assert_eq!(rt; first, *want, "{name}");
@@ -83,7 +83,7 @@ fn first_part(
     text: &str,
 ) -> Result<Option<(i128, i128)>, NoMemory> {
     match read_parts(alloc, form, text, &[(-1000, 1000)])? {
-        Some(parts) => Ok(parts.first().copied()),
+        Some(parts) => Ok(parts.as_slice().first().copied()),
         None => Ok(None),
     }
 }
@@ -135,9 +135,9 @@ fn listed(alloc: Global, rows: &[(&str, Option<&str>)]) -> Result<Vec<Listed>, N
 }
 
 // The number of the last member, or the statement with a flaw and the flaw's name.
-fn told(made: Result<Vec<Member>, ListFault>) -> (i128, &'static str) {
+fn told(made: Result<Taken, ListFault>) -> (i128, &'static str) {
     match made {
-        Ok(members) => match members.last() {
+        Ok(members) => match members.as_slice().last() {
             Some(member) => (i128::from(member.number), "ok"),
             None => (0, "none"),
         },
@@ -273,7 +273,7 @@ fn restrictions_have_their_types(rt: HostRuntime) -> Result<(), Fail> {
             names: Vec::new(alloc),
             bits: Vec::new(alloc),
         };
-        let made = step(alloc, Derived::of_built_in(alloc, &built), &restrictions);
+        let made = step(alloc, Derived::of_built_in(&built), &restrictions);
         assert_eq!(rt; outcome(&made), *want, "{name}");
     }
     Ok(())
@@ -281,7 +281,7 @@ fn restrictions_have_their_types(rt: HostRuntime) -> Result<(), Fail> {
 
 // The canonical text of a value of a type.
 fn shown(alloc: Global, derived: &Derived, text: &str) -> Result<Label, NoMemory> {
-    match derived.leaf_type(alloc)? {
+    match derived.leaf_type()? {
         Some(leaf_type) => match read_value(alloc, &leaf_type, text) {
             Ok(value) => write_value(alloc, &leaf_type, &value),
             Err(_) => Label::new(alloc, "none"),
@@ -295,11 +295,11 @@ fn shown(alloc: Global, derived: &Derived, text: &str) -> Result<Label, NoMemory
 fn derived_types_have_values(rt: HostRuntime) -> Result<(), Fail> {
     let alloc = rt.alloc();
     let int32 = built_in("int32").ok_or("int32")?;
-    let base = Derived::of_built_in(alloc, &int32).with_range(alloc, "1..4|10..20");
+    let base = Derived::of_built_in(&int32).with_range(alloc, "1..4|10..20");
     let base = base.map_err(|_| "the base")?;
     assert_eq!(rt; shown(alloc, &base, "4")?.as_str(), "4");
     assert_eq!(rt; shown(alloc, &base, "5")?.as_str(), "none");
-    let narrow = base.copy(alloc)?.with_range(alloc, "11..max");
+    let narrow = base.copy()?.with_range(alloc, "11..max");
     let narrow = narrow.map_err(|_| "its restriction")?;
     assert_eq!(rt; shown(alloc, &narrow, "20")?.as_str(), "20");
     assert_eq!(rt; shown(alloc, &narrow, "4")?.as_str(), "none");
@@ -317,7 +317,7 @@ fn derived_bits_keep_their_positions(rt: HostRuntime) -> Result<(), Fail> {
         ("between", Some("1")),
     ];
     let all = listed(alloc, &rows)?;
-    let base = Derived::of_built_in(alloc, &bits).with_bits(alloc, &all);
+    let base = Derived::of_built_in(&bits).with_bits(alloc, &all);
     let base = base.map_err(|_| "the base")?;
     let some = listed(alloc, &[("late", None), ("early", None)])?;
     let derived = base.with_bits(alloc, &some).map_err(|_| "some")?;

@@ -1,7 +1,7 @@
 use nm_base::NoMemory;
 use nm_schema_expansion::{Expansion, expand};
 use nm_schema_leafref::{Leafrefs, Led, leafrefs_of, paths_of};
-use nm_schema_names::Names;
+use nm_schema_names::RowNames;
 use nm_schema_rows::{Flaw, Rows, rows_of};
 use nm_schema_shape::{are_named, shape_of};
 use nm_schema_typing::types_of;
@@ -11,7 +11,7 @@ use std::alloc::{AllocError, Global};
 use std::test::Fail;
 
 // The typedef or grouping that each row names.
-fn definitions_of(alloc: Global, names: &Names<'_>) -> Result<Vec<Option<usize>>, NoMemory> {
+fn definitions_of(alloc: Global, names: &RowNames<'_>) -> Result<Vec<Option<usize>>, NoMemory> {
     let mut definitions = Vec::new(alloc);
     for at in 0..names.rows().len() {
         definitions.push(names.leads_to(at))?;
@@ -116,7 +116,7 @@ fn put_flaws(
 // All leafrefs of modules, and then the flaw of each path.
 fn put_modules(alloc: Global, text: &mut String, rows: &Rows) -> Result<(), NoMemory> {
     let paths = paths_of(alloc, rows)?;
-    let names = Names::new(alloc, rows)?;
+    let names = RowNames::new(alloc, rows)?;
     let definitions = definitions_of(alloc, &names)?;
     if !are_named(rows, &definitions) {
         text.push_str("not named")?;

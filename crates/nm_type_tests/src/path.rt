@@ -3,7 +3,8 @@ mod texts;
 use nm_base::{Groups, Label, NoMemory, Numbers};
 use nm_path::{PathFault, laws, node_of, read_path, write_path};
 use nm_tree::{Elements, Node, NodeKind, Schema, SharedType};
-use nm_types::{Chosen, LeafType, Path, Step, TypeKind, Value};
+use nm_types::names::is_once;
+use nm_types::{Chosen, LeafType, Names, Path, Step, TypeKind, Value};
 use std::alloc::Global;
 use std::test::Fail;
 use texts::{KEYED, LOST, MISFORMED, MISKEYED, NAMES, QUOTED, Spelled, VALUES};
@@ -25,13 +26,7 @@ enum Shape {
 }
 
 fn shared(alloc: Global, kind: TypeKind) -> Result<SharedType, NoMemory> {
-    SharedType::new(
-        alloc,
-        LeafType {
-            kind,
-            limits: Vec::new(alloc),
-        },
-    )
+    SharedType::new(alloc, LeafType { kind, limits: None })
 }
 
 fn leaf(leaf_type: SharedType) -> NodeKind {
@@ -43,21 +38,30 @@ fn leaf(leaf_type: SharedType) -> NodeKind {
     }
 }
 
+// Names that are each once; none, where one comes again.
+#[tactic(auto, unfolding(nm_types::specs::Names::is_once))]
+fn once(alloc: Global, names: Vec<Label>) -> Result<Names, NoMemory> {
+    if is_once(&names) {
+        return Names::new(alloc, names);
+    }
+    Names::new(alloc, Vec::new(alloc))
+}
+
 fn names(alloc: Global) -> Result<TypeKind, NoMemory> {
     let mut names = Vec::new(alloc);
     for name in ["up", "down", "is up"] {
         names.push(Label::new(alloc, name)?)?;
     }
-    Ok(TypeKind::Names(names))
+    Ok(TypeKind::Names(once(alloc, names)?))
 }
 
-// Bits whose positions aren't in the order of their names.
+// Bits in order of position, which isn't that of their names.
 fn bits(alloc: Global) -> Result<TypeKind, NoMemory> {
-    let mut bits = Vec::new(alloc);
-    for (name, position) in [("write", 0), ("read", 1), ("exec", 7)] {
-        bits.push((Label::new(alloc, name)?, position))?;
+    let mut names = Vec::new(alloc);
+    for name in ["write", "read", "exec"] {
+        names.push(Label::new(alloc, name)?)?;
     }
-    Ok(TypeKind::Bits(bits))
+    Ok(TypeKind::Bits(once(alloc, names)?))
 }
 
 fn type_of(alloc: Global, shape: Shape) -> Result<TypeKind, NoMemory> {

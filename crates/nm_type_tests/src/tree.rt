@@ -16,7 +16,7 @@ fn boolean(alloc: Global) -> Result<SharedType, NoMemory> {
         alloc,
         LeafType {
             kind: TypeKind::Boolean,
-            limits: Vec::new(alloc),
+            limits: None,
         },
     )
 }

@@ -1,6 +1,9 @@
 use nm_base::{Label, NoMemory};
+use nm_types::names::is_once;
+use nm_types::parts::is_ascending;
 use nm_types::{
-    Chosen, LeafType, Path, Step, TypeKind, Value, ValueFault, read_value, write_value,
+    Chosen, LeafType, Names, Parts, Path, Step, TypeKind, Value, ValueFault, read_value,
+    write_value,
 };
 use std::alloc::Global;
 use std::cmp::Ordering;
@@ -20,14 +23,23 @@ fn shown(alloc: Global, leaf_type: &LeafType, text: &str) -> Result<Label, NoMem
     }
 }
 
-fn limited(alloc: Global, kind: TypeKind, ranges: &[(i128, i128)]) -> Result<LeafType, Fail> {
-    let mut limits = Vec::new(alloc);
-    for range in ranges {
-        let mut parts = Vec::new(alloc);
-        parts.push(*range)?;
-        limits.push(parts)?;
+// The parts of a range, where there are some.
+fn range(alloc: Global, parts: &[(i128, i128)]) -> Result<Option<Parts>, NoMemory> {
+    if parts.is_empty() {
+        return Ok(None);
     }
-    Ok(LeafType { kind, limits })
+    let parts = Vec::from_slice(alloc, parts)?;
+    if !is_ascending(&parts) {
+        return Ok(None);
+    }
+    Ok(Some(Parts::new(alloc, parts)?))
+}
+
+fn limited(alloc: Global, kind: TypeKind, parts: &[(i128, i128)]) -> Result<LeafType, Fail> {
+    Ok(LeafType {
+        kind,
+        limits: range(alloc, parts)?,
+    })
 }
 
 // RFC 7950 section 9.2: the ends of each width, signs and leading zeros.
@@ -87,15 +99,25 @@ fn integers(rt: HostRuntime) -> Result<(), Fail> {
     Ok(())
 }
 
-// RFC 7950 section 9.2.4: a value meets every range along the derivation.
+// RFC 7950 section 9.2.4: a value is within one of the parts, their ends included.
 #[test]
 fn ranges(rt: HostRuntime) -> Result<(), Fail> {
     let kind = TypeKind::Integer {
         low: -128,
         high: 127,
     };
-    let narrowed = limited(rt.alloc(), kind, &[(1, 4), (0, 100)])?;
-    for (text, expected) in [("1", "1"), ("4", "4"), ("0", OUT), ("5", OUT), ("101", OUT)] {
+    let narrowed = limited(rt.alloc(), kind, &[(1, 4), (10, 20), (22, 22)])?;
+    let cases = [
+        ("1", "1"),
+        ("4", "4"),
+        ("10", "10"),
+        ("22", "22"),
+        ("0", OUT),
+        ("5", OUT),
+        ("21", OUT),
+        ("101", OUT),
+    ];
+    for (text, expected) in cases {
         assert_eq!(rt;
             shown(rt.alloc(), &narrowed, text)?.as_str(),
             expected,
@@ -184,7 +206,7 @@ fn labels(alloc: Global, texts: &[&str]) -> Result<Vec<Label>, NoMemory> {
 // RFC 7950 section 9.6.4.
 #[test]
 fn names(rt: HostRuntime) -> Result<(), Fail> {
-    let names = labels(rt.alloc(), &["zero", "one"])?;
+    let names = once(rt.alloc(), labels(rt.alloc(), &["zero", "one"])?)?;
     let enumeration = limited(rt.alloc(), TypeKind::Names(names), &[])?;
     for (text, expected) in [("one", "one"), ("zero", "zero"), ("two", BAD), ("", BAD)] {
         assert_eq!(rt;
@@ -196,23 +218,20 @@ fn names(rt: HostRuntime) -> Result<(), Fail> {
     Ok(())
 }
 
-fn positions(alloc: Global, bits: &[(&str, u32)]) -> Result<Vec<(Label, u32)>, NoMemory> {
-    let mut all = Vec::new(alloc);
-    for bit in bits {
-        all.push((Label::new(alloc, bit.0)?, bit.1))?;
+// Names that are each once; none, where one comes again.
+#[tactic(auto, unfolding(nm_types::specs::Names::is_once))]
+fn once(alloc: Global, names: Vec<Label>) -> Result<Names, NoMemory> {
+    if is_once(&names) {
+        return Names::new(alloc, names);
     }
-    Ok(all)
+    Names::new(alloc, Vec::new(alloc))
 }
 
 // RFC 7950 section 9.7.5: bits in any order.
 #[test]
 fn bits(rt: HostRuntime) -> Result<(), Fail> {
-    let all = [
-        ("ten-mb-only", 4),
-        ("disable-nagle", 0),
-        ("auto-sense-speed", 1),
-    ];
-    let bits = positions(rt.alloc(), &all)?;
+    let all = ["disable-nagle", "auto-sense-speed", "ten-mb-only"];
+    let bits = once(rt.alloc(), labels(rt.alloc(), &all)?)?;
     let flags = limited(rt.alloc(), TypeKind::Bits(bits), &[])?;
     let cases = [
         ("", ""),

@@ -1,16 +1,17 @@
 -- The canonical text of bits is a spelling of them.
-use Rattle.std.proofs.Common.{◌≡◌, ℕ, ◌<◌, ◌+◌, ◌-◌, Bool, true, false, List, [], ◌∷◌, ◌++◌, map, filter, fold, length, get_or, ap, refl, sym, ◌∙◌, arith, inl, inr, append_assoc, length-append}
+use Rattle.std.proofs.Common.{◌≡◌, ℕ, ◌<◌, ◌+◌, ◌-◌, Bool, true, false, List, [], ◌∷◌, ◌++◌, filter, fold, length, get_or, ap, refl, sym, ◌∙◌, arith, inl, inr, append_assoc, length-append}
 use Rattle.std.specs.Prelude.{◌==◌, ◌&&◌, ◌||◌, not, All}
 use Rattle.std.specs.List.{slice_split, onto_first, list_all}
-use Rattle.std.proofs.lemmas.Bool.{cases_Bool, false_from_ne_true}
+use Rattle.std.proofs.lemmas.Bool.{cases_Bool, false_from_ne_true, false≢true}
 use Rattle.std.proofs.lemmas.List.{append-nil, get_or-append-add}
 use Rattle.std.proofs.lemmas.List.Splits.{slice_split_none, slice_split_at}
 use Rattle.std.proofs.lemmas.List.Elements.{All-nil, All-cons, All-get_or}
-use Rattle.nm_types.specs.Reading.{has_text, words, has_outer_space, are_bits, in_order, spaced, bits_text}
+use Rattle.nm_types.specs.Names.{has_text, is_once}
+use Rattle.nm_types.specs.Reading.{words, has_outer_space, are_bits, spaced, bits_text}
 use Rattle.nm_types.specs.Spells.{IsOnce, SpellsBits}
 use Rattle.nm_types.proofs.Decimals.{and_parts}
-use Rattle.nm_types.proofs.Readings.{are_bits-sound, has_text-sound}
-use Rattle.nm_types.proofs.BitNames.{list_all-from, list_all-at, order-has, once, order-once, apart-none, chosen-has, chosen-once, chosen-same, bits-from}
+use Rattle.nm_types.proofs.Readings.{are_bits-sound, has_text-sound, has_text-complete}
+use Rattle.nm_types.proofs.BitNames.{list_all-from, list_all-at, chosen-has, chosen-once, chosen-same, bits-from}
 
 -- ---- words
 
@@ -140,27 +141,30 @@ bare-spaced ((a ∷ as') ∷ ws) h =
 
 -- ---- the canonical text
 
-once-test : (ts : List (List ℕ)) → IsOnce ts → once ts ≡ true
-unfolding once
+pub once-test : (ts : List (List ℕ)) → IsOnce ts → is_once ts ≡ true
+unfolding is_once
 once-test [] h = refl
 once-test (t ∷ ts) h = let a = false_from_ne_true (has_text ts t) (λ m. h.0 (has_text-sound ts t m)) in rw a (once-test ts h.1)
 
-pub bits-canonical : (all : List (List ℕ × ℕ)) (text t : List ℕ) → IsOnce (map (λ bit. bit.0) all) → SpellsBits all text t → SpellsBits all t t
-unfolding bits_text in_order
-bits-canonical all text t distinct s =
-    let names = map (λ (b : List ℕ × ℕ). b.0) all in
-    let sorted = map (λ (b : List ℕ × ℕ). b.0) (in_order all) in
+pub once-fact : (ts : List (List ℕ)) → is_once ts ≡ true → IsOnce ts
+unfolding is_once
+once-fact [] e = tt
+once-fact (t ∷ ts) e =
+    let p = and_parts (not (has_text ts t)) (is_once ts) e in
+    (λ c. let h = has_text-complete ts t c in false≢true (rw h at p.0), once-fact ts p.1)
+
+pub bits-canonical : (names : List (List ℕ)) (text t : List ℕ) → IsOnce names → SpellsBits names text t → SpellsBits names t t
+unfolding bits_text
+bits-canonical names text t distinct s =
     let p = has_text (words text) in
-    let ns = filter p sorted in
-    let in-names : (x : List ℕ) → has_text sorted x ≡ has_text names x = λ x. order-has [] all x in
-    let sorted-once : once sorted ≡ true = order-once [] all (once-test [] tt) (once-test names distinct) (apart-none names) in
-    let ns-once : once ns ≡ true = chosen-once p sorted sorted-once in
-    let ns-words : list_all is_word ns ≡ true = list_all-from is_word ns (λ x m. list_all-at is_word (words text) (words-are-words text) x (and_parts (has_text sorted x) (p x) (sym (chosen-has p sorted x) ∙ m)).1) in
-    let ns-names : (x : List ℕ) → has_text ns x ≡ true → has_text names x ≡ true = λ x m. sym (in-names x) ∙ (and_parts (has_text sorted x) (p x) (sym (chosen-has p sorted x) ∙ m)).0 in
-    let same : filter (has_text ns) sorted ≡ ns = chosen-same p (has_text ns) sorted (λ x m. chosen-has p sorted x ∙ rw m refl) in
+    let ns = filter p names in
+    let ns-once : is_once ns ≡ true = chosen-once p names (once-test names distinct) in
+    let ns-words : list_all is_word ns ≡ true = list_all-from is_word ns (λ x m. list_all-at is_word (words text) (words-are-words text) x (and_parts (has_text names x) (p x) (sym (chosen-has p names x) ∙ m)).1) in
+    let ns-names : (x : List ℕ) → has_text ns x ≡ true → has_text names x ≡ true = λ x m. (and_parts (has_text names x) (p x) (sym (chosen-has p names x) ∙ m)).0 in
+    let same : filter (has_text ns) names ≡ ns = chosen-same p (has_text ns) names (λ x m. chosen-has p names x ∙ rw m refl) in
     let back : words t ≡ ns = ap words s.canonical ∙ words-spaced ns ns-words in
     record {
       bare = ap has_outer_space s.canonical ∙ bare-spaced ns ns-words;
       named = are_bits-sound names (words t) (ap (are_bits names) back ∙ bits-from names ns ns-names ns-once);
-      canonical = s.canonical ∙ ap (fold spaced []) (sym same) ∙ ap (λ (l : List (List ℕ)). fold spaced [] (filter (has_text l) sorted)) (sym back);
+      canonical = s.canonical ∙ ap (fold spaced []) (sym same) ∙ ap (λ (l : List (List ℕ)). fold spaced [] (filter (has_text l) names)) (sym back);
     }

@@ -8,7 +8,7 @@ use Rattle.std.proofs.lemmas.Int.{ints, to_z-of_z}
 use Rattle.nm_types.specs.declared.value.Value.TheVariants.{Decimal}
 use Rattle.nm_types.specs.declared.fault.ValueFault.TheVariants.{BadText, OutOfRange}
 use Rattle.nm_types.specs.LeafType.{decimal, TypeOfLeaf}
-use Rattle.nm_types.specs.Limits.{is_within, i64_part, meets_ranges}
+use Rattle.nm_types.specs.Limits.{is_within, i64_part, meets_range}
 use Rattle.nm_types.specs.Reading.{with_sign, spelled, reading}
 use Rattle.nm_types.proofs.Integers.{reading_none, reading_some, reading_out}
 use Rattle.std.proofs.Common.{◌≡◌, ℕ, ◌<◌, ◌≤◌, ◌+◌, ◌-◌, ◌*◌, ◌^◌, min, Bool, true, false, List, [], ◌∷◌, ◌++◌, length, get_or, take, drop, Option, Some, None, Ok, Err, ℤ, pos, FitsSigned, to_z, of_z, ap, refl, sym, ◌∙◌, arith, add-one}
@@ -154,9 +154,9 @@ signed_out : (negative : Bool) (x : ℕ) → 2 ^ 64 ≤ x → is_within (cond ne
 signed_out true x h = false_from_ne_true _ (past x h)
 signed_out false x h = grind (arith, nat_tests)
 
-module _ (d : ℕ) (ranges : List (List (ℤ × ℤ))) (text : List ℕ) where
+module _ (d : ℕ) (range : Option (List (ℤ × ℤ))) (text : List ℕ) where
   abbrev t : TypeOfLeaf
-  t = record { kind = decimal d; limits = ranges }
+  t = record { kind = decimal d; limits = range }
 
   pub decimal_bad : None ≡ option_map (λ m. min m (2 ^ 64)) (magnitude_of d (without_leading_sign text)) → Err BadText ≡ reading t text
   unfolding spelled
@@ -167,7 +167,7 @@ module _ (d : ℕ) (ranges : List (List (ℤ × ℤ))) (text : List ℕ) where
   spelled_decimal x e = rw e refl
 
   -- the test of a magnitude that stopped growing is the test of the magnitude
-  test_alike : (test : Bool) (x m : ℕ) → m ≡ min x (2 ^ 64) → is_within (with_sign text m) i64_part && meets_ranges ranges (with_sign text m) ≡ test → is_within (with_sign text x) i64_part && meets_ranges ranges (with_sign text x) ≡ test
+  test_alike : (test : Bool) (x m : ℕ) → m ≡ min x (2 ^ 64) → is_within (with_sign text m) i64_part && meets_range range (with_sign text m) ≡ test → is_within (with_sign text x) i64_part && meets_range range (with_sign text x) ≡ test
   test_alike test x m e f = elim (cases_lt x (2 ^ 64)) [
     | inl lt ↦ (let g : x ≡ m = omega arith in rw g f)
     | inr ge ↦ (let g : 2 ^ 64 ≤ m = omega arith in
@@ -176,10 +176,10 @@ module _ (d : ℕ) (ranges : List (List (ℤ × ℤ))) (text : List ℕ) where
         rw a (rw b at f))
   ]
 
-  pub decimal_out : (x m : ℕ) → magnitude_of d (without_leading_sign text) ≡ Some x → m ≡ min x (2 ^ 64) → is_within (with_sign text m) i64_part && meets_ranges ranges (with_sign text m) ≡ false → Err OutOfRange ≡ reading t text
+  pub decimal_out : (x m : ℕ) → magnitude_of d (without_leading_sign text) ≡ Some x → m ≡ min x (2 ^ 64) → is_within (with_sign text m) i64_part && meets_range range (with_sign text m) ≡ false → Err OutOfRange ≡ reading t text
   decimal_out x m s e f = sym (reading_out t text _ (spelled_decimal x s) (test_alike false x m e f))
 
-  pub decimal_in : (x m : ℕ) → magnitude_of d (without_leading_sign text) ≡ Some x → m ≡ min x (2 ^ 64) → is_within (with_sign text m) i64_part && meets_ranges ranges (with_sign text m) ≡ true → Ok (Decimal (with_sign text m) d) ≡ reading t text
+  pub decimal_in : (x m : ℕ) → magnitude_of d (without_leading_sign text) ≡ Some x → m ≡ min x (2 ^ 64) → is_within (with_sign text m) i64_part && meets_range range (with_sign text m) ≡ true → Ok (Decimal (with_sign text m) d) ≡ reading t text
   decimal_in x m s e f = elim (cases_lt x (2 ^ 64)) [
     | inl lt ↦ (let g : m ≡ x = omega arith in ap (λ (n : ℕ). Ok (Decimal (with_sign text n) d)) g ∙ sym (reading_some t text _ (spelled_decimal x s) (test_alike true x m e f)))
     | inr ge ↦ (let g : 2 ^ 64 ≤ m = omega arith in

@@ -1,5 +1,5 @@
 -- Reading integers.
-use Rattle.std.proofs.Common.{◌≡◌, ◌≢◌, ℕ, Bool, true, false, List, [], ◌∷◌, length, Some, None, Ok, Err, ℤ, FitsSigned, to_z, of_z, ap, refl, sym, ◌∙◌, arith}
+use Rattle.std.proofs.Common.{◌≡◌, ◌≢◌, ℕ, Bool, true, false, List, [], ◌∷◌, length, Option, Some, None, Ok, Err, ℤ, FitsSigned, to_z, of_z, ap, refl, sym, ◌∙◌, arith}
 use Rattle.std.specs.Prelude.{◌&&◌, ◌==◌}
 use Rattle.std.specs.Int.{w128}
 use Rattle.std.specs.List.{list_all}
@@ -14,7 +14,7 @@ use Rattle.nm_types.specs.declared.value.Value.{Value}
 use Rattle.nm_types.specs.declared.value.Value.TheVariants.{Int}
 use Rattle.nm_types.specs.declared.fault.ValueFault.TheVariants.{BadText, OutOfRange}
 use Rattle.nm_types.specs.LeafType.{integer, TypeOfLeaf}
-use Rattle.nm_types.specs.Limits.{is_within, meets_ranges, meets_limits}
+use Rattle.nm_types.specs.Limits.{is_within, meets_range, meets_limits}
 use Rattle.nm_types.specs.Reading.{is_numeral, integer_of, spelled, judged, reading}
 
 -- a text that begins with no sign is itself without its sign
@@ -55,9 +55,9 @@ reading_some t text v e m = ap (judged t) e ∙ rw m refl
 pub reading_out : (t : TypeOfLeaf) (text : List ℕ) (v : Value) → spelled t.kind text ≡ Some v → meets_limits t v ≡ false → reading t text ≡ Err OutOfRange
 reading_out t text v e m = ap (judged t) e ∙ rw m refl
 
-module _ (low high : ℤ) (ranges : List (List (ℤ × ℤ))) (text : List ℕ) where
+module _ (low high : ℤ) (range : Option (List (ℤ × ℤ))) (text : List ℕ) where
   abbrev t : TypeOfLeaf
-  t = record { kind = integer low high; limits = ranges }
+  t = record { kind = integer low high; limits = range }
 
   pub integer_bad : is_numeral (without_leading_sign text) ≡ false → Err BadText ≡ reading t text
   unfolding spelled integer_of
@@ -67,10 +67,10 @@ module _ (low high : ℤ) (ranges : List (List (ℤ × ℤ))) (text : List ℕ) 
   unfolding spelled integer_of
   spelled_integer e = rw e refl
 
-  pub integer_in : is_numeral (without_leading_sign text) ≡ true → is_within (signed_digits_value 10 text) (low, high) && meets_ranges ranges (signed_digits_value 10 text) ≡ true → Ok (Int (signed_digits_value 10 text)) ≡ reading t text
+  pub integer_in : is_numeral (without_leading_sign text) ≡ true → is_within (signed_digits_value 10 text) (low, high) && meets_range range (signed_digits_value 10 text) ≡ true → Ok (Int (signed_digits_value 10 text)) ≡ reading t text
   integer_in e w = sym (reading_some t text _ (spelled_integer e) w)
 
-  pub integer_out : is_numeral (without_leading_sign text) ≡ true → is_within (signed_digits_value 10 text) (low, high) && meets_ranges ranges (signed_digits_value 10 text) ≡ false → Err OutOfRange ≡ reading t text
+  pub integer_out : is_numeral (without_leading_sign text) ≡ true → is_within (signed_digits_value 10 text) (low, high) && meets_range range (signed_digits_value 10 text) ≡ false → Err OutOfRange ≡ reading t text
   integer_out e w = sym (reading_out t text _ (spelled_integer e) w)
 
 -- what is between numbers of 128 bits is one
@@ -82,11 +82,11 @@ pub beyond_bounds : (low high z : ℤ) → FitsSigned w128 low → FitsSigned w1
 beyond_bounds low high z a b h = false_from_ne_true (is_within z (low, high)) (λ e. h (fits_between low high z a b e))
 
 -- what the test of bounds and ranges says of passed numbers, it says of the numbers
-pub bounds_alike : (test : Bool) (n z l low h high : ℤ) (ranges : List (List (ℤ × ℤ))) → n ≡ z → l ≡ low → h ≡ high → FitsSigned w128 z → FitsSigned w128 low → FitsSigned w128 high →
-    test ≡ is_within (to_z w128 (of_z w128 n)) (to_z w128 (of_z w128 l), to_z w128 (of_z w128 h)) && meets_ranges ranges (to_z w128 (of_z w128 n)) →
-    is_within z (low, high) && meets_ranges ranges z ≡ test
-bounds_alike test n z l low h high ranges en el eh fz fl fh t =
-    let f = λ (a b d : ℤ). is_within a (b, d) && meets_ranges ranges a in
+pub bounds_alike : (test : Bool) (n z l low h high : ℤ) (range : Option (List (ℤ × ℤ))) → n ≡ z → l ≡ low → h ≡ high → FitsSigned w128 z → FitsSigned w128 low → FitsSigned w128 high →
+    test ≡ is_within (to_z w128 (of_z w128 n)) (to_z w128 (of_z w128 l), to_z w128 (of_z w128 h)) && meets_range range (to_z w128 (of_z w128 n)) →
+    is_within z (low, high) && meets_range range z ≡ test
+bounds_alike test n z l low h high range en el eh fz fl fh t =
+    let f = λ (a b d : ℤ). is_within a (b, d) && meets_range range a in
     let pn : to_z w128 (of_z w128 n) ≡ z = ap (λ (a : ℤ). to_z w128 (of_z w128 a)) en ∙ to_z-of_z w128 z fz in
     let pl : to_z w128 (of_z w128 l) ≡ low = ap (λ (a : ℤ). to_z w128 (of_z w128 a)) el ∙ to_z-of_z w128 low fl in
     let ph : to_z w128 (of_z w128 h) ≡ high = ap (λ (a : ℤ). to_z w128 (of_z w128 a)) eh ∙ to_z-of_z w128 high fh in

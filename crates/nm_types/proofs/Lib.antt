@@ -1,5 +1,5 @@
 pub mod Paths
-pub mod Lists
+pub mod Searches
 pub mod Integers
 pub mod Decimals
 pub mod Texts
@@ -12,5 +12,7 @@ pub mod Answers
 pub mod Canonicals
 pub mod BitNames
 pub mod BitTexts
+pub mod Places
+pub mod ChosenBits
 pub mod Written
 pub mod OrderLaws

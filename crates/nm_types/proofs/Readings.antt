@@ -1,5 +1,5 @@
 -- The relation of spelling and the limits, and the functions that decide them.
-use Rattle.std.proofs.Common.{◌≡◌, ℕ, zero, suc, ◌<◌, Bool, true, false, List, [], ◌∷◌, map, length, get_or, Option, Some, None, option_map, ℤ, ap, refl, sym, ◌∙◌, subst, arith, inl, inr}
+use Rattle.std.proofs.Common.{◌≡◌, ℕ, zero, suc, ◌<◌, Bool, true, false, List, [], ◌∷◌, length, get_or, Option, Some, None, option_map, ℤ, ap, refl, sym, ◌∙◌, subst, arith, inl, inr}
 use Rattle.std.specs.Prelude.{◌&&◌, not, ◌==◌, int_le, T, Any, Contains, codes, IfSome}
 use Rattle.std.specs.List.{list_any}
 use Rattle.std.specs.Option.{option_map_or}
@@ -7,15 +7,15 @@ use Rattle.std.specs.Int.Signed.{le_z_yes}
 use Rattle.std.specs.Str.{bytes_eq}
 use Rattle.std.specs.Cmp.Lexicographic.{bytes_decides}
 use Rattle.std.proofs.lemmas.Bool.{cases_Bool, false_from_ne_true, false≢true}
-use Rattle.std.proofs.lemmas.List.Elements.{All-nil, All-cons, All-head, All-tail}
 use Rattle.std.proofs.lemmas.List.Folds.{Any-from_list_any, list_any-from_Any}
 use borrow.Author.Tests.{eqb-true}
 use Rattle.nm_types.specs.declared.value.Value.{Value}
 use Rattle.nm_types.specs.declared.value.Value.TheVariants.{Int, Decimal, Text, Name, Bits, Empty, Bool as Flag}
 use Rattle.nm_types.specs.LeafType.{Kind, integer, decimal, boolean, string, enumeration, bits, empty, TypeOfLeaf}
-use Rattle.nm_types.specs.Limits.{IsWithin, MeetsRanges, IsWithinKind, measured, MeetsLimits, is_within, meets_ranges, is_within_kind, meets_limits, i64_part}
+use Rattle.nm_types.specs.Limits.{IsWithin, MeetsRange, IsWithinKind, measured, MeetsLimits, is_within, meets_range, is_within_kind, meets_limits, i64_part}
 use Rattle.nm_types.specs.Spells.{AreNames, SpellsBits, SpellsValue}
-use Rattle.nm_types.specs.Reading.{integer_of, decimal_of, has_text, words, has_outer_space, are_bits, bits_text, bits_of, spelled}
+use Rattle.nm_types.specs.Names.{has_text}
+use Rattle.nm_types.specs.Reading.{integer_of, decimal_of, words, has_outer_space, are_bits, bits_text, bits_of, spelled}
 use Rattle.nm_types.proofs.Decimals.{and_parts}
 use Rattle.nm_types.proofs.Signs.{integer-sound, integer-complete}
 use Rattle.nm_types.proofs.Spelling.{decimal-sound, decimal-complete}
@@ -54,23 +54,23 @@ are_bits-complete names (w ∷ ws) h =
     let b = false_from_ne_true (has_text ws w) (λ t. h.1 (has_text-sound ws w t)) in
     rw (a, b) (are_bits-complete names ws h.2)
 
-bits-sound : (all : List (List ℕ × ℕ)) (text t : List ℕ) → bits_of all text ≡ Some t → SpellsBits all text t
+bits-sound : (names : List (List ℕ)) (text t : List ℕ) → bits_of names text ≡ Some t → SpellsBits names text t
 unfolding bits_of
-bits-sound all text t e = elim (cases_Bool (not (has_outer_space text) && are_bits (map (λ bit. bit.0) all) (words text))) [
-  | inl y ↦ (let p = and_parts (not (has_outer_space text)) (are_bits (map (λ bit. bit.0) all) (words text)) y in
+bits-sound names text t e = elim (cases_Bool (not (has_outer_space text) && are_bits names (words text))) [
+  | inl y ↦ (let p = and_parts (not (has_outer_space text)) (are_bits names (words text)) y in
       let f = rw y at e in
-      let g : t ≡ bits_text all (words text) = cc in
+      let g : t ≡ bits_text names (words text) = cc in
       record {
         bare = elim (cases_Bool (has_outer_space text)) [ inl s ↦ absurd (false≢true (rw s at p.0)) | inr s ↦ s ];
-        named = are_bits-sound (map (λ bit. bit.0) all) (words text) p.1;
+        named = are_bits-sound names (words text) p.1;
         canonical = g;
       })
   | inr n ↦ (let f = rw n at e in cc)
 ]
 
-bits-complete : (all : List (List ℕ × ℕ)) (text t : List ℕ) → SpellsBits all text t → bits_of all text ≡ Some t
+bits-complete : (names : List (List ℕ)) (text t : List ℕ) → SpellsBits names text t → bits_of names text ≡ Some t
 unfolding bits_of
-bits-complete all text t s = let b = s.bare in let n = are_bits-complete (map (λ bit. bit.0) all) (words text) s.named in rw (b, n) (ap Some (sym s.canonical))
+bits-complete names text t s = let b = s.bare in let n = are_bits-complete names (words text) s.named in rw (b, n) (ap Some (sym s.canonical))
 
 -- what the function finds, the relation relates
 pub spelled-sound : (k : Kind) (text : List ℕ) (v : Value) → spelled k text ≡ Some v → SpellsValue k text v
@@ -129,19 +129,19 @@ within-sound z p e = let q = and_parts (int_le p.0 z) (int_le z p.1) e in (le_z_
 within-complete : (z : ℤ) (p : ℤ × ℤ) → IsWithin z p → is_within z p ≡ true
 within-complete z p h = let a = T-true _ h.0.le in let b = T-true _ h.1.le in rw (a, b) refl
 
-range-sound : (z : ℤ) (parts : List (ℤ × ℤ)) → list_any (is_within z) parts ≡ true → Any (IsWithin z) parts
-range-sound z parts e = let a = Any-from_list_any (is_within z) parts e in (a.0, a.1, a.2, a.3, within-sound z a.1 a.4)
+parts-sound : (z : ℤ) (parts : List (ℤ × ℤ)) → list_any (is_within z) parts ≡ true → Any (IsWithin z) parts
+parts-sound z parts e = let a = Any-from_list_any (is_within z) parts e in (a.0, a.1, a.2, a.3, within-sound z a.1 a.4)
 
-range-complete : (z : ℤ) (parts : List (ℤ × ℤ)) → Any (IsWithin z) parts → list_any (is_within z) parts ≡ true
-range-complete z parts a = list_any-from_Any (is_within z) parts (a.0, a.1, a.2, a.3, within-complete z a.1 a.4)
+parts-complete : (z : ℤ) (parts : List (ℤ × ℤ)) → Any (IsWithin z) parts → list_any (is_within z) parts ≡ true
+parts-complete z parts a = list_any-from_Any (is_within z) parts (a.0, a.1, a.2, a.3, within-complete z a.1 a.4)
 
-ranges-sound : (z : ℤ) (ranges : List (List (ℤ × ℤ))) → meets_ranges ranges z ≡ true → MeetsRanges ranges z
-ranges-sound z [] e = All-nil _
-ranges-sound z (r ∷ rs) e = let p = and_parts (list_any (is_within z) r) (meets_ranges rs z) e in All-cons (λ parts. Any (IsWithin z) parts) r rs (range-sound z r p.0) (ranges-sound z rs p.1)
+range-sound : (z : ℤ) (range : Option (List (ℤ × ℤ))) → meets_range range z ≡ true → MeetsRange range z
+range-sound z None e = tt
+range-sound z (Some parts) e = parts-sound z parts e
 
-ranges-complete : (z : ℤ) (ranges : List (List (ℤ × ℤ))) → MeetsRanges ranges z → meets_ranges ranges z ≡ true
-ranges-complete z [] h = refl
-ranges-complete z (r ∷ rs) h = let a = range-complete z r (All-head (λ parts. Any (IsWithin z) parts) r rs h) in rw a (ranges-complete z rs (All-tail (λ parts. Any (IsWithin z) parts) r rs h))
+range-complete : (z : ℤ) (range : Option (List (ℤ × ℤ))) → MeetsRange range z → meets_range range z ≡ true
+range-complete z None h = refl
+range-complete z (Some parts) h = parts-complete z parts h
 
 kind-sound : (k : Kind) (v : Value) → is_within_kind k v ≡ true → IsWithinKind k v
 kind-sound (integer low high) (Int z) e = within-sound z (low, high) e
@@ -155,16 +155,16 @@ kind-complete _ _ h = refl
 
 pub limits-sound : (t : TypeOfLeaf) (v : Value) → meets_limits t v ≡ true → MeetsLimits t v
 limits-sound t v e =
-    let p = and_parts (is_within_kind t.kind v) (option_map_or (meets_ranges t.limits) (measured v) true) e in
+    let p = and_parts (is_within_kind t.kind v) (option_map_or (meets_range t.limits) (measured v) true) e in
     (kind-sound t.kind v p.0, rest (measured v) p.1)
   where
-    rest : (o : Option ℤ) → option_map_or (meets_ranges t.limits) o true ≡ true → IfSome o (MeetsRanges t.limits)
+    rest : (o : Option ℤ) → option_map_or (meets_range t.limits) o true ≡ true → IfSome o (MeetsRange t.limits)
     rest None e = tt
-    rest (Some z) e = ranges-sound z t.limits e
+    rest (Some z) e = range-sound z t.limits e
 
 pub limits-complete : (t : TypeOfLeaf) (v : Value) → MeetsLimits t v → meets_limits t v ≡ true
 limits-complete t v h = let a = kind-complete t.kind v h.0 in let b = rest (measured v) h.1 in rw (a, b) refl
   where
-    rest : (o : Option ℤ) → IfSome o (MeetsRanges t.limits) → option_map_or (meets_ranges t.limits) o true ≡ true
+    rest : (o : Option ℤ) → IfSome o (MeetsRange t.limits) → option_map_or (meets_range t.limits) o true ≡ true
     rest None e = refl
-    rest (Some z) e = ranges-complete z t.limits e
+    rest (Some z) e = range-complete z t.limits e

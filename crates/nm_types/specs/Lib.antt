@@ -3,6 +3,8 @@ pub mod ValueLaws
 pub mod Path
 pub mod Chosen
 pub mod PathLaws
+pub mod Names
+pub mod Parts
 pub mod LeafType
 pub mod TypeKind
 pub mod Limits

@@ -1,6 +1,6 @@
 -- Ranges and lengths.
-use Rattle.std.specs.Prelude.{ℤ, pos, negsuc, Bool, true, ◌&&◌, List, All, Any, ◌≤ℤ◌, int_le, length, ⊤, Option, Some, None, IfSome}
-use Rattle.std.specs.List.{list_any, list_all}
+use Rattle.std.specs.Prelude.{ℤ, pos, negsuc, Bool, true, ◌&&◌, List, Any, ◌≤ℤ◌, int_le, length, ⊤, Option, Some, None, IfSome}
+use Rattle.std.specs.List.{list_any}
 use Rattle.std.specs.Option.{option_map_or}
 use Rattle.std.specs.Str.{chars}
 use Rattle.nm_types.specs.declared.value.Value.{Value}
@@ -11,9 +11,9 @@ use Rattle.nm_types.specs.LeafType.{Kind, integer, decimal, TypeOfLeaf}
 abbrev pub IsWithin : ℤ → ℤ × ℤ → Type 0
 IsWithin z part = (part.0 ≤ℤ z) × (z ≤ℤ part.1)
 
--- a number meets each range along a derivation; it meets a range by being within one of its parts (RFC 7950 section 9.2.4)
-abbrev pub MeetsRanges : List (List (ℤ × ℤ)) → ℤ → Type 0
-MeetsRanges ranges z = All (λ parts. Any (IsWithin z) parts) ranges
+-- a number meets a range by being within one of its parts; where there is no range each number does (RFC 7950 section 9.2.4)
+abbrev pub MeetsRange : Option (List (ℤ × ℤ)) → ℤ → Type 0
+MeetsRange range z = IfSome range (λ parts. Any (IsWithin z) parts)
 
 -- the numbers that 64 bits hold with a sign
 abbrev pub i64_part : ℤ × ℤ
@@ -36,16 +36,16 @@ measured (Bits t) = None
 measured Empty = None
 measured Present = None
 
--- a value is within the bounds of its kind and meets every range or length of its type
+-- a value is within the bounds of its kind and meets the range or length of its type
 abbrev pub MeetsLimits : TypeOfLeaf → Value → Type 0
-MeetsLimits t v = IsWithinKind t.kind v × IfSome (measured v) (MeetsRanges t.limits)
+MeetsLimits t v = IsWithinKind t.kind v × IfSome (measured v) (MeetsRange t.limits)
 
 -- the same as tests
 abbrev pub is_within : ℤ → ℤ × ℤ → Bool
 is_within z part = int_le part.0 z && int_le z part.1
 
-abbrev pub meets_ranges : List (List (ℤ × ℤ)) → ℤ → Bool
-meets_ranges ranges z = list_all (λ parts. list_any (is_within z) parts) ranges
+abbrev pub meets_range : Option (List (ℤ × ℤ)) → ℤ → Bool
+meets_range range z = option_map_or (λ parts. list_any (is_within z) parts) range true
 
 abbrev pub is_within_kind : Kind → Value → Bool
 is_within_kind (integer low high) (Int z) = is_within z (low, high)
@@ -53,4 +53,4 @@ is_within_kind (decimal digits) (Decimal z d) = is_within z i64_part
 is_within_kind _ _ = true
 
 abbrev pub meets_limits : TypeOfLeaf → Value → Bool
-meets_limits t v = is_within_kind t.kind v && option_map_or (meets_ranges t.limits) (measured v) true
+meets_limits t v = is_within_kind t.kind v && option_map_or (meets_range t.limits) (measured v) true

@@ -1,6 +1,6 @@
 -- What reading a value gives: a function of the text.
-use Rattle.std.specs.Prelude.{◌≡◌, ℕ, ◌-◌, ◌*◌, ◌^◌, ℤ, pos, neg_ℤ, Bool, true, false, not, ◌&&◌, ◌||◌, List, [], ◌∷◌, ◌++◌, map, filter, fold, take, drop, length, codes, nat_lt, ◌==◌, if◌then◌else◌, slice_index, Option, Some, None, option_map, Result, Ok, Err, ⊤}
-use Rattle.std.specs.List.{list_any, list_all, slice_split, position_or_len, before_first, after_first}
+use Rattle.std.specs.Prelude.{◌≡◌, ℕ, ◌-◌, ◌*◌, ◌^◌, ℤ, pos, neg_ℤ, Bool, true, false, not, ◌&&◌, ◌||◌, List, [], ◌∷◌, ◌++◌, filter, fold, take, drop, length, codes, nat_lt, ◌==◌, if◌then◌else◌, slice_index, Option, Some, None, option_map, Result, Ok, Err, ⊤}
+use Rattle.std.specs.List.{list_all, slice_split, position_or_len, before_first, after_first}
 use Rattle.std.specs.Str.{bytes_eq, all_ascii_digits}
 use Rattle.std.specs.Str.Parse.{digits_value, without_leading_sign, starts_with_minus}
 use Rattle.nm_types.specs.declared.value.Value.{Value}
@@ -9,6 +9,7 @@ use Rattle.nm_types.specs.declared.fault.ValueFault.{ValueFault}
 use Rattle.nm_types.specs.declared.fault.ValueFault.TheVariants.{BadText, OutOfRange, NoMemory}
 use Rattle.nm_types.specs.LeafType.{Kind, integer, decimal, boolean, string, enumeration, bits, empty, TypeOfLeaf}
 use Rattle.nm_types.specs.Limits.{meets_limits}
+use Rattle.nm_types.specs.Names.{has_text}
 
 -- one decimal digit or more
 abbrev pub is_numeral : List ℕ → Bool
@@ -49,10 +50,6 @@ magnitude_of digits rest =
 abbrev pub decimal_of : ℕ → List ℕ → Option ℤ
 decimal_of digits text = option_map (with_sign text) (magnitude_of digits (without_leading_sign text))
 
--- whether a text is one of these
-abbrev pub has_text : List (List ℕ) → List ℕ → Bool
-has_text texts text = list_any (λ t. bytes_eq t text) texts
-
 -- the words of a text, which spaces part
 unfoldable pub words : List ℕ → List (List ℕ)
 words text = filter (λ w. not (length w == 0)) (slice_split (λ b. b == 32) text)
@@ -66,27 +63,18 @@ unfoldable pub are_bits : List (List ℕ) → List (List ℕ) → Bool
 are_bits names [] = true
 are_bits names (w ∷ ws) = has_text names w && not (has_text ws w) && are_bits names ws
 
--- a bit among others in order of position, behind those of its position
-unfoldable pub insert_bit : List (List ℕ × ℕ) → List ℕ × ℕ → List (List ℕ × ℕ)
-insert_bit [] b = b ∷ []
-insert_bit (c ∷ cs) b = if nat_lt b.1 c.1 then b ∷ c ∷ cs else c ∷ insert_bit cs b
-
--- the bits in order of position (RFC 7950 section 9.7.4.2)
-unfoldable pub in_order : List (List ℕ × ℕ) → List (List ℕ × ℕ)
-in_order all = fold insert_bit [] all
-
 -- a name behind those before it, parted by one space
 abbrev pub spaced : List ℕ → List ℕ → List ℕ
 spaced [] name = name
 spaced (b ∷ bs) name = (b ∷ bs) ++ 32 ∷ name
 
 -- the names of the bits that are set, in order of position and parted by one space (RFC 7950 section 9.7.3)
-unfoldable pub bits_text : List (List ℕ × ℕ) → List (List ℕ) → List ℕ
-bits_text all ws = fold spaced [] (filter (has_text ws) (map (λ b. b.0) (in_order all)))
+unfoldable pub bits_text : List (List ℕ) → List (List ℕ) → List ℕ
+bits_text names ws = fold spaced [] (filter (has_text ws) names)
 
 -- the canonical text of the bits that a text names
-unfoldable pub bits_of : List (List ℕ × ℕ) → List ℕ → Option (List ℕ)
-bits_of all text = if not (has_outer_space text) && are_bits (map (λ b. b.0) all) (words text) then Some (bits_text all (words text)) else None
+unfoldable pub bits_of : List (List ℕ) → List ℕ → Option (List ℕ)
+bits_of names text = if not (has_outer_space text) && are_bits names (words text) then Some (bits_text names (words text)) else None
 
 -- the value that a text spells
 unfoldable pub spelled : Kind → List ℕ → Option Value
@@ -95,7 +83,7 @@ spelled (decimal digits) text = option_map (λ z. Decimal z digits) (decimal_of 
 spelled boolean text = if bytes_eq text (codes "true") then Some (Flag true) else (if bytes_eq text (codes "false") then Some (Flag false) else None)
 spelled string text = Some (Text text)
 spelled (enumeration names) text = if has_text names text then Some (Name text) else None
-spelled (bits all) text = option_map Bits (bits_of all text)
+spelled (bits names) text = option_map Bits (bits_of names text)
 spelled empty text = if length text == 0 then Some Empty else None
 
 -- the answer to a value that is spelled, and to none

@@ -1,5 +1,5 @@
 -- How values are spelled: a relation between a text and a value of a type (RFC 7950 section 9).
-use Rattle.std.specs.Prelude.{◌≡◌, ℕ, ◌*◌, ◌^◌, ℤ, pos, neg_ℤ, true, false, List, [], ◌∷◌, ◌++◌, map, length, codes, Contains, ⊤}
+use Rattle.std.specs.Prelude.{◌≡◌, ℕ, ◌*◌, ◌^◌, ℤ, pos, neg_ℤ, true, false, List, [], ◌∷◌, ◌++◌, length, codes, Contains, ⊤}
 use Rattle.std.specs.Str.Parse.{IsNumeral, digits_value}
 use Rattle.nm_types.specs.declared.value.Value.{Value}
 use Rattle.nm_types.specs.declared.value.Value.TheVariants.{Int, Decimal, Text, Name, Bits, Empty, Bool as Flag}
@@ -46,14 +46,14 @@ IsOnce (w ∷ ws) = ¬ (Contains ws w) × IsOnce ws
 
 -- a type as RFC 7950 section 9.7.4 wants it: no two bits have one name
 abbrev pub HasDistinctNames : Kind → Type 0
-HasDistinctNames (bits all) = IsOnce (map (λ bit. bit.0) all)
+HasDistinctNames (bits names) = IsOnce names
 HasDistinctNames _ = ⊤
 
 -- bits: names in any order, each once, with runs of spaces between them and none around (RFC 7950 section 9.7.2)
-pub record SpellsBits (all : List (List ℕ × ℕ)) (text : List ℕ) (names : List ℕ) : Type 0 where
+pub record SpellsBits (names : List (List ℕ)) (text set : List ℕ) : Type 0 where
   pub bare : has_outer_space text ≡ false
-  pub named : AreNames (map (λ bit. bit.0) all) (words text)
-  pub canonical : names ≡ bits_text all (words text)
+  pub named : AreNames names (words text)
+  pub canonical : set ≡ bits_text names (words text)
 
 -- a text spells a value of a kind (RFC 7950 section 9)
 abbrev pub SpellsValue : Kind → List ℕ → Value → Type 0
@@ -63,6 +63,6 @@ SpellsValue boolean text (Flag true) = text ≡ codes "true"
 SpellsValue boolean text (Flag false) = text ≡ codes "false"
 SpellsValue string text (Text t) = t ≡ text
 SpellsValue (enumeration names) text (Name t) = (t ≡ text) × Contains names text
-SpellsValue (bits all) text (Bits t) = SpellsBits all text t
+SpellsValue (bits names) text (Bits t) = SpellsBits names text t
 SpellsValue empty text Empty = text ≡ []
 SpellsValue _ _ _ = ⊥

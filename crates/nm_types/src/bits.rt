@@ -1,11 +1,18 @@
-ghost use Rattle.std.specs.Prelude.{◌≡◌, ◌≤◌, ℕ, ℤ, List, map, length, insert, IfOk, OnOk, string_bytes};
+//! Values of bits: the words of a text are found among the names, and written in order of position.
+
+ghost use Rattle.std.specs.Prelude.{◌≡◌, ◌<◌, true, ℕ, ℤ, List, [], All, Option, map, fold, length, get_or, IfOk, OnOk, IfSome, is_some, string_bytes};
+ghost use Rattle.std.specs.Ordering.{nat_cmp};
+ghost use Rattle.std.specs.BTreeSet.{contains, IsOrdered};
 ghost use Rattle.nm_types.specs.LeafType.{bits as bits_kind};
-ghost use Rattle.nm_types.specs.Reading.{has_text, words, has_outer_space, are_bits, insert_bit, in_order, spaced, bits_text, reading, Gives};
+ghost use Rattle.nm_types.specs.Names.{Chooses};
+ghost use Rattle.nm_types.specs.Reading.{words, has_outer_space, are_bits, spaced, reading, Gives};
 
 use crate::fault::ValueFault;
+use crate::names::Names;
 use crate::value::Value;
 use nm_base::{Label, NoMemory};
 use std::alloc::{AllocError, Global};
+use std::collections::BTreeSet;
 
 // The words of a text, which spaces part.
 fn words(alloc: Global, text: &str) -> Result<Vec<&str>, AllocError>
@@ -16,30 +23,27 @@ fn words(alloc: Global, text: &str) -> Result<Vec<&str>, AllocError>
         .collect(alloc)
 }
 
-// Whether a text is one of the words.
-fn has_word(words: &[&str], text: &str) -> bool
-    ensures { result ≡ has_text (map (λ word. word.now) words.now) text.now }
+// The places of words among names, where each word is a name and comes once.
+fn places_of(
+    alloc: Global,
+    names: &Names,
+    words: &[&str],
+) -> Result<Option<BTreeSet<usize>>, NoMemory>
+    ensures bits { IfOk result (λ found. is_some found ≡ are_bits names.now (map (λ word. word.now) words.now)) }
+    ensures places { IfOk result (λ found. IfSome found (λ places. Chooses names.now (map (λ word. word.now) words.now) places)) }
+    ensures ordered { IfOk result (λ found. IfSome found (λ places. IsOrdered nat_cmp places)) }
 {
-    words.iter().any(|word| *word == text)
-}
-
-// Whether a word is the name of a bit.
-fn has_name(bits: &[(Label, u32)], word: &str) -> bool
-    ensures { result ≡ has_text (map (λ bit. bit.0) bits.now) word.now }
-{
-    bits.iter().any(|bit| bit.0.as_str() == word)
-}
-
-// Whether the words are names of bits, each once.
-fn are_bits(bits: &[(Label, u32)], words: &[&str]) -> bool
-    ensures { result ≡ are_bits (map (λ bit. bit.0) bits.now) (map (λ word. word.now) words.now) }
-{
-    for (place, word) in words.iter().enumerate() {
-        if !has_name(bits, word) || has_word(&words[place + 1..], word) {
-            return false;
+    let mut places = BTreeSet::new(alloc);
+    for word in words {
+        let label = Label::new(alloc, word)?;
+        let Some(place) = names.place(&label) else {
+            return Ok(None);
+        };
+        if !places.insert(place)? {
+            return Ok(None);
         }
     }
-    true
+    Ok(Some(places))
 }
 
 // Whether a text begins or ends with a space.
@@ -49,29 +53,6 @@ fn has_outer_space(text: &str) -> bool
 {
     let bytes = text.as_bytes();
     !bytes.is_empty() && (bytes[0] == b' ' || bytes[bytes.len() - 1] == b' ')
-}
-
-// Where a bit of a position goes among sorted bits: behind those of its position.
-fn place_of(sorted: &[(Label, u32)], position: u32) -> usize
-    ensures within { result ≤ length sorted.now }
-    ensures inserted { (name : List ℕ) → insert sorted.now result (name, position) ≡ insert_bit sorted.now (name, position) }
-{
-    sorted
-        .iter()
-        .position(|bit| position < bit.1)
-        .unwrap_or(sorted.len())
-}
-
-// The bits in order of position.
-fn in_order(alloc: Global, bits: &[(Label, u32)]) -> Result<Vec<(Label, u32)>, NoMemory>
-    ensures { IfOk result (λ sorted. sorted.items ≡ in_order bits.now) }
-{
-    let mut sorted = Vec::with_capacity(alloc, bits.len())?;
-    for bit in bits {
-        let place = place_of(&sorted, bit.1);
-        sorted.insert(place, (bit.0.copy()?, bit.1))?;
-    }
-    Ok(sorted)
 }
 
 // Puts a name behind those before it, parted by one space.
@@ -84,34 +65,37 @@ fn push_spaced(text: &mut String, name: &str) -> Result<(), AllocError>
     text.push_str(name)
 }
 
-// The names that are among the words, in order of position and parted by one space.
-fn bits_text(alloc: Global, bits: &[(Label, u32)], words: &[&str]) -> Result<Label, NoMemory>
-    ensures { IfOk result (λ label. label ≡ bits_text bits.now (map (λ word. word.now) words.now)) }
+// The names at some places, parted by one space.
+fn text_at(alloc: Global, names: &[Label], places: &[usize]) -> Result<Label, NoMemory>
+    requires { All (λ place. place < length names.now) places.now }
+    ensures { IfOk result (λ label. label ≡ fold spaced [] (map (λ place. get_or names.now place []) places.now)) }
 {
-    let sorted = in_order(alloc, bits)?;
     let mut text = String::new(alloc);
-    for bit in &sorted {
-        if has_word(words, bit.0.as_str()) {
-            push_spaced(&mut text, bit.0.as_str())?;
-        }
+    for place in places {
+        push_spaced(&mut text, names[*place].as_str())?;
     }
     Label::new(alloc, text.as_str())
 }
 
+// The names at some places in their order, parted by one space.
+fn bits_text(alloc: Global, names: &Names, places: &BTreeSet<usize>) -> Result<Label, NoMemory>
+    requires { (i : ℕ) → contains nat_cmp places.now i ≡ true → i < length names.now }
+    ensures { IfOk result (λ label. label ≡ fold spaced [] (map (λ place. get_or names.now place []) places.now.keys)) }
+{
+    let places: Vec<usize> = places.iter().copied().collect(alloc)?;
+    text_at(alloc, names.as_slice(), &places)
+}
+
 // The value of a bits type that a text spells.
-pub(crate) fn read_bits(
-    alloc: Global,
-    bits: &[(Label, u32)],
-    text: &str,
-) -> Result<Value, ValueFault>
-    ensures { (limits : List (List (ℤ × ℤ))) → Gives result (reading (record { kind = bits_kind bits.now; limits = limits }) text.now) }
+pub(crate) fn read_bits(alloc: Global, names: &Names, text: &str) -> Result<Value, ValueFault>
+    ensures { (limits : Option (List (ℤ × ℤ))) → Gives result (reading (record { kind = bits_kind names.now; limits = limits }) text.now) }
 {
     if has_outer_space(text) {
         return Err(ValueFault::BadText);
     }
     let words = words(alloc, text)?;
-    if !are_bits(bits, &words) {
+    let Some(places) = places_of(alloc, names, &words)? else {
         return Err(ValueFault::BadText);
-    }
-    Ok(Value::Bits(bits_text(alloc, bits, &words)?))
+    };
+    Ok(Value::Bits(bits_text(alloc, names, &places)?))
 }

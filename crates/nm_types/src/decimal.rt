@@ -1,4 +1,4 @@
-ghost use Rattle.std.specs.Prelude.{◌≡◌, ◌≤◌, ◌^◌, ◌*◌, IsTrue, min, map, option_map};
+ghost use Rattle.std.specs.Prelude.{◌≡◌, ◌≤◌, ◌^◌, ◌*◌, IsTrue, min, option_map};
 ghost use Rattle.std.specs.Str.{all_ascii_digits};
 ghost use Rattle.std.specs.Str.Parse.{digits_value_after};
 ghost use Rattle.nm_types.specs.Reading.{with_sign, scaled_of, whole_of, pointed_of, magnitude_of, reading};
@@ -7,6 +7,7 @@ ghost use Rattle.nm_types.specs.LeafType.{decimal};
 use crate::fault::ValueFault;
 use crate::limits::meets_bounds;
 use crate::numeral::{is_numeral, without_sign};
+use crate::parts::Parts;
 use crate::value::Value;
 
 /// Where magnitudes stop growing: above every scaled value.
@@ -100,20 +101,16 @@ fn signed(text: &str, magnitude: u128) -> i128
 // The value of a decimal type that a text spells.
 pub(crate) fn read_decimal(
     digits: u8,
-    ranges: &[Vec<(i128, i128)>],
+    range: &Option<Parts>,
     text: &str,
 ) -> Result<Value, ValueFault>
-    ensures { result ≡ reading (record { kind = decimal digits; limits = map (λ range. range.items) ranges.now }) text.now }
+    ensures { result ≡ reading (record { kind = decimal digits; limits = range.now }) text.now }
 {
     let Some(magnitude) = magnitude(digits, without_sign(text)) else {
         return Err(ValueFault::BadText);
     };
     let scaled = signed(text, magnitude);
-    if !meets_bounds(
-        &(i128::from(i64::MIN), i128::from(i64::MAX)),
-        ranges,
-        scaled,
-    ) {
+    if !meets_bounds(&(i128::from(i64::MIN), i128::from(i64::MAX)), range, scaled) {
         return Err(ValueFault::OutOfRange);
     }
     Ok(Value::Decimal(scaled as i64, digits))

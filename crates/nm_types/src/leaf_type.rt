@@ -1,4 +1,7 @@
-use nm_base::Label;
+//! The types of leafs.
+
+use crate::names::Names;
+use crate::parts::Parts;
 use std::marker::Model;
 
 /// The built-in type of a leaf, with what restricts its spellings (RFC 7950 section 9).
@@ -12,9 +15,9 @@ pub enum TypeKind {
     /// `string`.
     Text,
     /// `enumeration`, by its names.
-    Names(Vec<Label>),
-    /// `bits`, by the names of the bits and their positions.
-    Bits(Vec<(Label, u32)>),
+    Names(Names),
+    /// `bits`, by the names of the bits in order of position.
+    Bits(Names),
     Empty,
 }
 
@@ -22,18 +25,17 @@ pub enum TypeKind {
 #[derive(Drop)]
 pub struct LeafType {
     pub kind: TypeKind,
-    /// The ranges or lengths along the derivation. Each is a list of parts, the lowest and the highest
-    /// number of a part: of integers themselves, of decimals scaled, of texts how many characters.
-    pub limits: Vec<Vec<(i128, i128)>>,
+    /// The range or the length, where there is one: the nearest along the derivation, which is within those
+    /// behind it.
+    pub limits: Option<Parts>,
 }
 
 impl Model for LeafType {
-    ghost use Rattle.std.specs.Prelude.{map};
     ghost use Rattle.nm_types.specs.LeafType.{TypeOfLeaf};
 
     ghost Value = { TypeOfLeaf };
 
     ghost use Rattle.nm_types.specs.TypeKind.{kind_of};
 
-    ghost view = { λ t. record { kind = kind_of t.kind; limits = map (λ range. range.items) t.limits.items } };
+    ghost view = { λ t. record { kind = kind_of t.kind; limits = t.limits } };
 }

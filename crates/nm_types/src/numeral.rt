@@ -2,10 +2,10 @@ ghost use Rattle.std.specs.Prelude.{◌≡◌};
 ghost use Rattle.std.specs.Str.Parse.{without_leading_sign};
 ghost use Rattle.nm_types.specs.Reading.{is_numeral, reading};
 ghost use Rattle.nm_types.specs.LeafType.{integer};
-ghost use Rattle.std.specs.Prelude.{map};
 
 use crate::fault::ValueFault;
 use crate::limits::meets_bounds;
+use crate::parts::Parts;
 use crate::value::Value;
 
 // Whether a text is one decimal digit or more.
@@ -32,10 +32,10 @@ pub(crate) fn without_sign(text: &str) -> &str
 pub(crate) fn read_integer(
     low: i128,
     high: i128,
-    ranges: &[Vec<(i128, i128)>],
+    range: &Option<Parts>,
     text: &str,
 ) -> Result<Value, ValueFault>
-    ensures { result ≡ reading (record { kind = integer low high; limits = map (λ range. range.items) ranges.now }) text.now }
+    ensures { result ≡ reading (record { kind = integer low high; limits = range.now }) text.now }
 {
     if !is_numeral(without_sign(text)) {
         return Err(ValueFault::BadText);
@@ -43,7 +43,7 @@ pub(crate) fn read_integer(
     let Ok(number) = text.parse::<i128>() else {
         return Err(ValueFault::OutOfRange);
     };
-    if !meets_bounds(&(low, high), ranges, number) {
+    if !meets_bounds(&(low, high), range, number) {
         return Err(ValueFault::OutOfRange);
     }
     Ok(Value::Int(number))

@@ -1,4 +1,4 @@
-ghost use Rattle.std.specs.Prelude.{◌≡◌, ℤ, List, map, IfOk, IsErrOf};
+ghost use Rattle.std.specs.Prelude.{◌≡◌, ℤ, List, Option, IfOk, IsErrOf};
 ghost use Rattle.nm_types.specs.LeafType.{boolean, string, enumeration, empty};
 ghost use Rattle.nm_types.specs.Limits.{MeetsLimits};
 ghost use Rattle.nm_types.specs.Spells.{SpellsValue};
@@ -8,8 +8,10 @@ use crate::bits::read_bits;
 use crate::decimal::read_decimal;
 use crate::fault::ValueFault;
 use crate::leaf_type::{LeafType, TypeKind};
-use crate::limits::meets_ranges;
+use crate::limits::meets_range;
+use crate::names::Names;
 use crate::numeral::read_integer;
+use crate::parts::Parts;
 use crate::value::Value;
 use nm_base::Label;
 use std::alloc::Global;
@@ -17,7 +19,7 @@ use std::alloc::Global;
 // The truth value that a text spells.
 #[tactic(auto, unfolding(crate::specs::Reading::spelled))]
 fn read_boolean(text: &str) -> Result<Value, ValueFault>
-    ensures { (limits : List (List (ℤ × ℤ))) → result ≡ reading (record { kind = boolean; limits = limits }) text.now }
+    ensures { (limits : Option (List (ℤ × ℤ))) → result ≡ reading (record { kind = boolean; limits = limits }) text.now }
 {
     if text == "true" {
         Ok(Value::Bool(true))
@@ -28,12 +30,12 @@ fn read_boolean(text: &str) -> Result<Value, ValueFault>
     }
 }
 
-// The text itself, if it meets every length.
+// The text itself, if it meets the length.
 #[tactic(auto, unfolding(crate::specs::Reading::spelled))]
-fn read_text(alloc: Global, lengths: &[Vec<(i128, i128)>], text: &str) -> Result<Value, ValueFault>
-    ensures { Gives result (reading (record { kind = string; limits = map (λ range. range.items) lengths.now }) text.now) }
+fn read_text(alloc: Global, length: &Option<Parts>, text: &str) -> Result<Value, ValueFault>
+    ensures { Gives result (reading (record { kind = string; limits = length.now }) text.now) }
 {
-    if !meets_ranges(lengths, text.chars().count() as i128) {
+    if !meets_range(length, text.chars().count() as i128) {
         return Err(ValueFault::OutOfRange);
     }
     Ok(Value::Text(Label::new(alloc, text)?))
@@ -41,21 +43,20 @@ fn read_text(alloc: Global, lengths: &[Vec<(i128, i128)>], text: &str) -> Result
 
 // The name that a text is.
 #[tactic(auto, unfolding(crate::specs::Reading::spelled))]
-fn read_name(names: &[Label], text: &str) -> Result<Value, ValueFault>
-    ensures { (limits : List (List (ℤ × ℤ))) → Gives result (reading (record { kind = enumeration names.now; limits = limits }) text.now) }
+fn read_name(alloc: Global, names: &Names, text: &str) -> Result<Value, ValueFault>
+    ensures { (limits : Option (List (ℤ × ℤ))) → Gives result (reading (record { kind = enumeration names.now; limits = limits }) text.now) }
 {
-    for name in names {
-        if name.as_str() == text {
-            return Ok(Value::Name(name.copy()?));
-        }
+    match names.place(&Label::new(alloc, text)?) {
+        // The type's own label, so that values of one name share its bytes.
+        Some(place) => Ok(Value::Name(names.as_slice()[place].copy()?)),
+        None => Err(ValueFault::BadText),
     }
-    Err(ValueFault::BadText)
 }
 
 // The value of the empty text.
 #[tactic(auto, unfolding(crate::specs::Reading::spelled))]
 fn read_empty(text: &str) -> Result<Value, ValueFault>
-    ensures { (limits : List (List (ℤ × ℤ))) → result ≡ reading (record { kind = empty; limits = limits }) text.now }
+    ensures { (limits : Option (List (ℤ × ℤ))) → result ≡ reading (record { kind = empty; limits = limits }) text.now }
 {
     if text.is_empty() {
         Ok(Value::Empty)
@@ -73,8 +74,8 @@ fn reading(alloc: Global, leaf_type: &LeafType, text: &str) -> Result<Value, Val
         TypeKind::Decimal { digits } => read_decimal(*digits, &leaf_type.limits, text),
         TypeKind::Boolean => read_boolean(text),
         TypeKind::Text => read_text(alloc, &leaf_type.limits, text),
-        TypeKind::Names(names) => read_name(names, text),
-        TypeKind::Bits(bits) => read_bits(alloc, bits, text),
+        TypeKind::Names(names) => read_name(alloc, names, text),
+        TypeKind::Bits(names) => read_bits(alloc, names, text),
         TypeKind::Empty => read_empty(text),
     }
 }

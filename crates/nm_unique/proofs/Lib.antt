@@ -1,3 +1,4 @@
 pub mod AllThere
+pub mod Down
 pub mod Repeated
 pub mod Apart

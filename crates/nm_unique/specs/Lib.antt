@@ -1,2 +1,3 @@
 pub mod Repeated
 pub mod Marks
+pub mod Ways

@@ -7,5 +7,6 @@
 mod marks;
 mod near;
 mod unique;
+mod ways;
 
 pub use unique::{least_repeated_entry, unique_values};

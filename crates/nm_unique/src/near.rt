@@ -2,18 +2,20 @@
 
 ghost use Rattle.std.specs.Prelude.{◌≡◌, ◌++◌, true, IfOk, IfSome, Some, map as each};
 ghost use Rattle.std.specs.FinMap.{get};
+ghost use Rattle.nm_types.specs.Path.{whole};
+ghost use Rattle.nm_types.specs.Chosen.{choice_of};
 ghost use Rattle.nm_rules.specs.Cases as case_spec;
+ghost use Rattle.nm_rules.specs.Places.{chain};
 ghost use Rattle.nm_rules.specs.Values as spec;
 ghost use Rattle.nm_config.specs.Rows.{Rows};
 ghost use Rattle.nm_validate.specs.Listed.{AreRows};
 
+use crate::ways::Way;
 use nm_base::NoMemory;
 use nm_tree::Schema;
-use nm_types::{Path, Step, Value};
+use nm_types::{Chosen, Path, Step, Value};
 use nm_validate::areas::NodeRow;
-use nm_validate::cases::bare;
-use nm_validate::values::{behind, chain};
-use std::alloc::Global;
+use nm_validate::values::behind;
 
 // How many rows are looked at.
 const NEAR: usize = 64;
@@ -37,54 +39,68 @@ fn first_near<'s, 'r>(rows: &'s [NodeRow<'r>], node: usize) -> Option<&'s NodeRo
     None
 }
 
+// Whether no entry is chosen.
+fn is_whole(chosen: &Chosen) -> bool
+    ensures { result ≡ true → choice_of chosen.now ≡ whole }
+{
+    match chosen {
+        Chosen::Whole => true,
+        Chosen::Keys(_) => false,
+        Chosen::Entry(_) => false,
+    }
+}
+
+// Whether a step is the one to a node that chooses no entry.
+fn is_bare(schema: &Schema, at: usize, step: &Step) -> bool
+    ensures { result ≡ true → step.now ≡ case_spec.bare schema.now.nodes at }
+{
+    let Some(node) = schema.node(at) else {
+        return false;
+    };
+    if !step.name.same(&node.name) {
+        return false;
+    }
+    if !step.module.same(&node.module) {
+        return false;
+    }
+    is_whole(&step.chosen)
+}
+
 // Whether some steps are those to these nodes without predicates.
-fn are_bare(
-    alloc: Global,
-    schema: &Schema,
-    nodes: &[usize],
-    steps: &[Step],
-) -> Result<bool, NoMemory>
-    ensures { IfOk result (λ are. are ≡ true → steps.now ≡ each (case_spec.bare schema.now.nodes) nodes.now) }
+fn are_bare(schema: &Schema, nodes: &[usize], steps: &[Step]) -> bool
+    ensures { result ≡ true → steps.now ≡ each (case_spec.bare schema.now.nodes) nodes.now }
 {
     let [at, more @ ..] = nodes else {
-        return Ok(steps.is_empty());
+        return steps.is_empty();
     };
     let [step, rest @ ..] = steps else {
-        return Ok(false);
+        return false;
     };
-    let next = bare(alloc, schema, *at)?;
-    if !step.same(&next) {
-        return Ok(false);
+    if !is_bare(schema, *at, step) {
+        return false;
     }
-    are_bare(alloc, schema, more, rest)
+    are_bare(schema, more, rest)
 }
 
 // Whether some steps are those of an entry and then those to these nodes without predicates.
-fn leads_on(
-    alloc: Global,
-    schema: &Schema,
-    entry: &[Step],
-    nodes: &[usize],
-    steps: &[Step],
-) -> Result<bool, NoMemory>
-    ensures { IfOk result (λ leads. leads ≡ true → steps.now ≡ entry.now ++ each (case_spec.bare schema.now.nodes) nodes.now) }
+fn leads_on(schema: &Schema, entry: &[Step], nodes: &[usize], steps: &[Step]) -> bool
+    ensures { result ≡ true → steps.now ≡ entry.now ++ each (case_spec.bare schema.now.nodes) nodes.now }
 {
     let [own, more @ ..] = entry else {
-        return are_bare(alloc, schema, nodes, steps);
+        return are_bare(schema, nodes, steps);
     };
     let [step, rest @ ..] = steps else {
-        return Ok(false);
+        return false;
     };
     if !step.same(own) {
-        return Ok(false);
+        return false;
     }
-    leads_on(alloc, schema, more, nodes, rest)
+    leads_on(schema, more, nodes, rest)
 }
 
 // The value of the row whose path goes on from an entry's by steps to these nodes without predicates. It is looked for
 // among the first few of these rows alone.
 fn value_behind(
-    alloc: Global,
     schema: &Schema,
     near: &[NodeRow<'_>],
     entry: &Path,
@@ -97,7 +113,7 @@ fn value_behind(
         return Ok(None);
     };
     let own = row.path;
-    let leads = leads_on(alloc, schema, &entry.steps, nodes, &own.steps)?;
+    let leads = leads_on(schema, &entry.steps, nodes, &own.steps);
     if !leads {
         return Ok(None);
     }
@@ -106,15 +122,14 @@ fn value_behind(
 
 /// The value of the row of a leaf in an entry above it, if it is among the first few of these rows.
 pub fn near_value(
-    alloc: Global,
     schema: &Schema,
     near: &[NodeRow<'_>],
     entry: &Path,
-    at: usize,
+    way: &Way,
 ) -> Result<Option<Value>, NoMemory>
-    ensures { (m : Rows) → AreRows m near.now → IfOk result (λ found. IfSome found (λ value. get m (spec.path_in schema.now entry.now at) ≡ Some value)) }
+    requires { way.now.nodes.items ≡ chain schema.now.nodes (Some way.now.leaf) }
+    ensures { (m : Rows) → AreRows m near.now → IfOk result (λ found. IfSome found (λ value. get m (spec.path_in schema.now entry.now way.now.leaf) ≡ Some value)) }
 {
-    let nodes = chain(alloc, schema, Some(at))?;
-    let below = behind(&nodes, entry.steps.len());
-    value_behind(alloc, schema, near, entry, below, at)
+    let below = behind(&way.nodes, entry.steps.len());
+    value_behind(schema, near, entry, below, way.leaf)
 }

@@ -12,9 +12,12 @@ ghost use Rattle.nm_validate.specs.Listed.{AreRows};
 ghost use Rattle.nm_validate.specs.Least.{least_with};
 ghost use Rattle.nm_unique.specs.Marks as mark;
 ghost use Rattle.nm_unique.specs.Repeated as spec;
+ghost use Rattle.nm_unique.specs.Ways.{AreWays};
+ghost use Rattle.nm_rules.specs.Places.{chain};
 
 use crate::marks::{count_different, mark_of};
 use crate::near::near_value;
+use crate::ways::{Way, ways_to};
 use nm_base::{Label, NoMemory, Numbers};
 use nm_config::{Config, RowMap};
 use nm_tree::Schema;
@@ -32,22 +35,49 @@ fn value_in<M: RowMap>(
     grouped: &Grouped<'_>,
     near: &[NodeRow<'_>],
     entry: &Path,
-    at: usize,
+    way: &Way,
 ) -> Result<Option<Value>, NoMemory>
     requires grouped { group.IsGrouped schema.now (M.rows config.now) grouped.now }
     requires rows { AreRows (M.rows config.now) near.now }
-    ensures { IfOk result (λ value. value ≡ spec.value_in schema.now (M.rows config.now) entry.now at) }
+    requires down { way.now.nodes.items ≡ chain schema.now.nodes (Some way.now.leaf) }
+    ensures { IfOk result (λ value. value ≡ spec.value_in schema.now (M.rows config.now) entry.now way.now.leaf) }
 {
+    let at = way.leaf;
     if schema.is_key(at) {
         let path = path_in(alloc, schema, entry, at)?;
         let list = front(alloc, &path)?;
         return key_in_entry(schema, at, &list);
     }
-    if let Some(value) = near_value(alloc, schema, near, entry, at)? {
+    if let Some(value) = near_value(schema, near, entry, way)? {
         return Ok(Some(value));
     }
     let path = path_in(alloc, schema, entry, at)?;
     row_or_default(alloc, schema, config, grouped, near, &path, at)
+}
+
+// The values of the leafs that these ways lead down to, in an entry, where all have one.
+fn values_along<M: RowMap>(
+    alloc: Global,
+    schema: &Schema,
+    config: &M,
+    grouped: &Grouped<'_>,
+    near: &[NodeRow<'_>],
+    entry: &Path,
+    ways: &[Way],
+) -> Result<Option<Vec<Value>>, NoMemory>
+    requires grouped { group.IsGrouped schema.now (M.rows config.now) grouped.now }
+    requires rows { AreRows (M.rows config.now) near.now }
+    requires down { AreWays schema.now ways.now }
+    ensures { IfOk result (λ found. spec.items_in found ≡ value_spec.unique_values schema.now (M.rows config.now) entry.now (each (λ way. way.leaf) ways.now)) }
+{
+    let mut values = Vec::with_capacity(alloc, ways.len())?;
+    for way in ways {
+        let Some(value) = value_in(alloc, schema, config, grouped, near, entry, way)? else {
+            return Ok(None);
+        };
+        values.push(value)?;
+    }
+    Ok(Some(values))
 }
 
 /// The values of some leafs in an entry, where all have one.
@@ -64,14 +94,9 @@ pub fn unique_values<M: RowMap>(
     requires rows { AreRows (M.rows config.now) near.now }
     ensures { IfOk result (λ found. spec.items_in found ≡ value_spec.unique_values schema.now (M.rows config.now) entry.now leafs.now) }
 {
-    let mut values = Vec::new(alloc);
-    for at in leafs {
-        let Some(value) = value_in(alloc, schema, config, grouped, near, entry, *at)? else {
-            return Ok(None);
-        };
-        values.push(value)?;
-    }
-    Ok(Some(values))
+    let ways = ways_to(alloc, schema, leafs)?;
+    let values = values_along(alloc, schema, config, grouped, near, entry, &ways)?;
+    Ok(values)
 }
 
 // A path for the values of some leafs in an entry, where all have one: entries of one list have the same path exactly where
@@ -164,30 +189,57 @@ fn behind_first<'s, 'r>(rows: &'s [NodeRow<'r>]) -> &'s [NodeRow<'r>]
     rest
 }
 
-// Puts the mark for the values of some leafs in an entry behind others, where all have one.
+// Puts the mark for the values of the leafs that these ways lead down to, in an entry, behind others, where all have one.
 fn put_mark<M: RowMap>(
     alloc: Global,
     schema: &Schema,
     config: &M,
     grouped: &Grouped<'_>,
     near: &[NodeRow<'_>],
-    leafs: &[usize],
+    ways: &[Way],
     entry: &Path,
     marks: &mut Vec<(u128, ())>,
 ) -> Result<(), NoMemory>
     requires grouped { group.IsGrouped schema.now (M.rows config.now) grouped.now }
     requires rows { AreRows (M.rows config.now) near.now }
-    ensures { OnOk result (marks.new.items ≡ marks.old.items ++ mark.mark_by (spec.key_of schema.now (M.rows config.now) leafs.now entry.now)) }
+    requires down { AreWays schema.now ways.now }
+    ensures { OnOk result (marks.new.items ≡ marks.old.items ++ mark.mark_by (spec.key_of schema.now (M.rows config.now) (each (λ way. way.leaf) ways.now) entry.now)) }
 {
-    let Some(values) = unique_values(alloc, schema, config, grouped, near, entry, leafs)? else {
+    let Some(values) = values_along(alloc, schema, config, grouped, near, entry, ways)? else {
         return Ok(());
     };
     marks.push((mark_of(entry, &values), ()))?;
     Ok(())
 }
 
-// The marks for the values of some leafs in the entries of a list.
+// The marks for the values of the leafs that these ways lead down to, in the entries of a list.
 #[tactic(auto, using(nm_validate::proofs::Rows::lent_rows))]
+fn marks_along<M: RowMap>(
+    alloc: Global,
+    schema: &Schema,
+    config: &M,
+    grouped: &Grouped<'_>,
+    list: usize,
+    ways: &[Way],
+    entries: &[&Path],
+) -> Result<Vec<(u128, ())>, NoMemory>
+    requires grouped { group.IsGrouped schema.now (M.rows config.now) grouped.now }
+    requires down { AreWays schema.now ways.now }
+    ensures { IfOk result (λ marks. marks.items ≡ mark.marks_in schema.now (M.rows config.now) (each (λ way. way.leaf) ways.now) (each (λ entry. entry.now) entries.now)) }
+{
+    let mut marks = Vec::with_capacity(alloc, entries.len())?;
+    let mut rest = grouped.rows.as_slice();
+    for entry in entries {
+        let near = from_first(rest, list);
+        put_mark(
+            alloc, schema, config, grouped, near, ways, entry, &mut marks,
+        )?;
+        rest = behind_first(near);
+    }
+    Ok(marks)
+}
+
+// The marks for the values of some leafs in the entries of a list.
 fn marks_of<M: RowMap>(
     alloc: Global,
     schema: &Schema,
@@ -200,15 +252,8 @@ fn marks_of<M: RowMap>(
     requires { group.IsGrouped schema.now (M.rows config.now) grouped.now }
     ensures { IfOk result (λ marks. marks.items ≡ mark.marks_in schema.now (M.rows config.now) leafs.now (each (λ entry. entry.now) entries.now)) }
 {
-    let mut marks = Vec::new(alloc);
-    let mut rest = grouped.rows.as_slice();
-    for entry in entries {
-        let near = from_first(rest, list);
-        put_mark(
-            alloc, schema, config, grouped, near, leafs, entry, &mut marks,
-        )?;
-        rest = behind_first(near);
-    }
+    let ways = ways_to(alloc, schema, leafs)?;
+    let marks = marks_along(alloc, schema, config, grouped, list, &ways, entries)?;
     Ok(marks)
 }
 

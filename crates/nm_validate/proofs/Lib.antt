@@ -6,6 +6,7 @@ pub mod Grouped
 pub mod Outwards
 pub mod Below
 pub mod Missing
+pub mod Numbers
 pub mod Loops
 pub mod Counting
 pub mod Elements

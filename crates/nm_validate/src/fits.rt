@@ -1,43 +1,44 @@
 //! Values and their types.
 
-ghost use Rattle.std.specs.Prelude.{◌≡◌, IfOk, map};
-ghost use Rattle.std.specs.List.{list_any};
+ghost use Rattle.std.specs.Prelude.{◌≡◌, IfOk};
 ghost use Rattle.nm_types.specs.declared.value.Value.TheVariants as kind;
-ghost use Rattle.nm_types.specs.LeafType.{string};
+ghost use Rattle.nm_types.specs.LeafType.{integer, string};
 ghost use Rattle.nm_types.specs.Limits as limit;
 ghost use Rattle.nm_tree.specs.Nodes.{type_at};
 ghost use Rattle.nm_rules.specs.Violated as spec;
 
 use nm_base::NoMemory;
 use nm_tree::Schema;
-use nm_types::{TypeKind, Value, ValueFault, read_value, write_value};
+use nm_types::{Parts, TypeKind, Value, ValueFault, meets_range, read_value, write_value};
 use std::alloc::Global;
 
-// Whether a number is within one of the parts of a range.
-fn meets_range(range: &[(i128, i128)], number: i128) -> bool
-    ensures { result ≡ list_any (limit.is_within number) range.now }
-{
-    range
-        .iter()
-        .any(|part| part.0 <= number && number <= part.1)
-}
-
-// Whether a number meets every range along a derivation.
-fn meets_ranges(ranges: &[Vec<(i128, i128)>], number: i128) -> bool
-    ensures { result ≡ limit.meets_ranges (map (λ range. range.items) ranges.now) number }
-{
-    ranges.iter().all(|range| meets_range(range, number))
-}
-
-// Whether a text is of a string type with these lengths. It makes no text to find out.
+// Whether a text is of a string type with this length. It makes no text to find out.
 #[tactic(auto, unfolding(nm_rules::specs::Violated::is_of_type))]
-fn text_fits(lengths: &[Vec<(i128, i128)>], text: &str) -> bool
-    ensures { result ≡ spec.is_of_type (kind.Text text.now) (record { kind = string; limits = map (λ range. range.items) lengths.now }) }
+fn text_fits(length: &Option<Parts>, text: &str) -> bool
+    ensures { result ≡ spec.is_of_type (kind.Text text.now) (record { kind = string; limits = length.now }) }
 {
-    if !meets_ranges(lengths, text.chars().count() as i128) {
+    if !meets_range(length, text.chars().count() as i128) {
         return false;
     }
     true
+}
+
+// Whether a number is within the bounds of an integer type.
+fn is_between(low: i128, high: i128, number: i128) -> bool
+    ensures { result ≡ limit.is_within number (low, high) }
+{
+    low <= number && number <= high
+}
+
+// Whether a number is of an integer type with these bounds and ranges. It writes no text to find out.
+#[tactic(auto, unfolding(nm_rules::specs::Violated::is_of_type))]
+fn number_fits(low: i128, high: i128, range: &Option<Parts>, number: i128) -> bool
+    ensures { result ≡ spec.is_of_type (kind.Int number) (record { kind = integer low high; limits = range.now }) }
+{
+    if !is_between(low, high, number) {
+        return false;
+    }
+    meets_range(range, number)
 }
 
 /// Whether a node is a leaf or a leaf-list, and a value is of its type: its canonical text is read as that value (RFC 7950 section 9.1).
@@ -50,6 +51,9 @@ pub fn fits_at(alloc: Global, schema: &Schema, at: usize, value: &Value) -> Resu
     };
     if let (TypeKind::Text, Value::Text(text)) = (&leaf_type.kind, value) {
         return Ok(text_fits(&leaf_type.limits, text.as_str()));
+    }
+    if let (TypeKind::Integer { low, high }, Value::Int(number)) = (&leaf_type.kind, value) {
+        return Ok(number_fits(*low, *high, &leaf_type.limits, *number));
     }
     let text = write_value(alloc, leaf_type, value)?;
     match read_value(alloc, leaf_type, text.as_str()) {

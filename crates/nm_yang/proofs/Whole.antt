@@ -55,7 +55,7 @@ module-again text strict k argument place ts name is h =
 front-whole : (limit : ℕ) (text : List ℕ) (p q : Bool) → utf8_valid_len text ≡ length text → length text ≤ limit → ltb (length text) limit ≡ p → ltb limit (length text) ≡ q → take (front_len limit text) text ≡ text
 front-whole limit text true q valid le is at = rw (valid, is) (take_all (length text) text (omega arith))
 front-whole limit text false true valid le is at = absurd (let h = ltb-true limit (length text) at in omega arith)
-front-whole limit text false false valid le is at = rw (valid, is, at) (take_all limit text le)
+front-whole limit text false false valid le is at = rw (valid, is, at, take_all limit text le, valid) (take_all (length text) text (omega arith))
 
 stop-whole : (limit : ℕ) (text : List ℕ) (p : Bool) → utf8_valid_len text ≡ length text → length text ≤ limit → ltb (length text) limit ≡ p → stop_of limit text ≡ None
 stop-whole limit text true valid le is =

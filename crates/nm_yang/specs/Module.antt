@@ -173,11 +173,11 @@ any_says_1_1 (t ∷ ts) = says_1_1 t || any_says_1_1 ts
 abbrev pub most_long : ℕ
 most_long = 262144
 
--- how many bytes are read: those that are UTF-8 and within the limit. A `/` that stands last there may open a
--- comment with the byte beyond the limit, so it isn't read.
+-- how many bytes are read: those that are UTF-8 and within the limit, of whole characters. A `/` that stands last
+-- there may open a comment with the byte beyond the limit, so it isn't read.
 abbrev pub front_len : ℕ → List ℕ → ℕ
 front_len limit text = if nat_lt (utf8_valid_len text) limit then utf8_valid_len text else (
-    if nat_lt limit (length text) && slice_index text (limit - 1) == 47 then limit - 1 else limit)
+    if nat_lt limit (length text) && slice_index text (limit - 1) == 47 then limit - 1 else utf8_valid_len (take limit text))
 
 -- what is wrong where reading is cut off: nothing where the text ends there
 abbrev pub stop_of : ℕ → List ℕ → Option Fault

@@ -127,7 +127,9 @@ fn cut(text: &[u8], limit: usize) -> (&[u8], Option<Fault>)
     if text[limit - 1] == b'/' {
         return (&text[..limit - 1], Some(stop));
     }
-    (&text[..limit], Some(stop))
+    // A character that the limit cuts isn't read.
+    let valid = valid_len(&text[..limit]);
+    (&text[..valid], Some(stop))
 }
 
 fn statement_of(attempt: Attempt) -> Result<Statement, YangFault>

@@ -2,7 +2,9 @@
 
 use nm_base::{Groups, Label, NoMemory, Numbers};
 use nm_tree::{Elements, Node, NodeKind, Reference, Schema, SharedType};
-use nm_types::{LeafType, TypeKind};
+use nm_types::names::is_once;
+use nm_types::parts::is_ascending;
+use nm_types::{LeafType, Names, Parts, TypeKind};
 use std::alloc::Global;
 
 const ANY: Elements = Elements {
@@ -17,12 +19,12 @@ enum Plain {
     Flag,
     Text,
     Names(&'static [&'static str]),
-    Bits(&'static [(&'static str, u32)]),
+    Bits(&'static [&'static str]),
     Empty,
 }
 
-// A type: its kind, and each range or length along its derivation, which has one part or more.
-type Typed = (Plain, &'static [&'static [(i128, i128)]]);
+// A type: its kind, and the parts of its range or length; without one, none.
+type Typed = (Plain, &'static [(i128, i128)]);
 
 const INT8: Typed = (Plain::Whole(-128, 127), &[]);
 
@@ -43,14 +45,14 @@ const UINT32: Typed = (Plain::Whole(0, 4_294_967_295), &[]);
 
 const UINT64: Typed = (Plain::Whole(0, 18_446_744_073_709_551_615), &[]);
 
-const MTU: Typed = (Plain::Whole(0, 65_535), &[&[(68, 9192)]]);
+const MTU: Typed = (Plain::Whole(0, 65_535), &[(68, 9192)]);
 // A range of two parts.
 const PARTS: Typed = (
     Plain::Whole(-2_147_483_648, 2_147_483_647),
-    &[&[(1, 4), (10, 20)]],
+    &[(1, 4), (10, 20)],
 );
-// A range in a derived type of one with a range.
-const NARROW: Typed = (Plain::Whole(-128, 127), &[&[(0, 5)], &[(-10, 10)]]);
+// The nearest range of a derived type, whose base has a wider one.
+const NARROW: Typed = (Plain::Whole(-128, 127), &[(0, 5)]);
 
 const DECIMAL_1: Typed = (Plain::Decimal(1), &[]);
 
@@ -58,19 +60,19 @@ const DECIMAL_2: Typed = (Plain::Decimal(2), &[]);
 
 const DECIMAL_18: Typed = (Plain::Decimal(18), &[]);
 // From 0.5 to 2.5.
-const COST: Typed = (Plain::Decimal(2), &[&[(50, 250)]]);
+const COST: Typed = (Plain::Decimal(2), &[(50, 250)]);
 
 const FLAG: Typed = (Plain::Flag, &[]);
 
 const TEXT: Typed = (Plain::Text, &[]);
 
-const NAME: Typed = (Plain::Text, &[&[(1, 32)]]);
+const NAME: Typed = (Plain::Text, &[(1, 32)]);
 
-const SHORT: Typed = (Plain::Text, &[&[(2, 4)]]);
+const SHORT: Typed = (Plain::Text, &[(2, 4)]);
 
 const MODE: Typed = (Plain::Names(&["up", "down", "is up"]), &[]);
-// The positions aren't in the order of the names.
-const CAPS: Typed = (Plain::Bits(&[("write", 0), ("read", 1), ("exec", 7)]), &[]);
+// The names in order of position, which isn't their own.
+const CAPS: Typed = (Plain::Bits(&["write", "read", "exec"]), &[]);
 
 const EMPTY: Typed = (Plain::Empty, &[]);
 
@@ -198,20 +200,21 @@ static REFERENCES: &[(usize, usize, usize)] = &[
     (81, 74, 1),
 ];
 
-fn names(alloc: Global, texts: &[&str]) -> Result<TypeKind, NoMemory> {
+// Names that are each once; none, where one comes again.
+#[tactic(auto, unfolding(nm_types::specs::Names::is_once))]
+fn once(alloc: Global, names: Vec<Label>) -> Result<Names, NoMemory> {
+    if is_once(&names) {
+        return Names::new(alloc, names);
+    }
+    Names::new(alloc, Vec::new(alloc))
+}
+
+fn names(alloc: Global, texts: &[&str]) -> Result<Names, NoMemory> {
     let mut names = Vec::new(alloc);
     for text in texts {
         names.push(Label::new(alloc, text)?)?;
     }
-    Ok(TypeKind::Names(names))
-}
-
-fn bits(alloc: Global, all: &[(&str, u32)]) -> Result<TypeKind, NoMemory> {
-    let mut bits = Vec::new(alloc);
-    for (name, position) in all {
-        bits.push((Label::new(alloc, name)?, *position))?;
-    }
-    Ok(TypeKind::Bits(bits))
+    once(alloc, names)
 }
 
 fn kind_of(alloc: Global, plain: Plain) -> Result<TypeKind, NoMemory> {
@@ -220,25 +223,26 @@ fn kind_of(alloc: Global, plain: Plain) -> Result<TypeKind, NoMemory> {
         Plain::Decimal(digits) => Ok(TypeKind::Decimal { digits }),
         Plain::Flag => Ok(TypeKind::Boolean),
         Plain::Text => Ok(TypeKind::Text),
-        Plain::Names(all) => names(alloc, all),
-        Plain::Bits(all) => bits(alloc, all),
+        Plain::Names(all) => Ok(TypeKind::Names(names(alloc, all)?)),
+        Plain::Bits(all) => Ok(TypeKind::Bits(names(alloc, all)?)),
         Plain::Empty => Ok(TypeKind::Empty),
     }
 }
 
-fn range(alloc: Global, parts: &[(i128, i128)]) -> Result<Vec<(i128, i128)>, NoMemory> {
-    let mut range = Vec::new(alloc);
-    for part in parts {
-        range.push(*part)?;
+// The parts of a range, where there are some.
+fn range(alloc: Global, parts: &[(i128, i128)]) -> Result<Option<Parts>, NoMemory> {
+    if parts.is_empty() {
+        return Ok(None);
     }
-    Ok(range)
+    let parts = Vec::from_slice(alloc, parts)?;
+    if !is_ascending(&parts) {
+        return Ok(None);
+    }
+    Ok(Some(Parts::new(alloc, parts)?))
 }
 
 fn shared(alloc: Global, typed: Typed) -> Result<SharedType, NoMemory> {
-    let mut limits = Vec::new(alloc);
-    for parts in typed.1 {
-        limits.push(range(alloc, parts)?)?;
-    }
+    let limits = range(alloc, typed.1)?;
     let kind = kind_of(alloc, typed.0)?;
     SharedType::new(alloc, LeafType { kind, limits })
 }

@@ -12,7 +12,7 @@ fn number(alloc: Global) -> Result<NodeKind, NoMemory> {
             low: 0,
             high: 65_535,
         },
-        limits: Vec::new(alloc),
+        limits: None,
     };
     Ok(NodeKind::Leaf {
         leaf_type: SharedType::new(alloc, leaf_type)?,
@@ -26,7 +26,7 @@ fn number(alloc: Global) -> Result<NodeKind, NoMemory> {
 fn text(alloc: Global) -> Result<NodeKind, NoMemory> {
     let leaf_type = LeafType {
         kind: TypeKind::Text,
-        limits: Vec::new(alloc),
+        limits: None,
     };
     Ok(NodeKind::Leaf {
         leaf_type: SharedType::new(alloc, leaf_type)?,

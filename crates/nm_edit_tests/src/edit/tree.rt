@@ -65,13 +65,7 @@ fn type_of(alloc: Global, shape: Shape) -> Result<SharedType, NoMemory> {
         Shape::Empty => TypeKind::Empty,
         _ => TypeKind::Text,
     };
-    SharedType::new(
-        alloc,
-        LeafType {
-            kind,
-            limits: Vec::new(alloc),
-        },
-    )
+    SharedType::new(alloc, LeafType { kind, limits: None })
 }
 
 fn kind_of(alloc: Global, shape: Shape) -> Result<NodeKind, NoMemory> {

@@ -1,5 +1,6 @@
 use Rattle.std.proofs.Common.{ap, ◌∙◌}
 use Rattle.nm_validate.specs.Least.{least_with}
+use Rattle.nm_check.specs.Led.{paths_of}
 use Rattle.nm_check.proofs.Cased.{all_below}
 use Rattle.nm_check.proofs.one_case.least_of_choice.Goals as goal
 
@@ -8,4 +9,4 @@ returns g c =
     let t = c.args.schema.now in
     let rows = g.M.RowMap.rows c.args.config.now in
     c.in_ok-least.ensures
-    ∙ ap (least_with c.args.found) (all_below t rows c.args.choice c.args.nodes.now c.requires c.args.places.now)
+    ∙ ap (least_with c.args.found) (all_below t rows c.args.choice c.args.nodes.now c.requires.nodes (paths_of c.args.places.now))

@@ -1,5 +1,5 @@
-use Rattle.nm_refusals.proofs.KeptWhole.{whole_keeps}
+use Rattle.nm_refusals.proofs.Whole.{bytes_keep}
 use Rattle.nm_refusals.proofs.laws.limits_kept.Goals as goal
 
 pub returns : goal.returns
-returns c = whole_keeps
+returns c = bytes_keep

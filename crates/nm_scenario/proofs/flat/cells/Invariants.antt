@@ -1,9 +1,10 @@
 use Rattle.std.proofs.Common.{◌≡◌}
 use Rattle.std.specs.FinMap.{empty}
 use Rattle.serde_json.specs.View.{members_view}
-use Rattle.nm_scenario.specs.Flat.{cells_after}
+use Rattle.nm_scenario_parts.specs.Reading.{natural_of}
+use Rattle.nm_scenario.specs.Flat.{entries_read}
 use Rattle.nm_scenario.proofs.flat.cells.Given as goal
 
 -- what is left goes on from the cells found
 abbrev pub invariant-loop-name : goal.invariant-loop-name
-invariant-loop-name l = cells_after l.found (members_view l.name-iterator) ≡ cells_after empty (members_view l.fn.members.entries)
+invariant-loop-name l = entries_read natural_of l.found (members_view l.name-iterator) ≡ entries_read natural_of empty (members_view l.fn.members.entries)

@@ -1,9 +1,9 @@
 use Rattle.std.proofs.Common.{◌≡◌}
 use Rattle.std.specs.FinMap.{empty}
 use Rattle.serde_json.specs.View.{members_view}
-use Rattle.nm_scenario.specs.Flat.{changes_read}
+use Rattle.nm_scenario.specs.Flat.{change_of, entries_read}
 use Rattle.nm_scenario.proofs.flat.changes.Given as goal
 
 -- what is left goes on from the changes found
 abbrev pub invariant-loop-name : goal.invariant-loop-name
-invariant-loop-name l = changes_read l.found (members_view l.name-iterator) ≡ changes_read empty (members_view l.fn.members.entries)
+invariant-loop-name l = entries_read change_of l.found (members_view l.name-iterator) ≡ entries_read change_of empty (members_view l.fn.members.entries)

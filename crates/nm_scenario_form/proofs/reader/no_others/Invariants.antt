@@ -8,4 +8,4 @@ abbrev pub invariant-loop-name : goal.invariant-loop-name
 invariant-loop-name g l =
     (goal.iterator-loop-name g).can_next l.name-iterator ×
     (goal.iterator-loop-name g).is_finite l.name-iterator ×
-    (names_read (g.N.Names.knows l.names) (members_view l.name-iterator) ≡ names_read (g.N.Names.knows l.fn.names) (members_view l.fn.members.entries))
+    (names_read (g.N.KnownNames.knows l.names) (members_view l.name-iterator) ≡ names_read (g.N.KnownNames.knows l.fn.names) (members_view l.fn.members.entries))

@@ -1,4 +1,4 @@
-use Rattle.std.proofs.Common.{Err, Ok, fold, [], ap, sym, ◌∙◌, ℕ, List}
+use Rattle.std.proofs.Common.{Err, Ok, fold, [], ap, sym, ◌∙◌, ℕ, List, Bor, option_map}
 use Rattle.std.proofs.lemmas.List.{take_all}
 use Rattle.nm_schema_derive.specs.declared.members.ListFault.TheVariants.{Flawed}
 use Rattle.nm_schema_derive.specs.declared.members.Member.{Member}
@@ -8,11 +8,13 @@ use Rattle.nm_schema_derive.proofs.assign.members_of.Goals as goal
 
 pub returns-in-Err : goal.returns-in-Err
 returns-in-Err c =
-    first_flaw c.args.numbering.now c.args.base.now c.args.statements.now c.loop-listed.listed-index c.listed-item.result c.loop-listed.taken c.in-Err.flaw c.loop-listed-test.true c.listed-item.is c.loop-listed.invariant c.in-Err.ensures
+    let base = option_map (λ (members : Bor (List Member)). members.now) c.args.base in
+    first_flaw c.args.numbering.now base c.args.statements.now c.loop-listed.listed-index c.listed-item.result c.loop-listed.taken c.in-Err.flaw c.loop-listed-test.true c.listed-item.is c.loop-listed.invariant c.in-Err.ensures
     ∙ ap (λ (n : ℕ). Err (Flawed n c.in-Err.flaw)) (sym c.len.ensures)
 
 pub returns : goal.returns
 unfolding members_of
 returns c =
-    sym (ap (fold (with_statement c.args.numbering.now c.args.base.now) (Ok [])) (take_all c.loop-listed.listed-index c.args.statements.now c.loop-listed-test.false))
-    ∙ c.loop-listed.invariant ∙ ap (λ (m : List Member). Ok m) (sym c.members.ensures)
+    let base = option_map (λ (members : Bor (List Member)). members.now) c.args.base in
+    sym (ap (fold (with_statement c.args.numbering.now base) (Ok [])) (take_all c.loop-listed.listed-index c.args.statements.now c.loop-listed-test.false))
+    ∙ c.loop-listed.invariant

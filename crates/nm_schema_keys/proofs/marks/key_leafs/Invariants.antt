@@ -1,5 +1,5 @@
 use Rattle.std.proofs.Common.{◌≡◌, length}
-use Rattle.nm_schema_keys.specs.Standing.{Standing, IsStanding}
+use Rattle.nm_schema_keys.specs.ConfigUse.{ConfigUse, IsConfigUse}
 use Rattle.nm_schema_keys.proofs.Marking.{AreMarked}
 use Rattle.nm_schema_keys.proofs.marks.key_leafs.Given as goal
 
@@ -7,5 +7,5 @@ use Rattle.nm_schema_keys.proofs.marks.key_leafs.Given as goal
 abbrev pub invariant-loop-list : goal.invariant-loop-list
 invariant-loop-list l = record {
   size : length l.marks.items ≡ length l.names;
-  marked : (standing : Standing) → IsStanding l.shape.rows l.shape.groupings standing → AreMarked l.shape.rows l.shape.groupings standing l.list l.marks.items;
+  marked : (standing : ConfigUse) → IsConfigUse l.shape.rows l.shape.groupings standing → AreMarked l.shape.rows l.shape.groupings standing l.list l.marks.items;
 }

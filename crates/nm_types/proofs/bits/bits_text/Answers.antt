@@ -1,11 +1,9 @@
-use Rattle.std.proofs.Common.{◌≡◌, List, ℕ, fold, map, filter, [], ap, ◌∙◌, subst, IfOk}
-use Rattle.std.proofs.lemmas.List.{take_all}
-use Rattle.nm_types.specs.Reading.{bits_text, has_text, spaced}
+use Rattle.std.proofs.Common.{rules, ◌≡◌, ◌<◌, ℕ, List, All, length, get_or, sym, subst}
 use Rattle.nm_types.proofs.bits.bits_text.Goals as goal
 
-pub returns : goal.returns
-unfolding bits_text
-returns c =
-    let all = take_all c.loop-bit.bit-index c.deref-bit-items.result.now c.loop-bit-test.false ∙ c.loop-bit.invariant.sorted in
-    let text = c.as_str-2.ensures.value ∙ c.loop-bit.invariant.text ∙ ap (λ (l : List (List ℕ × ℕ)). fold spaced [] (filter (has_text (map (λ word. word.now) c.args.words.now)) (map (λ bit. bit.0) l))) all in
-    subst (λ (t : List ℕ). IfOk c.new.result (λ label. label ≡ t)) text c.new.ensures
+pub text_at-requires : goal.text_at-requires
+text_at-requires c =
+    let keys : c.deref.result.now ≡ c.args.places.now.keys = search rules in
+    let names : c.as_slice.result.now ≡ c.args.names.now = c.as_slice.ensures.value in
+    let within : All (λ place. place < length c.args.names.now) c.args.places.now.keys = λ k d l. c.requires (get_or c.args.places.now.keys k d) (c.iter.ensures.found k d l) in
+    subst (λ (l : List (List ℕ)). All (λ place. place < length l) c.deref.result.now) (sym names) (subst (λ (l : List ℕ). All (λ place. place < length c.args.names.now) l) (sym keys) within)

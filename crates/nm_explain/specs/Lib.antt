@@ -1,0 +1,6 @@
+pub mod Lines
+pub mod Sentence
+pub mod Wanted
+pub mod Module
+pub mod Explained
+pub mod Program

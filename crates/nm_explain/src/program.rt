@@ -1,0 +1,144 @@
+//! The program: its words, its input and its output.
+
+ghost use Rattle.std.specs.Prelude.{◌≡◌, [], false, IfOk, IsErrOf, IsTrue};
+ghost use Rattle.nm_base.specs.Count.{Rose};
+ghost use Rattle.nm_explain.specs.Explained.{Tells};
+ghost use Rattle.nm_explain.specs.Program as spec;
+
+use crate::module::put;
+use crate::telling::{Explained, explain_bytes, explain_long_input};
+use nm_base::NoMemory;
+use nm_io::{ReadAllFault, Sink, Source, read_all, write_all};
+use nm_scenario::BYTE_LIMIT;
+use std::alloc::Global;
+
+/// How the program ended. Its number is the exit status.
+#[derive(Clone, Copy, Debug, PartialEq, Eq)]
+pub enum Status {
+    /// Nothing is wrong with the scenario.
+    Fine,
+    /// There were words, and the program takes none.
+    Usage,
+    /// The input is no scenario, and what is wrong with it was written.
+    Scenario,
+    /// The input failed. Nothing was written.
+    ReadFault,
+    /// The output failed.
+    WriteFault,
+    /// Memory ran out. Nothing was written.
+    NoMemory,
+}
+
+impl Status {
+    ghost use Rattle.nm_explain.specs.Program.{status_code};
+
+    /// The exit status: those of `netm`.
+    pub fn code(self) -> u8
+        ensures { result ≡ status_code self }
+    {
+        match self {
+            Status::Fine => 0,
+            Status::Usage => 2,
+            Status::Scenario => 3,
+            Status::ReadFault => 4,
+            Status::WriteFault => 5,
+            Status::NoMemory => 8,
+        }
+    }
+}
+
+/// The usage line.
+const USAGE: &str = "usage: netm_explain < scenario\n";
+
+/// Why there is nothing to say.
+#[derive(Clone, Copy, Debug, PartialEq, Eq)]
+enum Stop {
+    ReadFault,
+    NoMemory,
+}
+
+/// The program: reads a scenario to its end, and writes what is wrong with it at once.
+///
+/// `words` are those after the program's name; there may be none. Nothing is written to the output before the text is whole in
+/// memory, so that only a failed write leaves a part of it.
+pub fn explain<S: Source, K: Sink>(
+    alloc: Global,
+    words: &[String],
+    input: &mut S,
+    output: &mut K,
+) -> Status
+    // The text for the words and the input was written, and nothing else.
+    ensures answered { IsTrue (spec.is_whole result) → spec.Answers (spec.texts_of words.now) (S.left input.old) (K.taken output.old) (K.taken output.new) result }
+
+    // The input failed: nothing was written.
+    ensures read_fault { result ≡ Status.ReadFault → Rose (S.faults input.old) (S.faults input.new) × (K.taken output.new ≡ K.taken output.old) }
+
+    // The output failed: a front of the text was written.
+    ensures write_fault { result ≡ Status.WriteFault
+        → Rose (K.faults output.old) (K.faults output.new) × spec.CutOff (spec.texts_of words.now) (S.left input.old) (K.taken output.old) (K.taken output.new) }
+
+    // Memory ran out: nothing was written.
+    ensures no_memory { result ≡ Status.NoMemory → K.taken output.new ≡ K.taken output.old }
+
+    // The input stays where there are words.
+    ensures unread { spec.takes (spec.texts_of words.now) ≡ false → input.new ≡ input.old }
+{
+    let said = match say(alloc, words, input) {
+        Ok(said) => said,
+        Err(Stop::ReadFault) => return Status::ReadFault,
+        Err(Stop::NoMemory) => return Status::NoMemory,
+    };
+    match write_all(output, said.text.as_slice()) {
+        Ok(()) => said.status,
+        Err(_) => Status::WriteFault,
+    }
+}
+
+impl From<NoMemory> for Stop {
+    ghost use Rattle.nm_explain.specs.declared.program.Stop.TheVariants.{NoMemory as no_memory};
+
+    ghost from_gives = { λ _ stop. stop ≡ no_memory };
+
+    fn from(_error: NoMemory) -> Stop {
+        Stop::NoMemory
+    }
+}
+
+// What is to be said.
+fn say<S: Source>(alloc: Global, words: &[String], input: &mut S) -> Result<Explained, Stop>
+    ensures says { IfOk result (λ said. spec.Says (spec.texts_of words.now) (S.left input.old) said.status said.text.items) }
+    ensures whole { IfOk result (λ said. IsTrue (spec.is_whole said.status)) }
+    ensures read_fault { IsErrOf result Stop.ReadFault → Rose (S.faults input.old) (S.faults input.new) }
+    ensures unread { spec.takes (spec.texts_of words.now) ≡ false → input.new ≡ input.old }
+{
+    match words {
+        [] => say_input(alloc, input),
+        _ => Ok(say_usage(alloc)?),
+    }
+}
+
+fn say_usage(alloc: Global) -> Result<Explained, NoMemory>
+    ensures { IfOk result (λ said. Tells spec.usage_told said.status said.text.items) }
+{
+    let mut text = Vec::new(alloc);
+    put(&mut text, USAGE)?;
+    Ok(Explained {
+        status: Status::Usage,
+        text,
+    })
+}
+
+// Reads the scenario to its end, and explains it.
+#[tactic(auto, using(crate::proofs::Saying::bytes_say, crate::proofs::Saying::too_long_says))]
+fn say_input<S: Source>(alloc: Global, input: &mut S) -> Result<Explained, Stop>
+    ensures says { IfOk result (λ said. spec.Says [] (S.left input.old) said.status said.text.items) }
+    ensures whole { IfOk result (λ said. IsTrue (spec.is_whole said.status)) }
+    ensures read_fault { IsErrOf result Stop.ReadFault → Rose (S.faults input.old) (S.faults input.new) }
+{
+    match read_all(alloc, input, BYTE_LIMIT) {
+        Ok(bytes) => Ok(explain_bytes(alloc, bytes.as_slice())?),
+        Err(ReadAllFault::TooLong) => Ok(explain_long_input(alloc)?),
+        Err(ReadAllFault::ReadFault) => Err(Stop::ReadFault),
+        Err(ReadAllFault::NoMemory) => Err(Stop::NoMemory),
+    }
+}

@@ -1,7 +1,0 @@
-use Rattle.std.proofs.Common.{◌≡◌, drop}
-use Rattle.nm_schema_derive.specs.Cover.{is_ascending}
-use Rattle.nm_schema_derive.proofs.cover.is_ascending.Given as goal
-
--- the parts so far ascend
-abbrev pub invariant-loop-place : goal.invariant-loop-place
-invariant-loop-place l = is_ascending (drop l.place l.parts) ≡ is_ascending l.parts

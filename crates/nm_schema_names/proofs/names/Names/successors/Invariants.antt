@@ -1,6 +1,0 @@
-use Rattle.nm_schema_names.proofs.Graphs.{IsBegun}
-use Rattle.nm_schema_names.proofs.names.Names.successors.Given as goal
-
--- the graph has the rows before this one
-abbrev pub invariant-loop-at : goal.invariant-loop-at
-invariant-loop-at l = IsBegun l.self l.at l.graph.items

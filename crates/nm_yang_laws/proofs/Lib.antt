@@ -1,0 +1,16 @@
+pub mod Tails
+pub mod Goods
+pub mod Blanked
+pub mod Worded
+pub mod Quoted
+pub mod Deeper
+pub mod Stated
+pub mod Limits
+pub mod Caused
+pub mod Alike
+pub mod Begun
+pub mod Arguments
+pub mod Modules
+pub mod Fronts
+pub mod Same
+pub mod Characters
