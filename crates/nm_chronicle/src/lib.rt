@@ -12,8 +12,6 @@ pub mod line;
 pub mod mark;
 mod reserve;
 pub mod shares;
-#[cfg(test)]
-mod tests;
 
 pub use board::Board;
 pub use chronicle::Chronicle;

@@ -1,12 +1,13 @@
 -- What is said without the bytes of the input, and what is said where there were too many.
-use Rattle.std.proofs.Common.{◌≡◌, ◌⊎◌, inl, ℕ, ◌<◌, ◌+◌, List, [], length, true, Option, Some, None, Result, Ok, Err, IfSome, unwrap_or, replicate, refl, sym, ◌∙◌, subst, arith}
+use Rattle.std.proofs.Common.{◌≡◌, ◌⊎◌, inl, inr, ℕ, ◌<◌, ◌+◌, List, [], length, true, Option, Some, None, Ok, Err, IfSome, unwrap_or, replicate, refl, sym, ◌∙◌, subst, arith}
 use Rattle.std.proofs.lemmas.List.{length-replicate}
+use Rattle.std.specs.Io.KnownBytes.{IsAtEnd}
+use Rattle.nm_io.specs.Bytes.{ReadsUpTo}
 use Rattle.nm_proto.specs.declared.kind.ScenarioKind.TheVariants.{TooLong}
-use Rattle.nm_scenario_parts.specs.declared.fault.Fault.{Fault}
 use Rattle.nm_scenario.specs.declared.scenario.Body.{Body}
 use Rattle.nm_scenario.specs.declared.scenario.Body.TheVariants.{Flat, Yang}
 use Rattle.nm_scenario.specs.declared.scenario.Scenario.{Scenario}
-use Rattle.nm_scenario.specs.Scenario.{ReadsBytes, byte_limit}
+use Rattle.nm_scenario.specs.Scenario.{byte_limit}
 use Rattle.nm_scenario.proofs.Whole.{one_of_bytes, long_reads}
 use Rattle.nm_refusals.specs.Kept.{ScenarioKeeps}
 use Rattle.nm_refusals.proofs.Whole.{bytes_keep}
@@ -17,7 +18,7 @@ use Rattle.nm_console.specs.Refusal.{of_whole}
 use Rattle.nm_journal.specs.Entries.{entries_of}
 use Rattle.nm_journal.specs.Fits.{OfImage}
 use Rattle.nm_console.specs.Words.{reads_input}
-use Rattle.nm_console.specs.Console.{Answer, AsSaid, HasOneAnswer, IsAstrayOf, RunsSafely, RunsSafelyBy, Says, Streams, Tells, TellsJournal, TellsOver, checked, faulted, journalled, replayed, usage_told}
+use Rattle.nm_console.specs.Console.{Answer, AsSaid, EachRunIsSafe, HasOneAnswer, IsAstrayOf, RunsSafelyBy, Says, Streams, Tells, TellsJournal, TellsOver, checked, faulted, journalled, replayed, usage_told}
 use Rattle.nm_console.proofs.Given.{flat_safe, yang_safe}
 
 held : (left : Option (List ℕ)) (other : List ℕ) → IfSome left (λ told. told ≡ unwrap_or left other)
@@ -29,9 +30,9 @@ safe_by : (s : Scenario) (body : Body) → s.body ≡ body → ScenarioKeeps s �
 safe_by s (Flat devices edits) is keeps = flat_safe s devices edits is keeps
 safe_by s (Yang modules tree devices edits) is keeps = yang_safe s modules tree devices edits is keeps
 
-safe_of : (bytes : List ℕ) (outcome : Result Scenario Fault) → ReadsBytes bytes outcome → RunsSafely outcome
-safe_of bytes (Err fault) reads = tt
-safe_of bytes (Ok s) reads = safe_by s s.body refl (bytes_keep bytes s reads)
+pub each_safe : EachRunIsSafe
+each_safe bytes (Err fault) reads = tt
+each_safe bytes (Ok s) reads = safe_by s s.body refl (bytes_keep bytes s reads)
 
 tells_one : (given : Answer) (status other : Status) (text words : List ℕ) → Tells given status text → Tells given other words → (other ≡ status) × (words ≡ text)
 tells_one given status other text words a b = (sym b.status_is ∙ a.status_is, sym b.text_is ∙ a.text_is)
@@ -48,7 +49,7 @@ one_answer (Some Replay) bytes image stored after others later status other text
 one_answer (Some Journal) bytes image stored after others later status other text words a b =
     tells_one (journalled (entries_of image)) status other text words a.tells b.tells
 
--- what the program says to bytes is safe
+-- what the program says to bytes
 says : (streams : Streams) (command : Option Command) (bytes image : List ℕ) (status : Status) (text : List ℕ)
     → IfSome streams.left (λ told. told ≡ bytes) → IfSome streams.stored (λ told. told ≡ image)
     → AsSaid command bytes image streams.stored streams.after status text ⊎ IsAstrayOf command bytes streams.stored status text → Says streams command status text
@@ -58,7 +59,6 @@ says streams command bytes image status text h k goes = record {
   image = image;
   kept = k;
   goes = goes;
-  safe = safe_of bytes;
 }
 
 -- an answer to the bytes of the input, over a journal
@@ -111,4 +111,11 @@ too_long_says left stored command status text reads h tells =
     says (record { left = left; stored = stored; after = stored }) (Some command) bytes image status text (held left more) (held stored [])
     (inl (long_said command bytes image stored status text reads long tells))
 
-pub ruleset saying = (usage_says, too_long_says, journal_says)
+-- an input that was read to its end, and one of which too many bytes were read
+pub at_end : (before after : Option (List ℕ)) → IsAtEnd after → ReadsUpTo byte_limit before after
+at_end before after h = inl h
+
+pub past_limit : (before after : Option (List ℕ)) → IfSome before (λ told. byte_limit < length told) → ReadsUpTo byte_limit before after
+past_limit before after h = inr h
+
+pub ruleset saying = (usage_says, too_long_says, journal_says, at_end, past_limit)

@@ -326,6 +326,10 @@ abbrev pub RunsSafely : Result Scenario Fault → Type 0
 RunsSafely (Err fault) = Unit {0}
 RunsSafely (Ok s) = RunsSafelyBy s.body s
 
+-- so is what any bytes are read as
+abbrev pub EachRunIsSafe : Type 0
+EachRunIsSafe = (bytes : List ℕ) (outcome : Result Scenario Fault) → ReadsBytes bytes outcome → RunsSafely outcome
+
 -- what the input held, and what the journal's disk told before the program and tells after it
 pub record Streams : Type 0 where
   pub left : Option (List ℕ)
@@ -340,7 +344,6 @@ pub record Says (streams : Streams) (command : Option Command) (status : Status)
   pub image : List ℕ
   pub kept : IfSome streams.stored (λ told. told ≡ image)
   pub goes : AsSaid command bytes image streams.stored streams.after status text ⊎ IsAstrayOf command bytes streams.stored status text
-  pub safe : (outcome : Result Scenario Fault) → ReadsBytes bytes outcome → RunsSafely outcome
 
 -- the whole answer to some bytes was written, and nothing else
 pub record Answers (streams : Streams) (command : Option Command) (before after : Option (List ℕ)) (status : Status) : Type 0 where

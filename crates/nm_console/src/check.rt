@@ -9,18 +9,24 @@ use crate::said::{Said, say_fault};
 use crate::status::Status;
 use nm_base::{Label, NoMemory};
 use nm_proto::FlatContent;
-use nm_refusals::read_scenario;
+use nm_refusals::read_last_scenario;
 use nm_report::write_check;
 use nm_scenario::{Body, ReadError, Scenario};
 use std::alloc::Global;
+use std::mem::forget;
 
 /// The answer of `check` to the bytes of a scenario.
 pub fn check_bytes(alloc: Global, bytes: &[u8]) -> Result<Said, NoMemory>
     ensures told { IfOk result (λ said. IsSoOf bytes.now (λ outcome. Tells (checked outcome) said.status said.text.items)) }
     ensures whole { IfOk result (λ said. IsTrue (is_whole said.status)) }
 {
-    match read_scenario(alloc, bytes) {
-        Ok(scenario) => say_holding(alloc, &scenario),
+    match read_last_scenario(alloc, bytes) {
+        Ok(scenario) => {
+            let said = say_holding(alloc, &scenario);
+            // Nothing but the writing of the answer follows in this process: the memory of all rows is the end's to give back.
+            forget(scenario);
+            said
+        }
         Err(ReadError::Bad(fault)) => say_fault(alloc, &fault),
         Err(ReadError::NoMemory) => Err(NoMemory),
     }

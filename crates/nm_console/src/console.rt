@@ -1,10 +1,12 @@
-ghost use Rattle.std.specs.Prelude.{◌≡◌, List, [], ℕ, Option, IfOk, IsErrOf, Some, IsSome, IsTrue, true, false};
+ghost use Rattle.std.specs.Prelude.{◌≡◌, List, [], ℕ, Option, IfOk, IsErrOf, IsOk, Some, IsSome, IsTrue, true, false};
 ghost use Rattle.nm_base.specs.Count.{Rose};
+ghost use Rattle.nm_io.specs.Bytes.{ReadsUpTo};
+ghost use Rattle.nm_scenario.specs.Scenario.{byte_limit};
 ghost use Rattle.nm_disk.specs.Image.{AnyMoment, LeavesOnly};
 ghost use Rattle.nm_disk.specs.Keeps.{KeepsDisk};
 ghost use Rattle.nm_console.specs.Words.{command_of, is_replay, reads_input, uses_journal, texts_of};
 ghost use Rattle.nm_console.specs.Status.{is_whole};
-ghost use Rattle.nm_console.specs.Console.{Answers, CutOff, LeavesSoFarBy, LeavesSoFarOf, Says, Tells, TellsOver, usage_told};
+ghost use Rattle.nm_console.specs.Console.{Answers, CutOff, EachRunIsSafe, LeavesSoFarBy, LeavesSoFarOf, Says, Tells, TellsOver, usage_told};
 
 use crate::check::check_bytes;
 use crate::command::{Command, command_of};
@@ -33,6 +35,7 @@ enum Stop {
 /// The words are those after the program's name, and `journal` is the disk at the path that they name, if they do.
 /// A run appends each entry to its journal before anything rests on it. Nothing is written to the output before the answer is
 /// whole in memory, so that only a failed write leaves a part of it.
+#[tactic(auto, using(crate::proofs::Saying::each_safe))]
 pub fn console<S: Source, K: Sink, D: Disk>(
     alloc: Global,
     words: &[String],
@@ -43,6 +46,12 @@ pub fn console<S: Source, K: Sink, D: Disk>(
     // The answer to the words, the input and the journal was written, and nothing else.
     ensures answered { IsTrue (is_whole result)
         → Answers (record { left = S.left input.old; stored = D.told journal.old; after = D.told journal.new }) (command_of (texts_of words.now)) (K.taken output.old) (K.taken output.new) result }
+
+    // What is run for it is safe: the law `runs_are_safe`.
+    ensures safe { EachRunIsSafe }
+
+    // The input was read to its end, or past the greatest length of a scenario.
+    ensures read_out { IsTrue (is_whole result) → reads_input (command_of (texts_of words.now)) ≡ true → ReadsUpTo byte_limit (S.left input.old) (S.left input.new) }
 
     // The input failed: nothing was written.
     ensures read_fault { result ≡ Status.ReadFault
@@ -91,6 +100,7 @@ fn say<S: Source, D: Disk>(
 ) -> Result<Said, Stop>
     ensures says { IfOk result (λ said. Says (record { left = S.left input.old; stored = D.told journal.old; after = D.told journal.new }) command said.status said.text.items) }
     ensures whole { IfOk result (λ said. IsTrue (is_whole said.status)) }
+    ensures read_out { IsOk result → reads_input command ≡ true → ReadsUpTo byte_limit (S.left input.old) (S.left input.new) }
     ensures read_fault { IsErrOf result Stop.ReadFault
         → IsTrue (reads_input command) × Rose (S.faults input.old) (S.faults input.new) }
     ensures disk_fault { IsErrOf result Stop.DiskFault
@@ -138,6 +148,7 @@ fn say_input<S: Source, D: Disk>(
     requires reads { reads_input (Some command) ≡ true }
     ensures says { IfOk result (λ said. Says (record { left = S.left input.old; stored = D.told journal.old; after = D.told journal.new }) (Some command) said.status said.text.items) }
     ensures whole { IfOk result (λ said. IsTrue (is_whole said.status)) }
+    ensures read_out { IsOk result → ReadsUpTo byte_limit (S.left input.old) (S.left input.new) }
     ensures read_fault { IsErrOf result Stop.ReadFault → Rose (S.faults input.old) (S.faults input.new) }
     ensures disk_fault { IsErrOf result Stop.DiskFault → IsTrue (uses_journal (Some command)) × Rose (D.faults journal.old) (D.faults journal.new) }
     ensures journal_stays { is_replay (Some command) ≡ false → D.told journal.new ≡ D.told journal.old }

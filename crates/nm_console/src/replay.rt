@@ -27,10 +27,11 @@ use nm_manager::TurnFault;
 use nm_network::World;
 use nm_overlay::Overlay;
 use nm_proto::{ChangePlan, Event, FlatContent, Listed, Show, Tables};
-use nm_refusals::read_scenario;
+use nm_refusals::read_last_scenario;
 use nm_report::write_world;
 use nm_scenario::{Body, ReadError, Scenario};
 use std::alloc::Global;
+use std::mem::forget;
 
 /// The answer of `replay` to the bytes of a scenario, over a journal that is to be empty.
 pub fn replay_bytes<D: Disk>(alloc: Global, bytes: &[u8], disk: &mut D) -> Result<Said, JournalStop>
@@ -40,7 +41,7 @@ pub fn replay_bytes<D: Disk>(alloc: Global, bytes: &[u8], disk: &mut D) -> Resul
     // A crash at any moment leaves the entries so far.
     ensures any_moment { IsSome (D.told disk.old) → LeavesOnly [] (D.may_leave disk.old) → AnyMoment D.moment D.might_have_left disk.old disk.new (LeavesSoFarBy bytes.now) }
 {
-    match read_scenario(alloc, bytes) {
+    match read_last_scenario(alloc, bytes) {
         Ok(scenario) => say_scenario(alloc, scenario, disk),
         Err(ReadError::Bad(fault)) => match say_fault(alloc, &fault) {
             Ok(said) => Ok(said),
@@ -206,7 +207,7 @@ fn say_run<C: Show + Drop, D: Disk>(
         (IsBetween world.state.entries (led_to (C.Content.meaning world.content) world.setting events.now drain world.state).entries) }
 {
     match lead(world, events, drain, disk) {
-        Ok(last) => Ok(say_world(alloc, trace, &last)?),
+        Ok(last) => Ok(say_last(alloc, trace, last)?),
         Err(TurnFault::DiskFault) => Err(JournalStop::DiskFault),
         Err(TurnFault::Damaged { offset }) => say_damaged(alloc, offset),
         Err(TurnFault::NoMemory) => Err(JournalStop::NoMemory),
@@ -240,6 +241,16 @@ fn lead<C: Show + Drop, D: Disk>(
 {
     let last = world.run(disk, events)?;
     if drain { last.drain(disk) } else { Ok(last) }
+}
+
+// The text and the status of a world after which nothing but the writing of the answer follows in this process: its memory is the
+// end's to give back.
+fn say_last<C: Show + Drop>(alloc: Global, trace: bool, last: World<C>) -> Result<Said, NoMemory>
+    ensures { IfOk result (λ said. Tells (world_told (C.shown last.content) trace last.setting last.state) said.status said.text.items) }
+{
+    let said = say_world(alloc, trace, &last);
+    forget(last);
+    said
 }
 
 // The text and the status of a world.

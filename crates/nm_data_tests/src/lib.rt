@@ -9,3 +9,5 @@ mod config;
 mod json;
 #[cfg(test)]
 mod overlay;
+#[cfg(test)]
+mod plain;

@@ -1,13 +1,11 @@
-use nm_base::{Label, NoMemory};
+use crate::plain::{Plain, number, number_after, number_at, path};
+use nm_base::NoMemory;
 use nm_config::{Config, RowMap};
 use nm_overlay::{Overlay, differs, gone_under};
-use nm_types::{Chosen, Path, Step, Value};
+use nm_types::Value;
 use std::alloc::Global;
 use std::sync::Arc;
 use std::test::Fail;
-
-// A step: a name, and the text of a key where it chooses an entry.
-type Plain<'a> = (&'a str, &'a str);
 
 // A row of the base for each of these, numbered from 1 and in path order.
 const ROWS: &[&[Plain<'static>]] = &[
@@ -19,27 +17,6 @@ const ROWS: &[&[Plain<'static>]] = &[
     &[("lists", "")],
 ];
 
-fn chosen(alloc: Global, key: &str) -> Result<Chosen, NoMemory> {
-    if key.is_empty() {
-        return Ok(Chosen::Whole);
-    }
-    let mut keys = Vec::new(alloc);
-    keys.push(Value::Text(Label::new(alloc, key)?))?;
-    Ok(Chosen::Keys(keys))
-}
-
-fn path(alloc: Global, plain: &[Plain]) -> Result<Path, NoMemory> {
-    let mut steps = Vec::new(alloc);
-    for (name, key) in plain {
-        steps.push(Step {
-            module: Label::new(alloc, "m")?,
-            name: Label::new(alloc, name)?,
-            chosen: chosen(alloc, key)?,
-        })?;
-    }
-    Ok(Path { steps })
-}
-
 fn filled(alloc: Global) -> Result<Config, NoMemory> {
     let mut config = Config::new(alloc);
     let mut number = 0i128;
@@ -48,13 +25,6 @@ fn filled(alloc: Global) -> Result<Config, NoMemory> {
         let _ = config.put(path(alloc, row)?, Value::Int(number))?;
     }
     Ok(config)
-}
-
-fn number(value: &Value) -> i128 {
-    match value {
-        Value::Int(number) => *number,
-        _ => 0,
-    }
 }
 
 // An edit: a node, and the number that its row gets; 0 takes away what is at or below it.
@@ -150,7 +120,8 @@ fn cases() -> &'static [Case<'static>] {
 fn pairs(rt: HostRuntime) -> Result<(), Fail> {
     for (edits, pairs, _) in cases() {
         let overlay = edited(rt.alloc(), edits)?;
-        assert_eq!(rt; told(rt.alloc(), &overlay)?.as_slice(), *pairs);
+        let told = told(rt.alloc(), &overlay)?;
+        assert_eq!(rt; told.as_slice(), *pairs);
     }
     Ok(())
 }
@@ -159,25 +130,38 @@ fn pairs(rt: HostRuntime) -> Result<(), Fail> {
 fn rows(rt: HostRuntime) -> Result<(), Fail> {
     for (edits, _, rows) in cases() {
         let overlay = edited(rt.alloc(), edits)?;
-        assert_eq!(rt; listed(rt.alloc(), &overlay)?.as_slice(), *rows);
+        let listed = listed(rt.alloc(), &overlay)?;
+        assert_eq!(rt; listed.as_slice(), *rows);
     }
     Ok(())
+}
+
+// The numbers of the rows of an overlay that is made flat.
+fn listed_flat(alloc: Global, edits: &[Edit]) -> Result<Vec<i128>, NoMemory> {
+    let flat = edited(alloc, edits)?.flat()?;
+    listed(alloc, &flat)
 }
 
 #[test]
 fn flat(rt: HostRuntime) -> Result<(), Fail> {
     for (edits, _, rows) in cases() {
-        let flat = edited(rt.alloc(), edits)?.flat()?;
-        assert_eq!(rt; listed(rt.alloc(), &flat)?.as_slice(), *rows);
+        let listed = listed_flat(rt.alloc(), edits)?;
+        assert_eq!(rt; listed.as_slice(), *rows);
     }
     Ok(())
+}
+
+// What the pairs of a copy say.
+fn told_of_copy(alloc: Global, edits: &[Edit]) -> Result<Vec<i128>, NoMemory> {
+    let copied = edited(alloc, edits)?.copy()?;
+    told(alloc, &copied)
 }
 
 #[test]
 fn copied(rt: HostRuntime) -> Result<(), Fail> {
     for (edits, pairs, _) in cases() {
-        let copied = edited(rt.alloc(), edits)?.copy()?;
-        assert_eq!(rt; told(rt.alloc(), &copied)?.as_slice(), *pairs);
+        let told = told_of_copy(rt.alloc(), edits)?;
+        assert_eq!(rt; told.as_slice(), *pairs);
     }
     Ok(())
 }
@@ -218,18 +202,6 @@ fn places() -> &'static [Place<'static>] {
     PLACES
 }
 
-fn number_at<M: RowMap>(rows: &M, path: &Path) -> i128 {
-    rows.value(path).map_or(0, number)
-}
-
-// The number of the first row after a path, and of the first of all.
-fn number_after<M: RowMap>(rows: &M, path: Option<&Path>) -> i128 {
-    match rows.next_after(path) {
-        Some(next) => number_at(rows, next),
-        None => 0,
-    }
-}
-
 #[test]
 fn values(rt: HostRuntime) -> Result<(), Fail> {
     let overlay = mixed(rt.alloc())?;
@@ -253,11 +225,11 @@ fn below(rt: HostRuntime) -> Result<(), Fail> {
 #[test]
 fn next(rt: HostRuntime) -> Result<(), Fail> {
     let overlay = mixed(rt.alloc())?;
+    assert_eq!(rt; number_after(&overlay, None), 1);
     for (plain, _, _, expected) in places() {
         let node = path(rt.alloc(), plain)?;
         assert_eq!(rt; number_after(&overlay, Some(&node)), *expected);
     }
-    assert_eq!(rt; number_after(&overlay, None), 1);
     Ok(())
 }
 
@@ -267,16 +239,22 @@ fn shared(rt: HostRuntime) -> Result<(), Fail> {
     let base = Arc::new(rt.alloc(), filled(rt.alloc())?)?;
     let overlay = Overlay::new(rt.alloc(), base);
     assert_eq!(rt; overlay.row_count(), 6);
-    assert_eq!(rt; mixed(rt.alloc())?.row_count(), 5);
+    let mixed = mixed(rt.alloc())?;
+    assert_eq!(rt; mixed.row_count(), 5);
     Ok(())
+}
+
+// How many rows are gone at or below the list, where one of three was taken before.
+fn gone_count(alloc: Global, overlay: &Overlay) -> Result<usize, NoMemory> {
+    let list = path(alloc, &[("list", "")])?;
+    Ok(gone_under(alloc, overlay, &list)?.len())
 }
 
 #[test]
 fn gone(rt: HostRuntime) -> Result<(), Fail> {
     let overlay = edited(rt.alloc(), &[(&[("list", "1"), ("x", "")], 0)])?;
-    let list = path(rt.alloc(), &[("list", "")])?;
-    let gone = gone_under(rt.alloc(), &overlay, &list)?;
-    assert_eq!(rt; gone.len(), 2);
+    let count = gone_count(rt.alloc(), &overlay)?;
+    assert_eq!(rt; count, 2);
     Ok(())
 }
 

@@ -9,8 +9,6 @@ pub mod disk;
 pub mod file;
 mod lent;
 pub mod memory;
-#[cfg(test)]
-mod tests;
 
 pub use any::AnyDisk;
 pub use disk::Disk;

@@ -1,6 +1,8 @@
 -- What is said to the bytes of an input, and what is said where there were too many.
-use Rattle.std.proofs.Common.{◌≡◌, ℕ, ◌<◌, ◌≤◌, ◌+◌, List, [], ◌∷◌, length, Option, Some, None, Result, Ok, Err, IfOk, IfSome, unwrap_or, replicate, refl, sym, ap, ◌∙◌, subst, arith}
+use Rattle.std.proofs.Common.{◌≡◌, ◌⊎◌, inl, inr, ℕ, ◌<◌, ◌≤◌, ◌+◌, List, [], ◌∷◌, length, Option, Some, None, Result, Ok, Err, IfOk, IfSome, unwrap_or, replicate, refl, sym, ap, ◌∙◌, subst, arith}
 use Rattle.std.proofs.lemmas.List.{length-replicate}
+use Rattle.std.specs.Io.KnownBytes.{IsAtEnd}
+use Rattle.nm_io.specs.Bytes.{ReadsUpTo}
 use Rattle.nm_scenario_parts.specs.declared.fault.Fault.{Fault}
 use Rattle.nm_scenario.specs.declared.scenario.Scenario.{Scenario}
 use Rattle.nm_base.specs.declared.fault.NoMemory.{NoMemory}
@@ -43,6 +45,13 @@ pub too_long_says : (left : Option (List ℕ)) (status : Status) (text : List �
 too_long_says left status text h tells =
     let bytes = unwrap_or left more in
     record { bytes = bytes; held = held left more; tells = record { outcome = Err too_long; reads = long_reads bytes (above left h); tells = tells } }
+
+-- an input that was read to its end, and one of which too many bytes were there
+pub at_end : (before after : Option (List ℕ)) → IsAtEnd after → ReadsUpTo byte_limit before after
+at_end before after h = inl h
+
+pub past_limit : (before after : Option (List ℕ)) → IfSome before (λ told. byte_limit < length told) → ReadsUpTo byte_limit before after
+past_limit before after h = inr h
 
 -- ---- what is told of bytes that were read
 

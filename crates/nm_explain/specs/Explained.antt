@@ -1,5 +1,6 @@
 -- What is told of the bytes of a scenario: that nothing is wrong, or the first fault with all that its readers told (this project's own).
-use Rattle.std.specs.Prelude.{◌≡◌, ℕ, List, [], ◌++◌, Option, Some, None, option_and_then, Result, Ok, Err, codes}
+use Rattle.std.specs.Prelude.{◌≡◌, ℕ, List, [], ◌++◌, Bool, Option, Some, None, option_and_then, Result, Ok, Err, codes}
+use Rattle.serde_json.specs.Data.{Data}
 use Rattle.serde_json.specs.Find.{as_str}
 use Rattle.nm_scenario_parts.specs.declared.fault.Step.{Step}
 use Rattle.nm_scenario_parts.specs.declared.fault.Inner.{Inner}
@@ -14,7 +15,8 @@ use Rattle.nm_scenario.specs.declared.scenario.Scenario.{Scenario}
 use Rattle.nm_scenario.specs.Scenario.{ReadsBytes, json_of}
 use Rattle.nm_explain.specs.declared.program.Status.{Status}
 use Rattle.nm_explain.specs.declared.program.Status.TheVariants.{Fine, Scenario as Faulty}
-use Rattle.nm_explain.specs.Sentence.{of_data}
+use Rattle.nm_explain.specs.Sentence.{of_data, asks_form}
+use Rattle.nm_explain.specs.Tree.{tree_in, wanted_by}
 use Rattle.nm_explain.specs.Module.{module_text}
 use Rattle.nm_explain.specs.Wanted.{of_kind, at_place}
 
@@ -33,10 +35,27 @@ abbrev pub byte_told : Option (List ℕ) → ℕ → Inner → List ℕ
 byte_told None byte inner = []
 byte_told (Some text) byte inner = module_text text byte inner
 
+abbrev pub at_told : List ℕ → List ℕ → List ℕ
+at_told path word = codes "at " ++ path ++ codes ": " ++ of_data word ++ codes "\n"
+
+-- a line with what the modules of a scenario's JSON value want at a path
+abbrev pub type_in : Bool → List ℕ → Option Data → List ℕ
+type_in form path None = []
+type_in form path (Some whole) = wanted_by form path (tree_in whole)
+
+-- the same of bytes, where it is asked for
+abbrev pub type_told : List ℕ → List ℕ → Option Bool → List ℕ
+type_told bytes path None = []
+type_told bytes path (Some form) = type_in form path (json_of bytes)
+
+-- what is wrong at a path, and where a value is, which values the modules want there
+abbrev pub path_told : List ℕ → List ℕ → List ℕ → List ℕ
+path_told bytes path word = at_told path word ++ type_told bytes path (asks_form word)
+
 -- what a lower reader told: at a byte of the module's text, or at a path
 abbrev pub inner_told : List ℕ → List Step → Inner → InnerPlace → List ℕ
 inner_told bytes place inner (Byte byte) = byte_told (text_at bytes place) byte inner
-inner_told bytes place inner (Path path) = codes "at " ++ path ++ codes ": " ++ of_data inner.what ++ codes "\n"
+inner_told bytes place inner (Path path) = path_told bytes path inner.what
 
 -- what the kind means, and what may stand at the place
 abbrev pub wanted_told : Fault → List ℕ

@@ -1,5 +1,5 @@
 -- What the words of lower readers mean (this project's own).
-use Rattle.std.specs.Prelude.{ℕ, List, codes, if◌then◌else◌}
+use Rattle.std.specs.Prelude.{ℕ, List, Bool, true, false, Option, Some, None, codes, if◌then◌else◌}
 use Rattle.std.specs.Str.{bytes_eq}
 
 -- of a statement of a module (RFC 7950)
@@ -49,3 +49,10 @@ of_data word =
     if bytes_eq word (codes "bad-value") then codes "the type of the node has no such value" else (
     if bytes_eq word (codes "missing-key") then codes "a list entry without one of its keys" else (
     if bytes_eq word (codes "repeated") then codes "it stands there twice" else of_tag word))))
+
+-- whether a word is about a value that stands there, and if so whether its form may be what is wrong. An edit's word for both is one
+unfoldable pub asks_form : List ℕ → Option Bool
+asks_form word =
+    if bytes_eq word (codes "bad-value") then Some false else (
+    if bytes_eq word (codes "bad-form") then Some true else (
+    if bytes_eq word (codes "invalid-value") then Some true else None))

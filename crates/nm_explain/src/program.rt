@@ -1,7 +1,9 @@
 //! The program: its words, its input and its output.
 
-ghost use Rattle.std.specs.Prelude.{◌≡◌, [], false, IfOk, IsErrOf, IsTrue};
+ghost use Rattle.std.specs.Prelude.{◌≡◌, [], false, IfOk, IsErrOf, IsOk, IsTrue};
 ghost use Rattle.nm_base.specs.Count.{Rose};
+ghost use Rattle.nm_io.specs.Bytes.{ReadsUpTo};
+ghost use Rattle.nm_scenario.specs.Scenario.{byte_limit};
 ghost use Rattle.nm_explain.specs.Explained.{Tells};
 ghost use Rattle.nm_explain.specs.Program as spec;
 
@@ -70,6 +72,9 @@ pub fn explain<S: Source, K: Sink>(
     // The text for the words and the input was written, and nothing else.
     ensures answered { IsTrue (spec.is_whole result) → spec.Answers (spec.texts_of words.now) (S.left input.old) (K.taken output.old) (K.taken output.new) result }
 
+    // The input was read to its end, or past the greatest length of a scenario.
+    ensures read_out { IsTrue (spec.is_whole result) → IsTrue (spec.takes (spec.texts_of words.now)) → ReadsUpTo byte_limit (S.left input.old) (S.left input.new) }
+
     // The input failed: nothing was written.
     ensures read_fault { result ≡ Status.ReadFault → Rose (S.faults input.old) (S.faults input.new) × (K.taken output.new ≡ K.taken output.old) }
 
@@ -108,6 +113,7 @@ impl From<NoMemory> for Stop {
 fn say<S: Source>(alloc: Global, words: &[String], input: &mut S) -> Result<Explained, Stop>
     ensures says { IfOk result (λ said. spec.Says (spec.texts_of words.now) (S.left input.old) said.status said.text.items) }
     ensures whole { IfOk result (λ said. IsTrue (spec.is_whole said.status)) }
+    ensures read_out { IsOk result → IsTrue (spec.takes (spec.texts_of words.now)) → ReadsUpTo byte_limit (S.left input.old) (S.left input.new) }
     ensures read_fault { IsErrOf result Stop.ReadFault → Rose (S.faults input.old) (S.faults input.new) }
     ensures unread { spec.takes (spec.texts_of words.now) ≡ false → input.new ≡ input.old }
 {
@@ -129,10 +135,11 @@ fn say_usage(alloc: Global) -> Result<Explained, NoMemory>
 }
 
 // Reads the scenario to its end, and explains it.
-#[tactic(auto, using(crate::proofs::Saying::bytes_say, crate::proofs::Saying::too_long_says))]
+#[tactic(auto, using(crate::proofs::Saying::bytes_say, crate::proofs::Saying::too_long_says, crate::proofs::Saying::at_end, crate::proofs::Saying::past_limit))]
 fn say_input<S: Source>(alloc: Global, input: &mut S) -> Result<Explained, Stop>
     ensures says { IfOk result (λ said. spec.Says [] (S.left input.old) said.status said.text.items) }
     ensures whole { IfOk result (λ said. IsTrue (spec.is_whole said.status)) }
+    ensures read_out { IsOk result → ReadsUpTo byte_limit (S.left input.old) (S.left input.new) }
     ensures read_fault { IsErrOf result Stop.ReadFault → Rose (S.faults input.old) (S.faults input.new) }
 {
     match read_all(alloc, input, BYTE_LIMIT) {

@@ -79,3 +79,16 @@ fn of_tag(word: &str) -> &str
         _ => word,
     }
 }
+
+/// Whether a reader's word is about a value that stands there, and if so whether its form may be what is wrong.
+#[tactic(auto, unfolding(crate::specs::Sentence::asks_form))]
+pub(crate) fn asks_form(word: &str) -> Option<bool>
+    ensures { result ≡ spec.asks_form word.now }
+{
+    match word {
+        "bad-value" => Some(false),
+        "bad-form" => Some(true),
+        "invalid-value" => Some(true),
+        _ => None,
+    }
+}

@@ -9,7 +9,8 @@ ghost use Rattle.nm_explain.specs.Program.{is_whole};
 use crate::module::{put, put_module};
 use crate::place::part_at;
 use crate::program::Status;
-use crate::sentence::of_data;
+use crate::sentence::{asks_form, of_data};
+use crate::tree::put_wanted_in;
 use crate::wanted::{at_place, of_kind};
 use nm_base::NoMemory;
 use nm_proto::Listed;
@@ -115,14 +116,53 @@ fn put_inner(
 {
     match &inner.place {
         InnerPlace::Byte(byte) => put_byte(alloc, out, bytes, fault, *byte, inner),
-        InnerPlace::Path(path) => {
-            put(out, "at ")?;
-            put(out, path.as_str())?;
-            put(out, ": ")?;
-            put(out, of_data(inner.what.as_str()))?;
-            put(out, "\n")
-        }
+        InnerPlace::Path(path) => put_path(alloc, out, bytes, path.as_str(), inner.what.as_str()),
     }
+}
+
+// What is wrong at a path.
+fn put_at(out: &mut Vec<u8>, path: &str, word: &str) -> Result<(), NoMemory>
+    ensures { OnOk result (out.new.items ≡ out.old.items ++ spec.at_told path.now word.now) }
+{
+    put(out, "at ")?;
+    put(out, path)?;
+    put(out, ": ")?;
+    put(out, of_data(word))?;
+    put(out, "\n")
+}
+
+// What is wrong at a path, and which values are wanted there.
+fn put_path(
+    alloc: Global,
+    out: &mut Vec<u8>,
+    bytes: &[u8],
+    path: &str,
+    word: &str,
+) -> Result<(), NoMemory>
+    ensures { OnOk result (out.new.items ≡ out.old.items ++ spec.path_told bytes.now path.now word.now) }
+{
+    put_at(out, path, word)?;
+    match asks_form(word) {
+        Some(with_form) => put_type(alloc, out, bytes, with_form, path),
+        None => Ok(()),
+    }
+}
+
+// Which values the modules want at a path.
+fn put_type(
+    alloc: Global,
+    out: &mut Vec<u8>,
+    bytes: &[u8],
+    with_form: bool,
+    path: &str,
+) -> Result<(), NoMemory>
+    ensures { OnOk result (out.new.items ≡ out.old.items ++ spec.type_in with_form path.now (json_of bytes.now)) }
+{
+    let whole = match parsed(alloc, bytes)? {
+        Some(whole) => whole,
+        None => return Ok(()),
+    };
+    put_wanted_in(alloc, out, with_form, &whole, path)
 }
 
 // What is wrong at a byte of the text at the place.

@@ -8,13 +8,13 @@ const OPEN: &str =
 static CONFIGURATIONS: &str = r#"
 {"a:nope":1} => scenario content /devices/0/running|at /a:nope: the modules have no such node|
 {"n":1} => scenario content /devices/0/running|at /n: the modules have no such node|
-{"a:n":"5"} => scenario content /devices/0/running|at /a:n: a JSON value of another kind than the node wants|
-{"a:n":11} => scenario content /devices/0/running|at /a:n: the type of the node has no such value|
-{"a:c":1} => scenario content /devices/0/running|at /a:c: a JSON value of another kind than the node wants|
+{"a:n":"5"} => scenario content /devices/0/running|at /a:n: a JSON value of another kind than the node wants|wanted: uint8, from 1 to 10; as a JSON number|
+{"a:n":11} => scenario content /devices/0/running|at /a:n: the type of the node has no such value|wanted: uint8, from 1 to 10|
+{"a:c":1} => scenario content /devices/0/running|at /a:c: a JSON value of another kind than the node wants|wanted: a container, as a JSON object|
 {"a:c":{"m":"x","q":1}} => scenario content /devices/0/running|at /a:c/q: the modules have no such node|
-{"a:l":{}} => scenario content /devices/0/running|at /a:l: a JSON value of another kind than the node wants|
+{"a:l":{}} => scenario content /devices/0/running|at /a:l: a JSON value of another kind than the node wants|wanted: a list, as a JSON array of objects|
 {"a:l":[{"v":true}]} => scenario content /devices/0/running|at /a:l: a list entry without one of its keys|
-{"a:l":[{"k":"x","v":"true"}]} => scenario content /devices/0/running|at /a:l[k='x']/v: a JSON value of another kind than the node wants|
+{"a:l":[{"k":"x","v":"true"}]} => scenario content /devices/0/running|at /a:l[k='x']/v: a JSON value of another kind than the node wants|wanted: boolean; as true or false|
 {"a:s":["x","x"]} => scenario content /devices/0/running|at /a:s[.='x']: it stands there twice|
 "#;
 

@@ -10,4 +10,6 @@ mod modules;
 #[cfg(test)]
 mod run;
 #[cfg(test)]
+mod types;
+#[cfg(test)]
 mod whole;

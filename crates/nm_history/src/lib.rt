@@ -8,8 +8,6 @@ pub mod event;
 pub mod laws;
 pub mod outcome;
 pub mod recorded;
-#[cfg(test)]
-mod tests;
 
 pub use event::{DeviceEvent, Noted};
 pub use outcome::{Outcome, Undoing, outcome_of};

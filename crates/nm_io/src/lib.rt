@@ -11,8 +11,6 @@ pub mod sink;
 pub mod source;
 pub mod standard;
 pub mod sure;
-#[cfg(test)]
-mod tests;
 pub mod writing;
 
 pub use memory::{MemorySink, MemorySource};

@@ -11,8 +11,6 @@ pub mod laws;
 pub mod reading;
 mod record;
 mod steps;
-#[cfg(test)]
-mod tests;
 
 pub use fault::JournalFault;
 pub use follow::{decides, ends, may_follow, starts};

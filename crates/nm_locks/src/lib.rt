@@ -5,7 +5,5 @@
 #![tactic(auto)]
 
 pub mod locks;
-#[cfg(test)]
-mod tests;
 
 pub use locks::GlobalLocks;

@@ -1,9 +1,9 @@
 ghost use Rattle.std.specs.Prelude.{◌+◌, ◌≤◌};
 
-use nm_base::{ChangeNo, DeviceMask, Label};
+use nm_base::{ChangeNo, DeviceMask, DeviceNo, Label, Tag};
 use nm_disk::{Disk, FileDisk, MemoryDisk};
-use nm_journal::{Journal, JournalFault, ends, read_disk, read_entries};
-use nm_proto::{Entry, Verdict};
+use nm_journal::{Journal, JournalFault, ends, may_follow, read_disk, read_entries};
+use nm_proto::{AbortCause, Entry, Verdict};
 use std::alloc::Global;
 use std::fs;
 use std::test::Fail;
@@ -57,6 +57,57 @@ fn a_whole_run_is_written_and_read(rt: HostRuntime) -> Result<(), Fail> {
     let (_, again) = Journal::reopen(rt.alloc(), &mut disk)?;
     assert!(rt; again.as_slice() == journal.entries());
     assert_eq!(rt; disk.bytes(), WHOLE.as_slice());
+    Ok(())
+}
+
+// Change set 64 on device 2, with a timeout of a second, is aborted: device 2 refused it, tag 3; device 2 let it lapse.
+const REFUSED: [u8; 33] = [
+    1, 1, 0, 0, 0, 64, 0, 0, 0, 2, 2, 0, 0, 0, 1, 0, //
+    1, 2, 0, 0, 0, 64, 2, 2, 3, 0, 2, 0, 0, 0, 0, 0, //
+    0,
+];
+
+const LAPSED: [u8; 33] = [
+    1, 1, 0, 0, 0, 64, 0, 0, 0, 2, 2, 0, 0, 0, 1, 0, //
+    1, 2, 0, 0, 0, 64, 5, 2, 0, 0, 2, 0, 0, 0, 0, 0, //
+    0,
+];
+
+// Starts change set 64 on device 2 in a fresh journal, and aborts it.
+#[tactic(auto, unfolding(nm_journal::specs::Entries::is_within))]
+fn abort<D: Disk>(alloc: Global, disk: &mut D, cause: AbortCause) -> Result<(), JournalFault> {
+    let Some(change) = ChangeNo::new(64) else {
+        return Err(JournalFault::Stopped);
+    };
+    let devices = DeviceMask(2);
+    let timeout = Some(1);
+    let mut journal = Journal::fresh(alloc, disk)?;
+    journal.append(
+        disk,
+        Entry::Started {
+            change,
+            devices,
+            timeout,
+        },
+    )?;
+    let verdict = Verdict::Abort(cause);
+    let decided = Entry::Decided { change, verdict };
+    if !may_follow(journal.entries(), &decided) {
+        return Err(JournalFault::Stopped);
+    }
+    journal.append(disk, decided)
+}
+
+#[test]
+fn aborts_are_written(rt: HostRuntime) -> Result<(), Fail> {
+    let device = DeviceNo::new(2).ok_or("2")?;
+    let tag = Tag::LockDenied;
+    let mut disk = MemoryDisk::with_limit(rt.alloc(), 8192, 100)?;
+    abort(rt.alloc(), &mut disk, AbortCause::Refused { device, tag })?;
+    assert_eq!(rt; disk.bytes(), REFUSED.as_slice());
+    let mut other = MemoryDisk::with_limit(rt.alloc(), 8192, 100)?;
+    abort(rt.alloc(), &mut other, AbortCause::Lapsed { device })?;
+    assert_eq!(rt; other.bytes(), LAPSED.as_slice());
     Ok(())
 }
 

@@ -8,4 +8,10 @@ mod decider;
 #[cfg(test)]
 mod journal;
 #[cfg(test)]
+mod order;
+#[cfg(test)]
+mod recovery;
+#[cfg(test)]
+mod resync;
+#[cfg(test)]
 mod wire;

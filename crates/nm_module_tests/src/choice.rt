@@ -1,39 +1,9 @@
-use nm_base::NoMemory;
+use crate::groupings::{groupings_in, rows_in};
 use nm_schema_choice::{Choices, Forks, choices_of};
-use nm_schema_rows::{Rows, Word, rows_of};
-use nm_schema_shape::{are_named, shape_of};
-use nm_yang::read_module;
+use nm_schema_rows::Rows;
+use nm_schema_shape::{argument_at, shape_of};
 use std::alloc::{AllocError, Global};
 use std::test::Fail;
-
-// The grouping that a row names: the first at the top that has its argument.
-fn grouping_of(rows: &Rows, at: usize) -> Option<usize> {
-    let row = rows.row(at)?;
-    if !row.word.same(Word::Uses) {
-        return None;
-    }
-    for below in rows.below(0) {
-        if let Some(grouping) = rows.row(*below)
-            && grouping.word.same(Word::Grouping)
-            && let Some(name) = &grouping.argument
-            && let Some(text) = &row.argument
-            && name.as_str() == text.as_str()
-        {
-            return Some(*below);
-        }
-    }
-    None
-}
-
-fn name_at(rows: &Rows, at: usize) -> &str {
-    match rows.row(at) {
-        None => "",
-        Some(row) => match &row.argument {
-            None => "",
-            Some(text) => text.as_str(),
-        },
-    }
-}
 
 fn spot_text(alloc: Global, spot: Option<usize>) -> Result<String, AllocError> {
     match spot {
@@ -42,38 +12,70 @@ fn spot_text(alloc: Global, spot: Option<usize>) -> Result<String, AllocError> {
     }
 }
 
-// Choices by name and the case that they stand in, cases by choice and name, and for each node its case.
-fn forks_text(alloc: Global, rows: &Rows, forks: &Forks) -> Result<String, AllocError> {
-    let mut text = String::new(alloc);
+// The choices by name and the case that they stand in.
+fn put_choices(
+    alloc: Global,
+    text: &mut String,
+    rows: &Rows,
+    forks: &Forks,
+) -> Result<(), AllocError> {
     for fork in forks.choices() {
         let within = spot_text(alloc, fork.case_in)?;
-        let name = name_at(rows, fork.row);
-        text.push_str(format!(in alloc; "{name} in {within};")?.as_str())?;
+        let name = argument_at(rows, fork.row);
+        let choice = format!(in alloc; "{name} in {within};")?;
+        text.push_str(choice.as_str())?;
     }
-    text.push_str("|")?;
+    Ok(())
+}
+
+// The cases by choice and name.
+fn put_cases(
+    alloc: Global,
+    text: &mut String,
+    rows: &Rows,
+    forks: &Forks,
+) -> Result<(), AllocError> {
     for branch in forks.cases() {
-        let (choice, name) = (branch.choice, name_at(rows, branch.row));
-        text.push_str(format!(in alloc; "{name} of {choice};")?.as_str())?;
+        let (choice, name) = (branch.choice, argument_at(rows, branch.row));
+        let case = format!(in alloc; "{name} of {choice};")?;
+        text.push_str(case.as_str())?;
     }
-    text.push_str("|")?;
+    Ok(())
+}
+
+// For each node its case.
+fn put_spots(alloc: Global, text: &mut String, forks: &Forks) -> Result<(), AllocError> {
     for spot in forks.spots() {
-        text.push_str(spot_text(alloc, *spot)?.as_str())?;
+        let case = spot_text(alloc, *spot)?;
+        text.push_str(case.as_str())?;
         text.push_str(";")?;
     }
+    Ok(())
+}
+
+fn put_forks(
+    alloc: Global,
+    text: &mut String,
+    rows: &Rows,
+    forks: &Forks,
+) -> Result<(), AllocError> {
+    put_choices(alloc, text, rows, forks)?;
+    text.push_str("|")?;
+    put_cases(alloc, text, rows, forks)?;
+    text.push_str("|")?;
+    put_spots(alloc, text, forks)
+}
+
+fn forks_text(alloc: Global, rows: &Rows, forks: &Forks) -> Result<String, AllocError> {
+    let mut text = String::new(alloc);
+    put_forks(alloc, &mut text, rows, forks)?;
     Ok(text)
 }
 
 // The choices and cases at the top of a module.
 fn told(alloc: Global, text: &str) -> Result<String, Fail> {
-    let modules = [read_module(alloc, text.as_bytes())?];
-    let rows = rows_of(alloc, &modules)?;
-    let mut groupings = Vec::new(alloc);
-    for at in 0..rows.len() {
-        groupings.push(grouping_of(&rows, at))?;
-    }
-    if !are_named(&rows, &groupings) {
-        return Ok(String::from_str(alloc, "no grouping")?);
-    }
+    let rows = rows_in(alloc, &[text])?;
+    let groupings = groupings_in(alloc, &rows)?;
     let shape = shape_of(alloc, &rows, &groupings)?;
     let choices = choices_of(alloc, &shape)?;
     match choices.forks_of(alloc, 0)? {

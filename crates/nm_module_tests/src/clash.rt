@@ -1,35 +1,10 @@
+use crate::groupings::{groupings_in, rows_in};
+use crate::wide::wide_module;
 use nm_base::NoMemory;
 use nm_schema_clash::{Clashes, clashes_of};
-use nm_schema_rows::{Flaw, Rows, Word, rows_of};
-use nm_schema_shape::are_named;
-use nm_yang::read_module;
+use nm_schema_rows::Flaw;
 use std::alloc::{AllocError, Global};
 use std::test::Fail;
-
-// The first grouping of the name that a uses has.
-fn grouping_for(rows: &Rows, at: usize) -> Option<usize> {
-    let row = rows.row(at)?;
-    if !row.word.same(Word::Uses) {
-        return None;
-    }
-    for other in 0..rows.len() {
-        if let Some(grouping) = rows.row(other)
-            && grouping.word.same(Word::Grouping)
-            && grouping.argument == row.argument
-        {
-            return Some(other);
-        }
-    }
-    None
-}
-
-fn groupings_of(alloc: Global, rows: &Rows) -> Result<Vec<Option<usize>>, NoMemory> {
-    let mut groupings = Vec::new(alloc);
-    for at in 0..rows.len() {
-        groupings.push(grouping_for(rows, at))?;
-    }
-    Ok(groupings)
-}
 
 // The first clash, and where.
 fn first_clash(alloc: Global, clashes: &Clashes<'_>, count: usize) -> Result<String, AllocError> {
@@ -42,6 +17,14 @@ fn first_clash(alloc: Global, clashes: &Clashes<'_>, count: usize) -> Result<Str
         }
     }
     String::from_str(alloc, "none")
+}
+
+// The first clash of a module.
+fn told(alloc: Global, text: &str) -> Result<String, Fail> {
+    let rows = rows_in(alloc, &[text])?;
+    let groupings = groupings_in(alloc, &rows)?;
+    let clashes = clashes_of(alloc, &rows, &groupings)?;
+    Ok(first_clash(alloc, &clashes, rows.len())?)
 }
 
 // A module's text; the nodes in it, and the first clash, by the number of its row (RFC 7950 sections 6.2.1, 7.9 and 7.13).
@@ -81,53 +64,17 @@ fn finds_clashes(rt: HostRuntime) -> Result<(), Fail> {
     let alloc = rt.alloc();
     for row in CLASHES.lines().skip(1) {
         let (text, expected) = row.split_once(" => ").ok_or("no row")?;
-        let modules = [read_module(alloc, text.as_bytes())?];
-        let rows = rows_of(alloc, &modules)?;
-        let groupings = groupings_of(alloc, &rows)?;
-        if are_named(&rows, &groupings) {
-            let clashes = clashes_of(alloc, &rows, &groupings)?;
-            assert_eq!(rt;
-                first_clash(alloc, &clashes, rows.len())?.as_str(),
-                expected,
-                "{text}"
-            );
-        } else {
-            assert!(rt; false, "{text}");
-        }
+        let found = told(alloc, text)?;
+        assert_eq!(rt; found.as_str(), expected, "{text}");
     }
     Ok(())
-}
-
-// A module with a grouping of many leafs and many containers that use it, each with a leaf of its own before or after it.
-fn wide_module(alloc: Global, count: usize) -> Result<String, AllocError> {
-    let mut text = String::from_str(alloc, "module m { grouping g {")?;
-    for number in 0..count {
-        let leaf = format!(in alloc; " leaf l{number};")?;
-        text.push_str(leaf.as_str())?;
-    }
-    text.push_str(" }")?;
-    for number in 0..count {
-        let container = format!(in alloc;
-            " container c{number} {{ leaf a{number}; uses g; leaf b{number}; }}"
-        )?;
-        text.push_str(container.as_str())?;
-    }
-    text.push_str(" }")?;
-    Ok(text)
 }
 
 #[test]
 fn passes_wide_groupings(rt: HostRuntime) -> Result<(), Fail> {
     let alloc = rt.alloc();
     let text = wide_module(alloc, 400)?;
-    let modules = [read_module(alloc, text.as_bytes())?];
-    let rows = rows_of(alloc, &modules)?;
-    let groupings = groupings_of(alloc, &rows)?;
-    if are_named(&rows, &groupings) {
-        let clashes = clashes_of(alloc, &rows, &groupings)?;
-        assert_eq!(rt; first_clash(alloc, &clashes, rows.len())?.as_str(), "none");
-    } else {
-        assert!(rt; false);
-    }
+    let found = told(alloc, text.as_str())?;
+    assert_eq!(rt; found.as_str(), "none");
     Ok(())
 }

@@ -1,43 +1,10 @@
-use nm_base::NoMemory;
+use crate::groupings::{groupings_in, rows_in};
 use nm_schema_expansion::{Expansion, Instance, expand, first_large};
-use nm_schema_rows::{Rows, Word, rows_of};
-use nm_schema_shape::{are_named, argument_at, shape_of};
-use nm_yang::{Statement, read_module};
+use nm_schema_rows::Rows;
+use nm_schema_shape::{argument_at, shape_of};
 use std::alloc::{AllocError, Global};
+use std::process::Abort;
 use std::test::Fail;
-
-// The first grouping of the name that a uses has.
-fn grouping_for(rows: &Rows, at: usize) -> Option<usize> {
-    let row = rows.row(at)?;
-    if !row.word.same(Word::Uses) {
-        return None;
-    }
-    for other in 0..rows.len() {
-        if let Some(grouping) = rows.row(other)
-            && grouping.word.same(Word::Grouping)
-            && grouping.argument == row.argument
-        {
-            return Some(other);
-        }
-    }
-    None
-}
-
-fn groupings_of(alloc: Global, rows: &Rows) -> Result<Vec<Option<usize>>, NoMemory> {
-    let mut groupings = Vec::new(alloc);
-    for at in 0..rows.len() {
-        groupings.push(grouping_for(rows, at))?;
-    }
-    Ok(groupings)
-}
-
-fn modules_of(alloc: Global, texts: &[&str]) -> Result<Vec<Statement>, Fail> {
-    let mut modules = Vec::new(alloc);
-    for text in texts {
-        modules.push(read_module(alloc, text.as_bytes())?)?;
-    }
-    Ok(modules)
-}
 
 // The nodes by number: where each stands, a module's or a node's number, and its name.
 fn nodes_text(alloc: Global, rows: &Rows, nodes: &[Instance]) -> Result<String, AllocError> {
@@ -69,12 +36,8 @@ fn grown_text(
 
 // The nodes of some modules.
 fn tree(alloc: Global, texts: &[&str]) -> Result<String, Fail> {
-    let modules = modules_of(alloc, texts)?;
-    let rows = rows_of(alloc, &modules)?;
-    let groupings = groupings_of(alloc, &rows)?;
-    if !are_named(&rows, &groupings) {
-        return Ok(String::from_str(alloc, "?")?);
-    }
+    let rows = rows_in(alloc, texts)?;
+    let groupings = groupings_in(alloc, &rows)?;
     let shape = shape_of(alloc, &rows, &groupings)?;
     let expansion = expand(alloc, &shape)?;
     Ok(nodes_text(alloc, &rows, expansion.nodes())?)
@@ -96,7 +59,7 @@ const TREES: [(&[&str], &str); 7] = [
     (
         &[
             "module m { grouping g { container c { uses h; } } grouping h { uses i; leaf b; } grouping i { leaf a; } uses g; leaf z; }",
-            "module n { list t { uses g; } }",
+            "module n { import m { prefix m; } list t { uses m:g; } }",
         ],
         " m0/c m0/z m1/t 0/a 0/b 2/c 5/a 5/b",
     ),
@@ -126,63 +89,84 @@ const TREES: [(&[&str], &str); 7] = [
 fn expands_modules(rt: HostRuntime) -> Result<(), Fail> {
     let alloc = rt.alloc();
     for (texts, expected) in &TREES {
-        assert_eq!(rt; tree(alloc, texts)?.as_str(), *expected, "{:?}", texts);
+        let found = tree(alloc, texts)?;
+        assert_eq!(rt; found.as_str(), *expected, "{:?}", texts);
     }
     Ok(())
 }
 
-// How many nodes the chosen ones of these modules have, the first that is too large, and which are expanded.
-fn sizes(alloc: Global, texts: &[String], chosen: &[usize]) -> Result<String, Fail> {
-    let mut modules = Vec::new(alloc);
+// The texts of the chosen modules.
+fn chosen_of<'a>(
+    alloc: Global,
+    texts: &'a [String],
+    chosen: &[usize],
+) -> Result<Vec<&'a str>, AllocError> {
+    let mut some = Vec::new(alloc);
     for number in chosen {
         if let Some(text) = texts.get(*number) {
-            modules.push(read_module(alloc, text.as_bytes())?)?;
+            some.push(text.as_str())?;
         }
     }
-    let rows = rows_of(alloc, &modules)?;
-    let groupings = groupings_of(alloc, &rows)?;
-    if !are_named(&rows, &groupings) {
-        return Ok(String::from_str(alloc, "?")?);
-    }
+    Ok(some)
+}
+
+// How many nodes these modules have, the first that is too large, and which are expanded.
+fn sizes(alloc: Global, texts: &[&str]) -> Result<String, Fail> {
+    let rows = rows_in(alloc, texts)?;
+    let groupings = groupings_in(alloc, &rows)?;
     let shape = shape_of(alloc, &rows, &groupings)?;
     let expansion = expand(alloc, &shape)?;
-    let count = expansion.nodes().len();
-    let large = first_large(&shape);
-    let grown = grown_text(alloc, &expansion, chosen.len())?;
+    let grown = grown_text(alloc, &expansion, texts.len())?;
+    let (count, large) = (expansion.nodes().len(), first_large(&shape));
     Ok(format!(in alloc; "{count} {large:?} {grown}")?)
+}
+
+fn put_leafs(alloc: Global, text: &mut String, count: usize) -> Result<(), AllocError> {
+    for number in 0..count {
+        let leaf = format!(in alloc; " leaf a{number};")?;
+        text.push_str(leaf.as_str())?;
+    }
+    Ok(())
+}
+
+fn put_containers(alloc: Global, text: &mut String, count: usize) -> Result<(), AllocError> {
+    for number in 0..count {
+        let container = format!(in alloc; " container c{number} {{ uses g; }}")?;
+        text.push_str(container.as_str())?;
+    }
+    Ok(())
 }
 
 // A module with 200 containers of 99 leafs each, 20,000 nodes in all, and this after them.
 fn hundreds(alloc: Global, after: &str) -> Result<String, AllocError> {
-    let mut text = String::from_str(alloc, "module m { grouping g {")?;
-    for number in 0..99 {
-        text.push_str(format!(in alloc; " leaf a{number};")?.as_str())?;
-    }
-    text.push_str(" }")?;
-    for number in 0..200 {
-        text.push_str(format!(in alloc; " container c{number} {{ uses g; }}")?.as_str())?;
-    }
-    text.push_str(after)?;
-    text.push_str(" }")?;
-    Ok(text)
+    let mut leafs = String::new(alloc);
+    put_leafs(alloc, &mut leafs, 99)?;
+    let mut containers = String::new(alloc);
+    put_containers(alloc, &mut containers, 200)?;
+    format!(in alloc; "module m {{ grouping g {{{leafs} }}{containers}{after} }}")
 }
 
-// A module with so many groupings, in each of which these texts stand around uses of the next one; the last has a leaf or nothing.
+// Puts a grouping in which these texts stand around uses of the next one.
+fn put_grouping(
+    alloc: Global,
+    text: &mut String,
+    number: usize,
+    next: usize,
+    around: &[&str],
+) -> Result<(), AllocError> {
+    let uses = format!(in alloc; " uses g{next};")?;
+    let within = around.join(alloc, uses.as_str())?;
+    let grouping = format!(in alloc; " grouping g{number} {{{within} }}")?;
+    text.push_str(grouping.as_str())
+}
+
+// A module with so many such groupings; the last has a leaf or nothing.
 fn chain(alloc: Global, count: usize, around: &[&str], last: &str) -> Result<String, AllocError> {
-    let mut text = String::from_str(alloc, "module m { uses g0;")?;
+    let mut groupings = String::new(alloc);
     for number in 0..count {
-        let next = number + 1;
-        text.push_str(format!(in alloc; " grouping g{number} {{")?.as_str())?;
-        for (place, part) in around.iter().enumerate() {
-            if place > 0 {
-                text.push_str(format!(in alloc; " uses g{next};")?.as_str())?;
-            }
-            text.push_str(part)?;
-        }
-        text.push_str(" }")?;
+        put_grouping(alloc, &mut groupings, number, number + 1, around)?;
     }
-    text.push_str(format!(in alloc; " grouping g{count} {{ {last} }} }}")?.as_str())?;
-    Ok(text)
+    format!(in alloc; "module m {{ uses g0;{groupings} grouping g{count} {{ {last} }} }}")
 }
 
 const SMALL: usize = 0;
@@ -233,13 +217,10 @@ const SIZES: [(&[usize], &str); 9] = [
 fn keeps_to_limits(rt: HostRuntime) -> Result<(), Fail> {
     let alloc = rt.alloc();
     let texts = large_texts(alloc)?;
-    for (chosen, expected) in &SIZES {
-        assert_eq!(rt;
-            sizes(alloc, &texts, chosen)?.as_str(),
-            *expected,
-            "{:?}",
-            chosen
-        );
+    for (numbers, expected) in &SIZES {
+        let chosen = chosen_of(alloc, &texts, numbers)?;
+        let found = sizes(alloc, &chosen)?;
+        assert_eq!(rt; found.as_str(), *expected, "{:?}", numbers);
     }
     Ok(())
 }
@@ -260,6 +241,34 @@ fn found<'a>(
     format!(in alloc; "{:?} {one:?}", expansion.children(at))
 }
 
+// What is asked of a tree: whether at its top, where, and a name; what is found.
+const FOUND: [(bool, usize, &str, &str); 11] = [
+    (true, 0, "a", "[0, 1] Some(1)"),
+    (true, 1, "a", "[2, 3] Some(2)"),
+    (true, 1, "c", "[2, 3] None"),
+    (true, 2, "a", "[] None"),
+    (false, 0, "a", "[4, 5, 6] Some(4)"),
+    (false, 0, "b", "[4, 5, 6] Some(5)"),
+    (false, 0, "c", "[4, 5, 6] None"),
+    (false, 1, "a", "[] None"),
+    (false, 3, "b", "[7] Some(7)"),
+    (false, 6, "b", "[8] Some(8)"),
+    (false, 9, "a", "[] None"),
+];
+
+fn check_found<'a>(
+    rt: &impl Abort,
+    alloc: Global,
+    expansion: &Expansion<'a>,
+    rows: &'a [(bool, usize, &'a str, &'a str)],
+) -> Result<(), Fail> {
+    for (is_top, at, name, expected) in rows {
+        let told = found(alloc, expansion, *is_top, *at, name)?;
+        assert_eq!(rt; told.as_str(), *expected, "{is_top} {at} {name}");
+    }
+    Ok(())
+}
+
 #[test]
 fn finds_nodes(rt: HostRuntime) -> Result<(), Fail> {
     let alloc = rt.alloc();
@@ -267,38 +276,11 @@ fn finds_nodes(rt: HostRuntime) -> Result<(), Fail> {
         "module m { grouping g { leaf a; leaf b; } container c { uses g; container a { leaf b; } } leaf a; }",
         "module n { leaf a; list l { leaf b; } }",
     ];
-    let modules = modules_of(alloc, &texts)?;
-    let rows = rows_of(alloc, &modules)?;
-    let groupings = groupings_of(alloc, &rows)?;
-    if !are_named(&rows, &groupings) {
-        assert!(rt; false);
-        return Ok(());
-    }
+    let rows = rows_in(alloc, &texts)?;
+    let groupings = groupings_in(alloc, &rows)?;
     let shape = shape_of(alloc, &rows, &groupings)?;
     let expansion = expand(alloc, &shape)?;
-    assert_eq!(rt;
-        nodes_text(alloc, &rows, expansion.nodes())?.as_str(),
-        " m0/c m0/a m1/a m1/l 0/a 0/b 0/a 3/b 6/b"
-    );
-    let cases: &[(bool, usize, &str, &str)] = &[
-        (true, 0, "a", "[0, 1] Some(1)"),
-        (true, 1, "a", "[2, 3] Some(2)"),
-        (true, 1, "c", "[2, 3] None"),
-        (true, 2, "a", "[] None"),
-        (false, 0, "a", "[4, 5, 6] Some(4)"),
-        (false, 0, "b", "[4, 5, 6] Some(5)"),
-        (false, 0, "c", "[4, 5, 6] None"),
-        (false, 1, "a", "[] None"),
-        (false, 3, "b", "[7] Some(7)"),
-        (false, 6, "b", "[8] Some(8)"),
-        (false, 9, "a", "[] None"),
-    ];
-    for (is_top, at, name, expected) in cases {
-        assert_eq!(rt;
-            found(alloc, &expansion, *is_top, *at, name)?.as_str(),
-            *expected,
-            "{is_top} {at} {name}"
-        );
-    }
-    Ok(())
+    let nodes = nodes_text(alloc, &rows, expansion.nodes())?;
+    assert_eq!(rt; nodes.as_str(), " m0/c m0/a m1/a m1/l 0/a 0/b 0/a 3/b 6/b");
+    check_found(&rt, alloc, &expansion, &FOUND)
 }

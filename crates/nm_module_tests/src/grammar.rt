@@ -1,9 +1,10 @@
+use crate::groupings::rows_in;
 use nm_base::{Label, NoMemory};
 use nm_schema_rows::{
     Flaw, Row, Rows, Word, grammar_flaw, is_builtin, is_identifier, is_reference, name_of,
     prefix_of, rows_of, word_of,
 };
-use nm_yang::{Statement, read_module};
+use nm_yang::Statement;
 use std::alloc::{AllocError, Global};
 use std::process::Abort;
 use std::test::Fail;
@@ -160,22 +161,14 @@ const ROWS: [(&str, &str, &str); 4] = [
 fn makes_rows(rt: HostRuntime) -> Result<(), Fail> {
     let alloc = rt.alloc();
     for (one, other, expected) in &ROWS {
-        let modules = [
-            read_module(alloc, one.as_bytes())?,
-            read_module(alloc, other.as_bytes())?,
-        ];
-        let rows = rows_of(alloc, &modules)?;
-        assert_eq!(rt; shown(alloc, &rows)?.as_str(), *expected, "{one} {other}");
+        let rows = rows_in(alloc, &[*one, *other])?;
+        let found = shown(alloc, &rows)?;
+        assert_eq!(rt; found.as_str(), *expected, "{one} {other}");
     }
     Ok(())
 }
 
-#[test]
-fn finds_rows(rt: HostRuntime) -> Result<(), Fail> {
-    let alloc = rt.alloc();
-    let text = "module a { prefix a; leaf x { type t; } leaf y; }";
-    let modules = [read_module(alloc, text.as_bytes())?];
-    let rows = rows_of(alloc, &modules)?;
+fn check_rows(rt: &impl Abort, rows: &Rows) {
     assert_eq!(rt; rows.is_empty(), false);
     assert_eq!(rt; rows.len(), 5);
     assert_eq!(rt; rows.roots(), [0].as_slice());
@@ -185,6 +178,13 @@ fn finds_rows(rt: HostRuntime) -> Result<(), Fail> {
     assert_eq!(rt; rows.first_below(0, Word::Type), None);
     assert_eq!(rt; rows.first_in(Some(2), Word::Type), Some(3));
     assert_eq!(rt; rows.first_in(None, Word::Module), Some(0));
+}
+
+#[test]
+fn finds_rows(rt: HostRuntime) -> Result<(), Fail> {
+    let text = "module a { prefix a; leaf x { type t; } leaf y; }";
+    let rows = rows_in(rt.alloc(), &[text])?;
+    check_rows(&rt, &rows);
     Ok(())
 }
 
@@ -212,6 +212,11 @@ fn first_flaw(alloc: Global, rows: &Rows, before: u32) -> Result<String, AllocEr
         }
     }
     String::from_str(alloc, "none")
+}
+
+fn flaw_in(alloc: Global, text: &str, before: u32) -> Result<String, Fail> {
+    let rows = rows_in(alloc, &[text])?;
+    Ok(first_flaw(alloc, &rows, before)?)
 }
 
 // Each is what stands within a module `m`, behind its namespace and prefix. Places count from there.
@@ -313,9 +318,7 @@ fn finds_flaws_within_modules(rt: HostRuntime) -> Result<(), Fail> {
     for row in WITHIN.lines().skip(1) {
         let (text, expected) = row.split_once(" => ").ok_or("no row")?;
         let whole = format!(in alloc; "{start}{text}}}")?;
-        let modules = [read_module(alloc, whole.as_str().as_bytes())?];
-        let rows = rows_of(alloc, &modules)?;
-        let found = first_flaw(alloc, &rows, 30)?;
+        let found = flaw_in(alloc, whole.as_str(), 30)?;
         assert_eq!(rt; found.as_str(), expected, "{text}");
     }
     Ok(())
@@ -347,9 +350,7 @@ const MODULES: [(&str, &str); 9] = [
 fn finds_flaws_of_modules(rt: HostRuntime) -> Result<(), Fail> {
     let alloc = rt.alloc();
     for (text, expected) in &MODULES {
-        let modules = [read_module(alloc, text.as_bytes())?];
-        let rows = rows_of(alloc, &modules)?;
-        let found = first_flaw(alloc, &rows, 0)?;
+        let found = flaw_in(alloc, text, 0)?;
         assert_eq!(rt; found.as_str(), *expected, "{text}");
     }
     Ok(())
@@ -363,18 +364,22 @@ const OUTERMOST: [(&str, &str); 4] = [
     ("x:module", "unknown x:module 7"),
 ];
 
+// The first flaw of a statement without an argument, at place 7.
+fn flaw_of(alloc: Global, keyword: &str) -> Result<String, Fail> {
+    let statement = Statement {
+        keyword: Label::new(alloc, keyword)?,
+        argument: None,
+        place: 7,
+        below: Vec::new(alloc),
+    };
+    let rows = rows_of(alloc, &[statement])?;
+    Ok(first_flaw(alloc, &rows, 0)?)
+}
+
 #[test]
 fn finds_flaws_outermost(rt: HostRuntime) -> Result<(), Fail> {
-    let alloc = rt.alloc();
     for (keyword, expected) in &OUTERMOST {
-        let statement = Statement {
-            keyword: Label::new(alloc, keyword)?,
-            argument: None,
-            place: 7,
-            below: Vec::new(alloc),
-        };
-        let rows = rows_of(alloc, &[statement])?;
-        let found = first_flaw(alloc, &rows, 0)?;
+        let found = flaw_of(rt.alloc(), keyword)?;
         assert_eq!(rt; found.as_str(), *expected, "{keyword}");
     }
     Ok(())

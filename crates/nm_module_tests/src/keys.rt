@@ -1,24 +1,15 @@
 ghost use Rattle.std.specs.Prelude.{◌≡◌};
 
+use crate::groupings::{groupings_of, rows_in};
 use nm_base::NoMemory;
 use nm_schema_keys::{
     Keys, Uniques, flawed_uniques, key_flaw, key_leafs, keys_of, unique_flaw, uniques_of,
 };
 use nm_schema_names::RowNames;
-use nm_schema_rows::{Flaw, Rows, Word, rows_of};
-use nm_schema_shape::{Shape, are_named, shape_of};
-use nm_yang::read_module;
+use nm_schema_rows::{Flaw, Rows, Word};
+use nm_schema_shape::{Shape, shape_of};
 use std::alloc::{AllocError, Global};
 use std::test::Fail;
-
-// The grouping of each uses.
-fn groupings_of(alloc: Global, names: &RowNames<'_>) -> Result<Vec<Option<usize>>, NoMemory> {
-    let mut groupings = Vec::new(alloc);
-    for at in 0..names.rows().len() {
-        groupings.push(names.leads_to(at))?;
-    }
-    Ok(groupings)
-}
 
 fn flaw_text(alloc: Global, flaw: &Flaw, at: usize) -> Result<String, AllocError> {
     match flaw {
@@ -103,17 +94,18 @@ fn told(alloc: Global, names: &RowNames<'_>, shape: &Shape<'_>) -> Result<String
     Ok(format!(in alloc; "{flaw}; {keys}; {uniques}")?)
 }
 
+// The same of all rows that have names.
+fn told_by(alloc: Global, names: &RowNames<'_>) -> Result<String, Fail> {
+    let groupings = groupings_of(alloc, names)?;
+    let shape = shape_of(alloc, names.rows(), &groupings)?;
+    told(alloc, names, &shape)
+}
+
 // The same of the text of a module.
 fn told_of(alloc: Global, text: &str) -> Result<String, Fail> {
-    let modules = [read_module(alloc, text.as_bytes())?];
-    let rows = rows_of(alloc, &modules)?;
+    let rows = rows_in(alloc, &[text])?;
     let names = RowNames::new(alloc, &rows)?;
-    let groupings = groupings_of(alloc, &names)?;
-    if !are_named(&rows, &groupings) {
-        return Ok(String::from_str(alloc, "no grouping")?);
-    }
-    let shape = shape_of(alloc, &rows, &groupings)?;
-    told(alloc, &names, &shape)
+    told_by(alloc, &names)
 }
 
 // A module's text, and what is told of it: a flaw has the number of its row (RFC 7950 sections 7.8.2, 7.8.3 and 14).
@@ -174,46 +166,58 @@ fn reads_lists(rt: HostRuntime) -> Result<(), Fail> {
     Ok(())
 }
 
+// For each row whether it is a key.
+fn keys_by(alloc: Global, names: &RowNames<'_>) -> Result<Vec<bool>, Fail> {
+    let groupings = groupings_of(alloc, names)?;
+    let shape = shape_of(alloc, names.rows(), &groupings)?;
+    Ok(key_leafs(alloc, names, &shape)?)
+}
+
+fn keys_in(alloc: Global, text: &str) -> Result<Vec<bool>, Fail> {
+    let rows = rows_in(alloc, &[text])?;
+    let names = RowNames::new(alloc, &rows)?;
+    keys_by(alloc, &names)
+}
+
 #[test]
 fn marks_keys(rt: HostRuntime) -> Result<(), Fail> {
-    let alloc = rt.alloc();
     let text =
         "module m { prefix p; grouping g { leaf a; leaf b; } list l { key a; uses g; leaf c; } list k { key c; leaf c; } }";
-    let modules = [read_module(alloc, text.as_bytes())?];
-    let rows = rows_of(alloc, &modules)?;
-    let names = RowNames::new(alloc, &rows)?;
-    let groupings = groupings_of(alloc, &names)?;
-    if are_named(&rows, &groupings) {
-        let shape = shape_of(alloc, &rows, &groupings)?;
-        let marks = key_leafs(alloc, &names, &shape)?;
-        let expected = [
-            false, false, false, true, false, false, false, false, false, false, false, true,
-        ];
-        assert_eq!(rt; marks.as_slice(), expected.as_slice());
-    } else {
-        assert!(rt; false);
-    }
+    let expected = [
+        false, false, false, true, false, false, false, false, false, false, false, true,
+    ];
+    let marks = keys_in(rt.alloc(), text)?;
+    assert_eq!(rt; marks.as_slice(), expected.as_slice());
     Ok(())
 }
 
-// The numbers of the rows that are marked as `unique` statements with a flaw.
-fn flawed_of(alloc: Global, text: &str) -> Result<String, Fail> {
-    let modules = [read_module(alloc, text.as_bytes())?];
-    let rows = rows_of(alloc, &modules)?;
-    let names = RowNames::new(alloc, &rows)?;
-    let groupings = groupings_of(alloc, &names)?;
-    if !are_named(&rows, &groupings) {
-        return Ok(String::from_str(alloc, "no grouping")?);
-    }
-    let shape = shape_of(alloc, &rows, &groupings)?;
-    let marks = flawed_uniques(alloc, &names, &shape)?;
+// The numbers of the rows that are marked.
+fn marked(alloc: Global, marks: &[bool]) -> Result<String, AllocError> {
     let mut numbers = Vec::new(alloc);
     for at in 0..marks.len() {
         if marks[at] {
             numbers.push(at)?;
         }
     }
-    Ok(format!(in alloc; "{:?}", numbers.as_slice())?)
+    format!(in alloc; "{:?}", numbers.as_slice())
+}
+
+// The rows that are marked as `unique` statements with a flaw.
+fn flawed_by(alloc: Global, names: &RowNames<'_>) -> Result<Vec<bool>, Fail> {
+    let groupings = groupings_of(alloc, names)?;
+    let shape = shape_of(alloc, names.rows(), &groupings)?;
+    Ok(flawed_uniques(alloc, names, &shape)?)
+}
+
+fn flaw_marks(alloc: Global, text: &str) -> Result<Vec<bool>, Fail> {
+    let rows = rows_in(alloc, &[text])?;
+    let names = RowNames::new(alloc, &rows)?;
+    flawed_by(alloc, &names)
+}
+
+fn flawed_in(alloc: Global, text: &str) -> Result<String, Fail> {
+    let marks = flaw_marks(alloc, text)?;
+    Ok(marked(alloc, &marks)?)
 }
 
 // A module's text, and the rows of its `unique` statements that have a flaw (RFC 7950 section 7.8.3).
@@ -236,7 +240,7 @@ const FLAWED: [(&str, &str); 3] = [
 fn marks_flaws(rt: HostRuntime) -> Result<(), Fail> {
     let alloc = rt.alloc();
     for (text, expected) in &FLAWED {
-        let found = flawed_of(alloc, text)?;
+        let found = flawed_in(alloc, text)?;
         assert_eq!(rt; found.as_str(), *expected, "{text}");
     }
     Ok(())

@@ -12,10 +12,14 @@ mod expansion;
 #[cfg(test)]
 mod grammar;
 #[cfg(test)]
+mod groupings;
+#[cfg(test)]
 mod keys;
 #[cfg(test)]
 mod names;
 #[cfg(test)]
 mod shape;
+#[cfg(test)]
+mod wide;
 #[cfg(test)]
 mod yang;

@@ -1,17 +1,10 @@
+use crate::groupings::rows_in;
 use nm_base::NoMemory;
 use nm_schema_names::{RowNames, is_marker};
-use nm_schema_rows::{Flaw, Rows, Word, rows_of};
-use nm_yang::read_module;
+use nm_schema_rows::{Flaw, Word};
 use std::alloc::{AllocError, Global};
+use std::process::Abort;
 use std::test::Fail;
-
-fn rows_in(alloc: Global, one: &str, other: &str) -> Result<Rows, Fail> {
-    let modules = [
-        read_module(alloc, one.as_bytes())?,
-        read_module(alloc, other.as_bytes())?,
-    ];
-    Ok(rows_of(alloc, &modules)?)
-}
 
 fn flaw_text(alloc: Global, flaw: &Flaw, owner: usize, place: u32) -> Result<String, AllocError> {
     match flaw {
@@ -38,6 +31,12 @@ fn first_flaw(alloc: Global, names: &RowNames<'_>) -> Result<String, AllocError>
         }
     }
     String::from_str(alloc, "none")
+}
+
+fn flaw_in(alloc: Global, texts: &[&str]) -> Result<String, Fail> {
+    let rows = rows_in(alloc, texts)?;
+    let names = RowNames::new(alloc, &rows)?;
+    Ok(first_flaw(alloc, &names)?)
 }
 
 // RFC 7950 sections 5.1, 5.5, 6.2.1, 7.1.4, 7.1.5 and 7.3: names that are there twice or lead nowhere.
@@ -77,13 +76,8 @@ fn finds_flaws(rt: HostRuntime) -> Result<(), Fail> {
     for row in FLAWS.lines().skip(1) {
         let (one, rest) = row.split_once(" => ").ok_or("no row")?;
         let (other, expected) = rest.split_once(" => ").ok_or("no row")?;
-        let rows = rows_in(alloc, one, other)?;
-        let names = RowNames::new(alloc, &rows)?;
-        assert_eq!(rt;
-            first_flaw(alloc, &names)?.as_str(),
-            expected,
-            "{one} {other}"
-        );
+        let found = flaw_in(alloc, &[one, other])?;
+        assert_eq!(rt; found.as_str(), expected, "{one} {other}");
     }
     Ok(())
 }
@@ -129,26 +123,27 @@ const LEADS: [(&str, &str, usize, Option<usize>); 7] = [
     ("module a { leaf x { type int8; } }", "module b;", 2, None),
 ];
 
+fn led(alloc: Global, texts: &[&str], at: usize) -> Result<Option<usize>, Fail> {
+    let rows = rows_in(alloc, texts)?;
+    let names = RowNames::new(alloc, &rows)?;
+    Ok(names.leads_to(at))
+}
+
 #[test]
 fn leads(rt: HostRuntime) -> Result<(), Fail> {
-    let alloc = rt.alloc();
     for (one, other, at, expected) in &LEADS {
-        let rows = rows_in(alloc, one, other)?;
-        let names = RowNames::new(alloc, &rows)?;
-        assert_eq!(rt; names.leads_to(*at), *expected, "{one} {other}");
+        let found = led(rt.alloc(), &[*one, *other], *at)?;
+        assert_eq!(rt; found, *expected, "{one} {other}");
     }
     Ok(())
 }
 
-const ONE: &str = "module a { prefix p; import b { prefix q; } leaf x { type t; } leaf x; }";
+const TWO: [&str; 2] = [
+    "module a { prefix p; import b { prefix q; } leaf x { type t; } leaf x; }",
+    "module b { grouping g { leaf x; } }",
+];
 
-const OTHER: &str = "module b { grouping g { leaf x; } }";
-
-#[test]
-fn finds_names(rt: HostRuntime) -> Result<(), Fail> {
-    let alloc = rt.alloc();
-    let rows = rows_in(alloc, ONE, OTHER)?;
-    let names = RowNames::new(alloc, &rows)?;
+fn check_names(rt: &impl Abort, names: &RowNames<'_>) {
     assert_eq!(rt; names.named(Some(0), Word::Leaf, "x"), Some(4));
     assert_eq!(rt; names.named(Some(7), Word::Leaf, "x"), None);
     assert_eq!(rt; names.named_in(Some(8), Word::Leaf, "x"), Some(9));
@@ -157,14 +152,17 @@ fn finds_names(rt: HostRuntime) -> Result<(), Fail> {
     assert_eq!(rt; names.named_within(1, Word::Prefix, "p"), None);
     assert_eq!(rt; names.definition(9, Word::Grouping, "g"), Some(8));
     assert_eq!(rt; names.definition(4, Word::Grouping, "q:g"), Some(8));
-    Ok(())
 }
 
 #[test]
-fn finds_modules(rt: HostRuntime) -> Result<(), Fail> {
-    let alloc = rt.alloc();
-    let rows = rows_in(alloc, ONE, OTHER)?;
-    let names = RowNames::new(alloc, &rows)?;
+fn finds_names(rt: HostRuntime) -> Result<(), Fail> {
+    let rows = rows_in(rt.alloc(), &TWO)?;
+    let names = RowNames::new(rt.alloc(), &rows)?;
+    check_names(&rt, &names);
+    Ok(())
+}
+
+fn check_modules(rt: &impl Abort, names: &RowNames<'_>) {
     assert_eq!(rt; names.top(1), Some(7));
     assert_eq!(rt; names.top(2), None);
     assert_eq!(rt; names.parent_of(9), Some(8));
@@ -176,6 +174,13 @@ fn finds_modules(rt: HostRuntime) -> Result<(), Fail> {
     assert_eq!(rt; names.prefix_leads(0, "q"), Some(7));
     assert_eq!(rt; names.prefix_leads(1, "q"), None);
     assert_eq!(rt; is_marker("netm-marker"), true);
+}
+
+#[test]
+fn finds_modules(rt: HostRuntime) -> Result<(), Fail> {
+    let rows = rows_in(rt.alloc(), &TWO)?;
+    let names = RowNames::new(rt.alloc(), &rows)?;
+    check_modules(&rt, &names);
     Ok(())
 }
 
@@ -216,14 +221,18 @@ const GRAPHS: [(&str, &str, &str); 2] = [
     ),
 ];
 
+fn graph_in(alloc: Global, texts: &[&str]) -> Result<String, Fail> {
+    let rows = rows_in(alloc, texts)?;
+    let names = RowNames::new(alloc, &rows)?;
+    let graph = names.successors(alloc)?;
+    Ok(shown(alloc, &graph)?)
+}
+
 #[test]
 fn makes_graphs(rt: HostRuntime) -> Result<(), Fail> {
-    let alloc = rt.alloc();
     for (one, other, expected) in &GRAPHS {
-        let rows = rows_in(alloc, one, other)?;
-        let names = RowNames::new(alloc, &rows)?;
-        let graph = names.successors(alloc)?;
-        assert_eq!(rt; shown(alloc, &graph)?.as_str(), *expected, "{one} {other}");
+        let found = graph_in(rt.alloc(), &[*one, *other])?;
+        assert_eq!(rt; found.as_str(), *expected, "{one} {other}");
     }
     Ok(())
 }

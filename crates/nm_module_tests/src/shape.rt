@@ -1,34 +1,11 @@
+use crate::groupings::{groupings_in, rows_in};
+use crate::wide::wide_module;
 use nm_base::NoMemory;
-use nm_schema_rows::{Flaw, Rows, Word, rows_of};
-use nm_schema_shape::{Nodes, Shape, are_named, shape_of};
-use nm_yang::read_module;
+use nm_schema_rows::Flaw;
+use nm_schema_shape::{Nodes, Shape, shape_of};
 use std::alloc::{AllocError, Global};
+use std::process::Abort;
 use std::test::Fail;
-
-// The first grouping of the name that a uses has.
-fn grouping_for(rows: &Rows, at: usize) -> Option<usize> {
-    let row = rows.row(at)?;
-    if !row.word.same(Word::Uses) {
-        return None;
-    }
-    for other in 0..rows.len() {
-        if let Some(grouping) = rows.row(other)
-            && grouping.word.same(Word::Grouping)
-            && grouping.argument == row.argument
-        {
-            return Some(other);
-        }
-    }
-    None
-}
-
-fn groupings_of(alloc: Global, rows: &Rows) -> Result<Vec<Option<usize>>, NoMemory> {
-    let mut groupings = Vec::new(alloc);
-    for at in 0..rows.len() {
-        groupings.push(grouping_for(rows, at))?;
-    }
-    Ok(groupings)
-}
 
 // What a flaw says, and where.
 fn flaw_text(alloc: Global, flaw: &Flaw, at: usize) -> Result<String, AllocError> {
@@ -55,6 +32,14 @@ fn first_flaw(alloc: Global, shape: &Shape<'_>, count: usize) -> Result<String, 
         }
     }
     String::from_str(alloc, "none")
+}
+
+// The first flaw of a module.
+fn flaw_in(alloc: Global, text: &str) -> Result<String, Fail> {
+    let rows = rows_in(alloc, &[text])?;
+    let groupings = groupings_in(alloc, &rows)?;
+    let shape = shape_of(alloc, &rows, &groupings)?;
+    Ok(first_flaw(alloc, &shape, rows.len())?)
 }
 
 // A module's text; the nodes in it, and the first flaw, by the number of its row (RFC 7950 sections 7.8.2 and 7.21.1).
@@ -100,19 +85,8 @@ const FLAWS: [(&str, &str); 11] = [
 fn finds_flaws(rt: HostRuntime) -> Result<(), Fail> {
     let alloc = rt.alloc();
     for (text, expected) in &FLAWS {
-        let modules = [read_module(alloc, text.as_bytes())?];
-        let rows = rows_of(alloc, &modules)?;
-        let groupings = groupings_of(alloc, &rows)?;
-        if are_named(&rows, &groupings) {
-            let shape = shape_of(alloc, &rows, &groupings)?;
-            assert_eq!(rt;
-                first_flaw(alloc, &shape, rows.len())?.as_str(),
-                *expected,
-                "{text}"
-            );
-        } else {
-            assert!(rt; false, "{text}");
-        }
+        let found = flaw_in(alloc, text)?;
+        assert_eq!(rt; found.as_str(), *expected, "{text}");
     }
     Ok(())
 }
@@ -219,42 +193,78 @@ const PASSED: [(&str, &str, &str); 6] = [
     ),
 ];
 
+// The members of a module that neither are state nor in a choice that is, and those that stand in no choice.
+fn passed_in(alloc: Global, text: &str) -> Result<(String, String), Fail> {
+    let rows = rows_in(alloc, &[text])?;
+    let groupings = groupings_in(alloc, &rows)?;
+    let shape = shape_of(alloc, &rows, &groupings)?;
+    let kept = shape.kept_members(alloc, 0)?;
+    let plain = shape.plain_members(alloc, 0)?;
+    Ok((
+        listed(alloc, kept.as_ref())?,
+        listed(alloc, plain.as_ref())?,
+    ))
+}
+
 #[test]
 fn passes_choices(rt: HostRuntime) -> Result<(), Fail> {
     let alloc = rt.alloc();
     for (text, kept, plain) in &PASSED {
-        let modules = [read_module(alloc, text.as_bytes())?];
-        let rows = rows_of(alloc, &modules)?;
-        let groupings = groupings_of(alloc, &rows)?;
-        if are_named(&rows, &groupings) {
-            let shape = shape_of(alloc, &rows, &groupings)?;
-            let found = shape.kept_members(alloc, 0)?;
-            assert_eq!(rt; listed(alloc, found.as_ref())?.as_str(), *kept, "{text}");
-            let found = shape.plain_members(alloc, 0)?;
-            assert_eq!(rt; listed(alloc, found.as_ref())?.as_str(), *plain, "{text}");
-        } else {
-            assert!(rt; false, "{text}");
-        }
+        let (found, other) = passed_in(alloc, text)?;
+        assert_eq!(rt; found.as_str(), *kept, "{text}");
+        assert_eq!(rt; other.as_str(), *plain, "{text}");
     }
     Ok(())
+}
+
+// How many nodes stand in a module, and how many of them one in another.
+type Size = (Option<usize>, Option<usize>);
+
+fn size_of(shape: &Shape<'_>) -> Option<Size> {
+    if shape.rows().len() > 0 {
+        return Some((shape.count(0), shape.height(0)));
+    }
+    None
+}
+
+// The nodes that stand in a module, and its size.
+fn measured(alloc: Global, text: &str) -> Result<(String, Option<Size>), Fail> {
+    let rows = rows_in(alloc, &[text])?;
+    let groupings = groupings_in(alloc, &rows)?;
+    let shape = shape_of(alloc, &rows, &groupings)?;
+    let members = shape.members(alloc, 0)?;
+    Ok((listed(alloc, members.as_ref())?, size_of(&shape)))
 }
 
 #[test]
 fn measures(rt: HostRuntime) -> Result<(), Fail> {
     let alloc = rt.alloc();
     for (text, members, count, height) in &SIZES {
-        let modules = [read_module(alloc, text.as_bytes())?];
-        let rows = rows_of(alloc, &modules)?;
-        let groupings = groupings_of(alloc, &rows)?;
-        if are_named(&rows, &groupings) && rows.len() > 0 {
-            let shape = shape_of(alloc, &rows, &groupings)?;
-            let found = shape.members(alloc, 0)?;
-            assert_eq!(rt; listed(alloc, found.as_ref())?.as_str(), *members, "{text}");
-            assert_eq!(rt; shape.count(0), *count, "{text}");
-            assert_eq!(rt; shape.height(0), *height, "{text}");
-        } else {
-            assert!(rt; false, "{text}");
-        }
+        let (found, size) = measured(alloc, text)?;
+        assert_eq!(rt; found.as_str(), *members, "{text}");
+        assert_eq!(rt; size, Some((*count, *height)), "{text}");
+    }
+    Ok(())
+}
+
+// A row; where it leads, the nodes that it brings, whether it is configuration, and whether it is in state.
+const LEADS: [(usize, &[usize], &str, bool, bool); 7] = [
+    (0, &[3, 6], "[3, 6]", true, false),
+    (1, &[2], "[2]", false, true),
+    (2, &[], "[2]", false, true),
+    (3, &[5], "[3]", false, true),
+    (5, &[1], "[2]", false, true),
+    (6, &[], "[6]", true, false),
+    (7, &[], "none", false, false),
+];
+
+fn check_leads(rt: &impl Abort, alloc: Global, shape: &Shape<'_>) -> Result<(), Fail> {
+    for (at, leads, brings, is_configuration, is_in_state) in &LEADS {
+        let brought = listed(alloc, shape.brought(*at))?;
+        assert_eq!(rt; shape.leads_to(*at), *leads, "{at}");
+        assert_eq!(rt; brought.as_str(), *brings, "{at}");
+        assert_eq!(rt; shape.is_configuration(*at), *is_configuration, "{at}");
+        assert_eq!(rt; shape.is_in_state(*at), *is_in_state, "{at}");
     }
     Ok(())
 }
@@ -263,67 +273,17 @@ fn measures(rt: HostRuntime) -> Result<(), Fail> {
 fn leads(rt: HostRuntime) -> Result<(), Fail> {
     let alloc = rt.alloc();
     let text = "module m { grouping g { leaf a; } container c { config false; uses g; } leaf b; }";
-    let modules = [read_module(alloc, text.as_bytes())?];
-    let rows = rows_of(alloc, &modules)?;
-    let groupings = groupings_of(alloc, &rows)?;
-    if are_named(&rows, &groupings) {
-        let shape = shape_of(alloc, &rows, &groupings)?;
-        let cases: &[(usize, &[usize], &str, bool, bool)] = &[
-            (0, &[3, 6], "[3, 6]", true, false),
-            (1, &[2], "[2]", false, true),
-            (2, &[], "[2]", false, true),
-            (3, &[5], "[3]", false, true),
-            (5, &[1], "[2]", false, true),
-            (6, &[], "[6]", true, false),
-            (7, &[], "none", false, false),
-        ];
-        for (at, leads, brings, is_configuration, is_in_state) in cases {
-            assert_eq!(rt; shape.leads_to(*at), *leads, "{at}");
-            assert_eq!(rt;
-                listed(alloc, shape.brought(*at))?.as_str(),
-                *brings,
-                "{at}"
-            );
-            assert_eq!(rt; shape.is_configuration(*at), *is_configuration, "{at}");
-            assert_eq!(rt; shape.is_in_state(*at), *is_in_state, "{at}");
-        }
-    } else {
-        assert!(rt; false);
-    }
-    Ok(())
-}
-
-// A module with a grouping of many leafs and many containers that use it, each with a leaf of its own before or after it.
-fn wide_module(alloc: Global, count: usize) -> Result<String, AllocError> {
-    let mut text = String::from_str(alloc, "module m { grouping g {")?;
-    for number in 0..count {
-        let leaf = format!(in alloc; " leaf l{number};")?;
-        text.push_str(leaf.as_str())?;
-    }
-    text.push_str(" }")?;
-    for number in 0..count {
-        let container = format!(in alloc;
-            " container c{number} {{ leaf a{number}; uses g; leaf b{number}; }}"
-        )?;
-        text.push_str(container.as_str())?;
-    }
-    text.push_str(" }")?;
-    Ok(text)
+    let rows = rows_in(alloc, &[text])?;
+    let groupings = groupings_in(alloc, &rows)?;
+    let shape = shape_of(alloc, &rows, &groupings)?;
+    check_leads(&rt, alloc, &shape)
 }
 
 #[test]
 fn shapes_wide_groupings(rt: HostRuntime) -> Result<(), Fail> {
     let alloc = rt.alloc();
     let text = wide_module(alloc, 400)?;
-    let modules = [read_module(alloc, text.as_bytes())?];
-    let rows = rows_of(alloc, &modules)?;
-    let groupings = groupings_of(alloc, &rows)?;
-    if are_named(&rows, &groupings) && rows.len() > 0 {
-        let shape = shape_of(alloc, &rows, &groupings)?;
-        assert_eq!(rt; shape.count(0), Some(20001));
-        assert_eq!(rt; shape.height(0), Some(2));
-    } else {
-        assert!(rt; false);
-    }
+    let (_, size) = measured(alloc, text.as_str())?;
+    assert_eq!(rt; size, Some((Some(20001), Some(2))));
     Ok(())
 }

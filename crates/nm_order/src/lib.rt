@@ -6,8 +6,6 @@
 
 pub mod order;
 pub mod queue;
-#[cfg(test)]
-mod tests;
 pub mod ticket;
 
 pub use order::Order;

@@ -9,8 +9,6 @@ pub mod fault;
 pub mod laws;
 pub mod lock;
 pub mod locks;
-#[cfg(test)]
-mod tests;
 
 pub use fault::GrantFault;
 pub use locks::PartialLocks;

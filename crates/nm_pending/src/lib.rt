@@ -7,8 +7,6 @@
 pub mod fits;
 pub mod laws;
 pub mod pending;
-#[cfg(test)]
-mod tests;
 
 pub use fits::{cancel_refusal, commit_refusal, ends_at, ends_with, is_stranger};
 pub use pending::{Pending, deadline_of};

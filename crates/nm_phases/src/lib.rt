@@ -6,8 +6,6 @@
 #![tactic(auto)]
 
 pub mod phases;
-#[cfg(test)]
-mod tests;
 pub mod token;
 pub mod waiting;
 

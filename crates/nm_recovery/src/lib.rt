@@ -5,8 +5,6 @@
 #![tactic(auto)]
 
 pub mod found;
-#[cfg(test)]
-mod tests;
 pub mod words;
 
 pub use found::{Found, recover};

@@ -8,7 +8,4 @@
 pub mod laws;
 mod read;
 
-pub use read::read_scenario;
-
-#[cfg(test)]
-mod tests;
+pub use read::{read_last_scenario, read_scenario};

@@ -17,3 +17,13 @@ pub fn read_scenario(alloc: Global, bytes: &[u8]) -> Result<Scenario, ReadError>
 {
     nm_scenario::read_scenario(alloc, bytes)
 }
+
+/// What `read_scenario` answers, for a process that ends when it has said what it reads, as `nm_scenario::read_last_scenario`
+/// reads it.
+#[tactic(auto, using(crate::proofs::Whole::bytes_keep))]
+pub fn read_last_scenario(alloc: Global, bytes: &[u8]) -> Result<Scenario, ReadError>
+    ensures read { Reads bytes.now result }
+    ensures limits { IfOk result ScenarioKeeps }
+{
+    nm_scenario::read_last_scenario(alloc, bytes)
+}

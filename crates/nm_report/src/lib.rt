@@ -7,8 +7,6 @@
 pub mod change_text;
 pub mod check;
 pub mod journal_text;
-#[cfg(test)]
-mod tests;
 pub mod text;
 pub mod trace;
 

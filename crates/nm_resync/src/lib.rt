@@ -6,8 +6,6 @@
 
 pub mod laws;
 pub mod resync;
-#[cfg(test)]
-mod tests;
 
 pub use laws::{
     fitting_replies_end_it, outcomes_stand_behind_the_lock, replies_alone_tell,

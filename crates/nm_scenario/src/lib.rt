@@ -24,5 +24,5 @@ pub mod scenario;
 mod yang;
 
 pub use nm_scenario_parts::{Fault, ReadError, ScenarioKind, Step};
-pub use read::{BYTE_LIMIT, read_scenario};
+pub use read::{BYTE_LIMIT, read_last_scenario, read_scenario};
 pub use scenario::{Body, Scenario};

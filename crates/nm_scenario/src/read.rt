@@ -22,6 +22,7 @@ use nm_scenario_parts::reader::fault_here;
 use nm_scenario_parts::{ReadError, ScenarioKind};
 use serde_json::Value;
 use std::alloc::Global;
+use std::mem::forget;
 
 /// The greatest length of a scenario, in bytes: what is read of it stays below a gigabyte of memory.
 pub const BYTE_LIMIT: usize = 16_777_216;
@@ -37,6 +38,27 @@ pub fn read_scenario(alloc: Global, bytes: &[u8]) -> Result<Scenario, ReadError>
     ensures { Reads bytes.now result }
 {
     read_bytes(alloc, bytes)
+}
+
+/// What `read_scenario` answers, for a process that ends when it has said what it reads.
+///
+/// The JSON value that is made of the bytes isn't freed: to free it member by member takes as long as making it does,
+/// and the end of the process gives its memory back at once.
+#[tactic(auto, using(crate::proofs::Whole::reads_bytes))]
+pub fn read_last_scenario(alloc: Global, bytes: &[u8]) -> Result<Scenario, ReadError>
+    ensures { Reads bytes.now result }
+{
+    read_at_last(alloc, bytes)
+}
+
+#[tactic(auto, unfolding(crate::specs::Reading::bytes_read))]
+fn read_at_last(alloc: Global, bytes: &[u8]) -> Result<Scenario, ReadError>
+    ensures { Gives result (bytes_read bytes.now) }
+{
+    let whole = parse(alloc, bytes)?;
+    let read = read_value(alloc, &whole);
+    forget(whole);
+    read
 }
 
 #[tactic(auto, unfolding(crate::specs::Reading::bytes_read))]

@@ -12,4 +12,6 @@ mod pointers;
 #[cfg(test)]
 mod reading;
 #[cfg(test)]
+mod refusals;
+#[cfg(test)]
 mod scenario;

@@ -6,8 +6,6 @@
 
 pub mod fault;
 pub mod sessions;
-#[cfg(test)]
-mod tests;
 
 pub use fault::EnterFault;
 pub use sessions::Sessions;

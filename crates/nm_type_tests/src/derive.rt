@@ -4,7 +4,8 @@ use nm_schema_derive::{
     Taken, built_in, numbered, read_parts, restricted, step,
 };
 use nm_types::{read_value, write_value};
-use std::alloc::Global;
+use std::alloc::{AllocError, Global};
+use std::process::Abort;
 use std::test::Fail;
 
 const BYTE: &[(i128, i128)] = &[(0, 255)];
@@ -13,123 +14,147 @@ const TWO: &[(i128, i128)] = &[(1, 10), (20, 30)];
 
 const TOUCHING: &[(i128, i128)] = &[(1, 4), (5, 9)];
 
+const WIDE: &[(i128, i128)] = &[(-1000, 1000)];
+
 // The table of RFC 7950 section 4.2.4, and names that are no built-in type.
-#[test]
-fn built_in_types_have_their_names(rt: HostRuntime) {
-    for (name, low, high) in [
-        ("int8", -128, 127),
-        ("int64", -9223372036854775808, 9223372036854775807),
-        ("uint16", 0, 65535),
-        ("uint64", 0, 18446744073709551615),
-    ]
-    .as_slice()
-    {
-        match built_in(name) {
-            Some(
-                BuiltIn::Integer {
-                    low: least,
-                    high: most,
-                },
-            ) => assert_eq!(rt; (least, most), (*low, *high), "{name}"),
-            _ => assert!(rt; false, "{name}"),
-        }
+const BUILT_IN: &str = r#"
+int8 => -128..127
+int64 => -9223372036854775808..9223372036854775807
+uint16 => 0..65535
+uint64 => 0..18446744073709551615
+leafref => leafref
+Int8 => none
+union => none
+"#;
+
+fn built_text(alloc: Global, name: &str) -> Result<String, AllocError> {
+    match built_in(name) {
+        Some(BuiltIn::Integer { low, high }) => format!(in alloc; "{low}..{high}"),
+        Some(BuiltIn::Leafref) => String::from_str(alloc, "leafref"),
+        Some(_) => String::from_str(alloc, "other"),
+        None => String::from_str(alloc, "none"),
     }
-    assert!(rt; matches!(built_in("leafref"), Some(BuiltIn::Leafref)));
-    assert!(rt; built_in("Int8").is_none());
-    assert!(rt; built_in("union").is_none());
+}
+
+#[test]
+fn built_in_types_have_their_names(rt: HostRuntime) -> Result<(), Fail> {
+    for row in BUILT_IN.lines().skip(1) {
+        let (name, expected) = row.split_once(" => ").ok_or("no row")?;
+        let found = built_text(rt.alloc(), name)?;
+        assert_eq!(rt; found.as_str(), expected, "{name}");
+    }
+    Ok(())
+}
+
+fn base_of(word: &str) -> &'static [(i128, i128)] {
+    match word {
+        "byte" => BYTE,
+        "two" => TWO,
+        "touching" => TOUCHING,
+        _ => WIDE,
+    }
+}
+
+fn form_of(word: &str) -> NumberForm {
+    match word {
+        "decimal" => NumberForm::Decimal { digits: 2 },
+        "length" => NumberForm::Length,
+        _ => NumberForm::Integer,
+    }
+}
+
+// The part that comes first, where a text is a range.
+fn part_text(alloc: Global, word: &str, text: &str) -> Result<String, NoMemory> {
+    let found = read_parts(alloc, &form_of(word), text, base_of(word))?;
+    let first = match found {
+        Some(parts) => parts.as_slice().first().copied(),
+        None => None,
+    };
+    match first {
+        Some((low, high)) => Ok(format!(in alloc; "{low}..{high}")?),
+        None => Ok(String::from_str(alloc, "none")?),
+    }
+}
+
+// Rows of a name, a base or form, a text, and the part.
+fn check_parts(rt: &impl Abort, alloc: Global, rows: &str) -> Result<(), Fail> {
+    for row in rows.lines().skip(1) {
+        let (name, rest) = row.split_once(" => ").ok_or("no row")?;
+        let (word, rest) = rest.split_once(" => ").ok_or("no row")?;
+        let (text, expected) = rest.split_once(" => ").ok_or("no row")?;
+        let found = part_text(alloc, word, text)?;
+        assert_eq!(rt; found.as_str(), expected, "{name}");
+    }
+    Ok(())
 }
 
 // Ranges after RFC 7950 sections 9.2.4 and 14: the part that comes first, where the text is a range.
+const RANGES: &str = r#"
+one number => byte => 7 => 7..7
+two bounds => byte => 1..4 => 1..4
+parts => byte => 1..4 | 10..20 => 1..4
+touching parts => byte => 1..4|5..9 => 1..4
+min and max => byte => min..max => 0..255
+inside a part => two => 3..5 => 3..5
+a gap => two => 9..21 => none
+a base that touches => touching => min..max => 1..9
+min of a base => two => min|25..max => 1..1
+above the base => byte => 1..256 => none
+backwards => byte => 4..1 => none
+descending parts => byte => 10..20|1..4 => none
+overlapping parts => byte => 1..4|4..9 => none
+leading zero => byte => 01 => none
+sign => byte => -0 => 0..0
+plus => byte => +1 => none
+nothing => byte =>  => none
+no part => byte => 1| => none
+three bounds => byte => 1..2..3 => none
+"#;
+
 #[test]
 fn ranges_are_read(rt: HostRuntime) -> Result<(), Fail> {
-    for (name, base, text, want) in [
-        ("one number", BYTE, "7", Some((7, 7))),
-        ("two bounds", BYTE, "1..4", Some((1, 4))),
-        ("parts", BYTE, "1..4 | 10..20", Some((1, 4))),
-        ("touching parts", BYTE, "1..4|5..9", Some((1, 4))),
-        ("blanks", BYTE, " 1 ..\t4\r\n", Some((1, 4))),
-        ("min and max", BYTE, "min..max", Some((0, 255))),
-        ("inside a part", TWO, "3..5", Some((3, 5))),
-        ("a gap", TWO, "9..21", None),
-        ("a base that touches", TOUCHING, "min..max", Some((1, 9))),
-        ("min of a base", TWO, "min|25..max", Some((1, 1))),
-        ("above the base", BYTE, "1..256", None),
-        ("backwards", BYTE, "4..1", None),
-        ("descending parts", BYTE, "10..20|1..4", None),
-        ("overlapping parts", BYTE, "1..4|4..9", None),
-        ("leading zero", BYTE, "01", None),
-        ("sign", BYTE, "-0", Some((0, 0))),
-        ("plus", BYTE, "+1", None),
-        ("nothing", BYTE, "", None),
-        ("no part", BYTE, "1|", None),
-        ("three bounds", BYTE, "1..2..3", None),
-    ]
-    .as_slice()
-    {
-        let found = read_parts(rt.alloc(), &NumberForm::Integer, text, base)?;
-        let first = match found {
-            Some(parts) => parts.as_slice().first().copied(),
-            None => None,
-        };
-        assert_eq!(rt; first, *want, "{name}");
-    }
+    check_parts(&rt, rt.alloc(), RANGES)?;
+    let blanks = part_text(rt.alloc(), "byte", " 1 ..\t4\r\n")?;
+    assert_eq!(rt; blanks.as_str(), "1..4");
     Ok(())
-}
-
-// The part that comes first, where a text is a range of a wide base.
-fn first_part(
-    alloc: Global,
-    form: &NumberForm,
-    text: &str,
-) -> Result<Option<(i128, i128)>, NoMemory> {
-    match read_parts(alloc, form, text, &[(-1000, 1000)])? {
-        Some(parts) => Ok(parts.as_slice().first().copied()),
-        None => Ok(None),
-    }
 }
 
 // Decimals of two fraction digits are read scaled (RFC 7950 section 9.3.4); lengths have no sign.
+const BOUNDS: &str = r#"
+example => decimal => 1 .. 3.14 | 10 => 100..314
+negative => decimal => -0.05 => -5..-5
+three digits => decimal => 1.000 => none
+no digit => decimal => 1. => none
+length => length => 0..4 => 0..4
+signed length => length => -1..4 => none
+pointed length => length => 1.0 => none
+"#;
+
 #[test]
 fn bounds_have_their_forms(rt: HostRuntime) -> Result<(), Fail> {
-    let decimal = NumberForm::Decimal { digits: 2 };
-    for (name, text, want) in [
-        ("example", "1 .. 3.14 | 10", Some((100, 314))),
-        ("negative", "-0.05", Some((-5, -5))),
-        ("three digits", "1.000", None),
-        ("no digit", "1.", None),
-    ]
-    .as_slice()
-    {
-        assert_eq!(rt; first_part(rt.alloc(), &decimal, text)?, *want, "{name}");
-    }
-    for (name, text, want) in [
-        ("length", "0..4", Some((0, 4))),
-        ("signed length", "-1..4", None),
-        ("pointed length", "1.0", None),
-    ]
-    .as_slice()
-    {
-        assert_eq!(rt;
-            first_part(rt.alloc(), &NumberForm::Length, text)?,
-            *want,
-            "{name}"
-        );
-    }
-    Ok(())
+    check_parts(&rt, rt.alloc(), BOUNDS)
 }
 
-// Statements with a name and the text of a number each.
-fn listed(alloc: Global, rows: &[(&str, Option<&str>)]) -> Result<Vec<Listed>, NoMemory> {
-    let mut statements = Vec::new(alloc);
-    for (name, number) in rows {
-        let number = match number {
-            Some(text) => Some(Label::new(alloc, text)?),
-            None => None,
-        };
-        statements.push(Listed {
+// A name, and the text of a number behind `=`.
+fn statement(alloc: Global, text: &str) -> Result<Listed, NoMemory> {
+    match text.split_once("=") {
+        None => Ok(Listed {
+            name: Label::new(alloc, text)?,
+            number: None,
+        }),
+        Some((name, number)) => Ok(Listed {
             name: Label::new(alloc, name)?,
-            number,
-        })?;
+            number: Some(Label::new(alloc, number)?),
+        }),
+    }
+}
+
+// Such statements, between blanks.
+fn listed(alloc: Global, text: &str) -> Result<Vec<Listed>, NoMemory> {
+    let words: Vec<&str> = text.split(' ').collect(alloc)?;
+    let mut statements = Vec::new(alloc);
+    for word in &words {
+        statements.push(statement(alloc, word)?)?;
     }
     Ok(statements)
 }
@@ -156,76 +181,80 @@ fn told(made: Result<Taken, ListFault>) -> (i128, &'static str) {
     }
 }
 
+fn told_text(alloc: Global, made: Result<Taken, ListFault>) -> Result<String, AllocError> {
+    let (number, word) = told(made);
+    format!(in alloc; "{number} {word}")
+}
+
 // RFC 7950 section 9.6.4.2: a value of its own, or one above the highest before, and 0 for the first.
+const NUMBERED: &str = r#"
+none given => zero one seven => 2 ok
+above the highest => zero=7 one=-2 seven => 8 ok
+below 0 => zero=-5 one seven => -3 ok
+repeated => zero=1 one=1 seven => 1 number
+no number => zero one=07 seven => 1 bad
+past the limit => zero=2147483647 one seven => 1 limit
+too high => zero=2147483648 one seven => 0 bad
+a name twice => zero zero => 1 name
+"#;
+
+fn numbered_text(alloc: Global, numbering: &Numbering, text: &str) -> Result<String, NoMemory> {
+    let statements = listed(alloc, text)?;
+    let made = numbered(alloc, numbering, &statements);
+    Ok(told_text(alloc, made)?)
+}
+
 #[test]
 fn enumerations_are_numbered(rt: HostRuntime) -> Result<(), Fail> {
-    for (name, first, second, third, want) in [
-        ("none given", None, None, None, (2, "ok")),
-        ("above the highest", Some("7"), Some("-2"), None, (8, "ok")),
-        ("below 0", Some("-5"), None, None, (-3, "ok")),
-        ("repeated", Some("1"), Some("1"), None, (1, "number")),
-        ("no number", None, Some("07"), None, (1, "bad")),
-        (
-            "past the limit",
-            Some("2147483647"),
-            None,
-            None,
-            (1, "limit"),
-        ),
-        ("too high", Some("2147483648"), None, None, (0, "bad")),
-    ]
-    .as_slice()
-    {
-        let rows = [("zero", *first), ("one", *second), ("seven", *third)];
-        let statements = listed(rt.alloc(), &rows)?;
-        let made = numbered(rt.alloc(), &Numbering::Values, &statements);
-        assert_eq!(rt; told(made), *want, "{name}");
+    for row in NUMBERED.lines().skip(1) {
+        let (name, rest) = row.split_once(" => ").ok_or("no row")?;
+        let (text, expected) = rest.split_once(" => ").ok_or("no row")?;
+        let found = numbered_text(rt.alloc(), &Numbering::Values, text)?;
+        assert_eq!(rt; found.as_str(), expected, "{name}");
     }
-    let twice = listed(rt.alloc(), &[("zero", None), ("zero", None)])?;
-    let made = numbered(rt.alloc(), &Numbering::Values, &twice);
-    assert_eq!(rt; told(made), (1, "name"));
     Ok(())
 }
 
 // RFC 7950 section 9.7.4.2, and its example of a restricted type in section 9.7.4.3.
-#[test]
-fn bits_are_restricted(rt: HostRuntime) -> Result<(), Fail> {
-    let alloc = rt.alloc();
-    let rows = [
-        ("UNKNOWN", Some("0")),
-        ("STATIC", None),
-        ("last", Some("4294967295")),
-    ];
-    let base = numbered(alloc, &Numbering::Positions, &listed(alloc, &rows)?);
-    let Ok(base) = base else {
-        assert!(rt; false, "the base");
-        return Ok(());
-    };
-    for (name, row, want) in [
-        ("its own position", ("STATIC", None), (1, "ok")),
-        ("the same", ("STATIC", Some("1")), (1, "ok")),
-        ("another", ("STATIC", Some("2")), (0, "other")),
-        ("no number", ("STATIC", Some("-1")), (0, "bad")),
-        ("no such name", ("static", None), (0, "base")),
-    ]
-    .as_slice()
-    {
-        let statements = listed(alloc, &[*row])?;
-        let made = restricted(alloc, &Numbering::Positions, &base, &statements);
-        assert_eq!(rt; told(made), *want, "{name}");
+const RESTRICTED: &str = r#"
+its own position => STATIC => 1 ok
+the same => STATIC=1 => 1 ok
+another => STATIC=2 => 0 other
+no number => STATIC=-1 => 0 bad
+no such name => static => 0 base
+"#;
+
+fn base_bits(alloc: Global) -> Result<Taken, Fail> {
+    let statements = listed(alloc, "UNKNOWN=0 STATIC last=4294967295")?;
+    match numbered(alloc, &Numbering::Positions, &statements) {
+        Ok(base) => Ok(base),
+        Err(_) => Err(Fail::new("the base")),
     }
-    let above = listed(alloc, &[("a", Some("4294967295")), ("b", None)])?;
-    let made = numbered(alloc, &Numbering::Positions, &above);
-    assert_eq!(rt; told(made), (1, "limit"));
+}
+
+fn restricted_text(alloc: Global, base: &Taken, text: &str) -> Result<String, NoMemory> {
+    let statements = listed(alloc, text)?;
+    let made = restricted(alloc, &Numbering::Positions, base, &statements);
+    Ok(told_text(alloc, made)?)
+}
+
+fn check_restricted(rt: &impl Abort, alloc: Global, base: &Taken) -> Result<(), Fail> {
+    for row in RESTRICTED.lines().skip(1) {
+        let (name, rest) = row.split_once(" => ").ok_or("no row")?;
+        let (text, expected) = rest.split_once(" => ").ok_or("no row")?;
+        let found = restricted_text(alloc, base, text)?;
+        assert_eq!(rt; found.as_str(), expected, "{name}");
+    }
     Ok(())
 }
 
-// A label of a text, where there is one.
-fn label_if(alloc: Global, text: Option<&str>) -> Result<Option<Label>, NoMemory> {
-    match text {
-        Some(text) => Ok(Some(Label::new(alloc, text)?)),
-        None => Ok(None),
-    }
+#[test]
+fn bits_are_restricted(rt: HostRuntime) -> Result<(), Fail> {
+    let base = base_bits(rt.alloc())?;
+    check_restricted(&rt, rt.alloc(), &base)?;
+    let above = numbered_text(rt.alloc(), &Numbering::Positions, "a=4294967295 b")?;
+    assert_eq!(rt; above.as_str(), "1 limit");
+    Ok(())
 }
 
 // What a step answers.
@@ -242,39 +271,62 @@ fn outcome(made: &Result<Derived, StepFault>) -> &'static str {
     }
 }
 
-// RFC 7950 sections 9.2.3, 9.3.3, 9.3.4, 9.4.3: which restriction a built-in type allows.
+// RFC 7950 sections 9.2.3, 9.3.3, 9.3.4, 9.4.3: which restriction a built-in type allows: fraction digits, a range, a length.
+const RESTRICTIONS: &str = r#"
+uint8 - 1..4 - => ok
+uint8 - 1..400 - => bad
+uint8 2 - - => misplaced
+string - - 1..32 => ok
+string - 1 - => misplaced
+decimal64 - - - => lacks
+decimal64 18 1..9.2 - => ok
+decimal64 0 - - => bad
+decimal64 19 - - => bad
+boolean - - 1 => misplaced
+enumeration - - - => lacks
+leafref - - - => ok
+"#;
+
+// A label of a text, where there is one.
+fn label_if(alloc: Global, text: &str) -> Result<Option<Label>, NoMemory> {
+    if text == "-" {
+        return Ok(None);
+    }
+    Ok(Some(Label::new(alloc, text)?))
+}
+
+fn restrictions(
+    alloc: Global,
+    digits: &str,
+    range: &str,
+    length: &str,
+) -> Result<Restrictions, NoMemory> {
+    Ok(Restrictions {
+        digits: label_if(alloc, digits)?,
+        range: label_if(alloc, range)?,
+        length: label_if(alloc, length)?,
+        names: Vec::new(alloc),
+        bits: Vec::new(alloc),
+    })
+}
+
+// What the step of a row answers.
+fn stepped(alloc: Global, row: &str) -> Result<&'static str, Fail> {
+    let (name, rest) = row.split_once(" ").ok_or("no row")?;
+    let (digits, rest) = rest.split_once(" ").ok_or("no row")?;
+    let (range, length) = rest.split_once(" ").ok_or("no row")?;
+    let built = built_in(name).ok_or("no type")?;
+    let restrictions = restrictions(alloc, digits, range, length)?;
+    let made = step(alloc, Derived::of_built_in(&built), &restrictions);
+    Ok(outcome(&made))
+}
+
 #[test]
 fn restrictions_have_their_types(rt: HostRuntime) -> Result<(), Fail> {
-    let alloc = rt.alloc();
-    for (name, digits, range, length, want) in [
-        ("uint8", None, Some("1..4"), None, "ok"),
-        ("uint8", None, Some("1..400"), None, "bad"),
-        ("uint8", Some("2"), None, None, "misplaced"),
-        ("string", None, None, Some("1..32"), "ok"),
-        ("string", None, Some("1"), None, "misplaced"),
-        ("decimal64", None, None, None, "lacks"),
-        ("decimal64", Some("18"), Some("1..9.2"), None, "ok"),
-        ("decimal64", Some("0"), None, None, "bad"),
-        ("decimal64", Some("19"), None, None, "bad"),
-        ("boolean", None, None, Some("1"), "misplaced"),
-        ("enumeration", None, None, None, "lacks"),
-        ("leafref", None, None, None, "ok"),
-    ]
-    .as_slice()
-    {
-        let Some(built) = built_in(name) else {
-            assert!(rt; false, "{name}");
-            return Ok(());
-        };
-        let restrictions = Restrictions {
-            digits: label_if(alloc, *digits)?,
-            range: label_if(alloc, *range)?,
-            length: label_if(alloc, *length)?,
-            names: Vec::new(alloc),
-            bits: Vec::new(alloc),
-        };
-        let made = step(alloc, Derived::of_built_in(&built), &restrictions);
-        assert_eq!(rt; outcome(&made), *want, "{name}");
+    for row in RESTRICTIONS.lines().skip(1) {
+        let (step, expected) = row.split_once(" => ").ok_or("no row")?;
+        let found = stepped(rt.alloc(), step)?;
+        assert_eq!(rt; found, expected, "{step}");
     }
     Ok(())
 }
@@ -290,43 +342,62 @@ fn shown(alloc: Global, derived: &Derived, text: &str) -> Result<Label, NoMemory
     }
 }
 
+fn check_shown(rt: &impl Abort, alloc: Global, derived: &Derived, rows: &str) -> Result<(), Fail> {
+    for row in rows.lines().skip(1) {
+        let (text, expected) = row.split_once(" => ").ok_or("no row")?;
+        let found = shown(alloc, derived, text)?;
+        assert_eq!(rt; found.as_str(), expected, "{text}");
+    }
+    Ok(())
+}
+
+fn ranged(alloc: Global, base: Derived, text: &str) -> Result<Derived, Fail> {
+    match base.with_range(alloc, text) {
+        Ok(derived) => Ok(derived),
+        Err(_) => Err(Fail::new("a range")),
+    }
+}
+
 // RFC 7950 section 9.2.5 restricts 1..4 | 10..20 to 11..max.
 #[test]
 fn derived_types_have_values(rt: HostRuntime) -> Result<(), Fail> {
-    let alloc = rt.alloc();
     let int32 = built_in("int32").ok_or("int32")?;
-    let base = Derived::of_built_in(&int32).with_range(alloc, "1..4|10..20");
-    let base = base.map_err(|_| "the base")?;
-    assert_eq!(rt; shown(alloc, &base, "4")?.as_str(), "4");
-    assert_eq!(rt; shown(alloc, &base, "5")?.as_str(), "none");
-    let narrow = base.copy()?.with_range(alloc, "11..max");
-    let narrow = narrow.map_err(|_| "its restriction")?;
-    assert_eq!(rt; shown(alloc, &narrow, "20")?.as_str(), "20");
-    assert_eq!(rt; shown(alloc, &narrow, "4")?.as_str(), "none");
-    Ok(())
+    let base = ranged(rt.alloc(), Derived::of_built_in(&int32), "1..4|10..20")?;
+    check_shown(&rt, rt.alloc(), &base, "\n4 => 4\n5 => none\n")?;
+    let narrow = ranged(rt.alloc(), base.copy()?, "11..max")?;
+    check_shown(&rt, rt.alloc(), &narrow, "\n20 => 20\n4 => none\n")
+}
+
+fn with_some(alloc: Global, base: Derived, text: &str) -> Result<Derived, Fail> {
+    let bits = listed(alloc, text)?;
+    match base.with_bits(alloc, &bits) {
+        Ok(derived) => Ok(derived),
+        Err(_) => Err(Fail::new("bits")),
+    }
+}
+
+fn named(alloc: Global, base: Derived, text: &str) -> Result<&'static str, NoMemory> {
+    let names = listed(alloc, text)?;
+    let made = base.with_names(alloc, &names);
+    Ok(outcome(&made))
 }
 
 // RFC 7950 section 9.7.5: bits in order of position, of which a derived type has some.
 #[test]
 fn derived_bits_keep_their_positions(rt: HostRuntime) -> Result<(), Fail> {
-    let alloc = rt.alloc();
     let bits = built_in("bits").ok_or("bits")?;
-    let rows = [
-        ("late", Some("2")),
-        ("early", Some("0")),
-        ("between", Some("1")),
-    ];
-    let all = listed(alloc, &rows)?;
-    let base = Derived::of_built_in(&bits).with_bits(alloc, &all);
-    let base = base.map_err(|_| "the base")?;
-    let some = listed(alloc, &[("late", None), ("early", None)])?;
-    let derived = base.with_bits(alloc, &some).map_err(|_| "some")?;
-    assert_eq!(rt;
-        shown(alloc, &derived, "late early")?.as_str(),
-        "early late"
-    );
-    assert_eq!(rt; shown(alloc, &derived, "between")?.as_str(), "none");
-    let names = derived.with_names(alloc, &some);
-    assert_eq!(rt; outcome(&names), "misplaced");
+    let base = with_some(
+        rt.alloc(),
+        Derived::of_built_in(&bits),
+        "late=2 early=0 between=1",
+    )?;
+    let derived = with_some(rt.alloc(), base, "late early")?;
+    check_shown(
+        &rt,
+        rt.alloc(),
+        &derived,
+        "\nlate early => early late\nbetween => none\n",
+    )?;
+    assert_eq!(rt; named(rt.alloc(), derived, "late early")?, "misplaced");
     Ok(())
 }

@@ -172,21 +172,30 @@ leaf b { type leafref { path /n:a; } } => grouping g { uses g; } uses g; => b^1?
 leaf a { type nothing; } leaf b { type leafref { path /a; } } =>  => b^1>a 
 "#;
 
+// The rows of modules m and n with these statements.
+fn rows_in(alloc: Global, within: &str, other: &str) -> Result<Rows, Fail> {
+    let one = format!(in alloc; "module m {{ prefix m; import n {{ prefix n; }} {within} }}")?;
+    let two = format!(in alloc; "module n {{ prefix n; {other} }}")?;
+    let modules = [
+        read_module(alloc, one.as_bytes())?,
+        read_module(alloc, two.as_bytes())?,
+    ];
+    Ok(rows_of(alloc, &modules)?)
+}
+
+fn told(alloc: Global, within: &str, other: &str) -> Result<String, Fail> {
+    let rows = rows_in(alloc, within, other)?;
+    let mut found = String::new(alloc);
+    put_modules(alloc, &mut found, &rows)?;
+    Ok(found)
+}
+
 #[test]
 fn leafrefs_lead(rt: HostRuntime) -> Result<(), Fail> {
-    let alloc = rt.alloc();
     for row in LEAFREFS.lines().skip(1) {
         let (within, rest) = row.split_once(" => ").ok_or("no row")?;
         let (other, expected) = rest.split_once(" => ").ok_or("no row")?;
-        let one = format!(in alloc; "module m {{ prefix m; import n {{ prefix n; }} {within} }}")?;
-        let two = format!(in alloc; "module n {{ prefix n; {other} }}")?;
-        let modules = [
-            read_module(alloc, one.as_str().as_bytes())?,
-            read_module(alloc, two.as_str().as_bytes())?,
-        ];
-        let rows = rows_of(alloc, &modules)?;
-        let mut found = String::new(alloc);
-        put_modules(alloc, &mut found, &rows)?;
+        let found = told(rt.alloc(), within, other)?;
         assert_eq!(rt; found.as_str(), expected, "{within}");
     }
     Ok(())
@@ -200,15 +209,18 @@ const PATHS: &[(&str, Option<usize>)] = &[
     ("leaf b { type string { length 1; } }", None),
 ];
 
+fn path_length(alloc: Global, within: &str) -> Result<Option<usize>, Fail> {
+    let text = format!(in alloc; "module m {{ {within} }}")?;
+    let module = read_module(alloc, text.as_bytes())?;
+    let rows = rows_of(alloc, &[module])?;
+    let paths = paths_of(alloc, &rows)?;
+    Ok(paths.path(3).map(|path| path.nodes.len()))
+}
+
 #[test]
 fn paths_are_read(rt: HostRuntime) -> Result<(), Fail> {
-    let alloc = rt.alloc();
     for (within, expected) in PATHS {
-        let text = format!(in alloc; "module m {{ {within} }}")?;
-        let modules = [read_module(alloc, text.as_str().as_bytes())?];
-        let rows = rows_of(alloc, &modules)?;
-        let paths = paths_of(alloc, &rows)?;
-        let found = paths.path(3).map(|path| path.nodes.len());
+        let found = path_length(rt.alloc(), within)?;
         assert_eq!(rt; found, *expected, "{within}");
     }
     Ok(())

@@ -6,8 +6,11 @@ use nm_tree::{Elements, Node, NodeKind, Schema, SharedType};
 use nm_types::names::is_once;
 use nm_types::{Chosen, LeafType, Names, Path, Step, TypeKind, Value};
 use std::alloc::Global;
+use std::process::Abort;
 use std::test::Fail;
-use texts::{KEYED, LOST, MISFORMED, MISKEYED, NAMES, QUOTED, Spelled, VALUES};
+use texts::{
+    Apart, KEYED, LOST, MISFORMED, MISFORMED_APART, MISKEYED, NAMES, QUOTED, QUOTED_APART, VALUES,
+};
 
 #[derive(Clone, Copy)]
 enum Shape {
@@ -137,111 +140,157 @@ fn put_keys(alloc: Global, schema: &mut Schema, at: usize, keys: &[usize]) -> Re
     Ok(())
 }
 
-// Interfaces by a name, routes by two keys, and leaf-lists and a list by keys of five types in another module.
-fn sample(alloc: Global) -> Result<Schema, NoMemory> {
-    let mut schema = Schema::new(alloc, Vec::new(alloc));
-    for (parent, module, name, shape) in [
-        (None, "ex", "sys", Shape::Container),
-        (Some(0), "ex", "iface", Shape::List),
-        (Some(1), "ex", "name", Shape::Text),
-        (Some(1), "ex", "mtu", Shape::Number),
-        (Some(0), "ex", "route", Shape::List),
-        (Some(4), "ex", "dest", Shape::Text),
-        (Some(4), "ex", "id", Shape::Number),
-        (None, "m", "ll", Shape::Texts),
-        (None, "m", "k", Shape::List),
-        (Some(8), "m", "dec", Shape::Decimal),
-        (Some(8), "m", "on", Shape::Flag),
-        (Some(8), "m", "mode", Shape::Names),
-        (Some(8), "m", "caps", Shape::Bits),
-        (Some(8), "m", "nil", Shape::Empty),
-        (Some(8), "m", "in", Shape::List),
-        (Some(14), "m", "k", Shape::Text),
-        (Some(14), "m", "nums", Shape::Numbers),
-        (None, "m", "_x-1.b", Shape::Container),
-        (None, "ex", "ll", Shape::Text),
-        (None, "m", "big", Shape::Wide),
-    ]
-    .as_slice()
-    {
-        put(alloc, &mut schema, *parent, module, name, *shape)?;
+// Interfaces by a name, routes by two keys, and leaf-lists and a list by keys of five types in another module: the node that
+// each node stands in, its module, its name and its shape.
+const NODES: &str = r#"
+- ex sys container
+0 ex iface list
+1 ex name text
+1 ex mtu number
+0 ex route list
+4 ex dest text
+4 ex id number
+- m ll texts
+- m k list
+8 m dec decimal
+8 m on flag
+8 m mode names
+8 m caps bits
+8 m nil empty
+8 m in list
+14 m k text
+14 m nums numbers
+- m _x-1.b container
+- ex ll text
+- m big wide
+"#;
+
+fn shape_of(word: &str) -> Shape {
+    match word {
+        "container" => Shape::Container,
+        "number" => Shape::Number,
+        "decimal" => Shape::Decimal,
+        "flag" => Shape::Flag,
+        "names" => Shape::Names,
+        "bits" => Shape::Bits,
+        "empty" => Shape::Empty,
+        "texts" => Shape::Texts,
+        "numbers" => Shape::Numbers,
+        "wide" => Shape::Wide,
+        "list" => Shape::List,
+        _ => Shape::Text,
     }
-    put_keys(alloc, &mut schema, 1, &[2])?;
-    put_keys(alloc, &mut schema, 4, &[5, 6])?;
-    put_keys(alloc, &mut schema, 8, &[9, 10, 11, 12, 13])?;
-    put_keys(alloc, &mut schema, 14, &[15])?;
+}
+
+fn put_row(alloc: Global, schema: &mut Schema, row: &str) -> Result<(), Fail> {
+    let (parent, rest) = row.split_once(" ").ok_or("no row")?;
+    let (module, rest) = rest.split_once(" ").ok_or("no row")?;
+    let (name, word) = rest.split_once(" ").ok_or("no row")?;
+    let parent = parent.parse::<usize>().ok();
+    put(alloc, schema, parent, module, name, shape_of(word))?;
+    Ok(())
+}
+
+fn put_all_keys(alloc: Global, schema: &mut Schema) -> Result<(), NoMemory> {
+    put_keys(alloc, schema, 1, &[2])?;
+    put_keys(alloc, schema, 4, &[5, 6])?;
+    put_keys(alloc, schema, 8, &[9, 10, 11, 12, 13])?;
+    put_keys(alloc, schema, 14, &[15])
+}
+
+fn sample(alloc: Global) -> Result<Schema, Fail> {
+    let mut schema = Schema::new(alloc, Vec::new(alloc));
+    for row in NODES.lines().skip(1) {
+        put_row(alloc, &mut schema, row)?;
+    }
+    put_all_keys(alloc, &mut schema)?;
     Ok(schema)
 }
 
-// Notes what is read of a text and written again where that isn't what is expected.
-fn note_spelled(
-    alloc: Global,
-    schema: &Schema,
-    case: &Spelled,
-    out: &mut String,
-) -> Result<(), PathFault> {
-    let path = match read_path(alloc, schema, case.0) {
-        Ok(path) => path,
-        Err(fault) => {
-            out.push_str(format!(in alloc; "{}: {fault}\n", case.0)?.as_str())?;
-            return Ok(());
-        }
-    };
-    let written = write_path(alloc, schema, &path)?;
-    if written.as_str() != case.1 || node_of(schema, &path) != Some(case.2) {
-        out.push_str(format!(in alloc; "{}: {written}\n", case.0)?.as_str())?;
+// The text that is written of a path, and the number of its node.
+fn written(alloc: Global, schema: &Schema, path: &Path) -> Result<String, NoMemory> {
+    let text = write_path(alloc, schema, path)?;
+    match node_of(schema, path) {
+        Some(node) => Ok(format!(in alloc; "{text} => {node}")?),
+        None => Ok(format!(in alloc; "{text} => none")?),
     }
-    let again = read_path(alloc, schema, written.as_str())?;
-    if write_path(alloc, schema, &again)?.as_str() != case.1 {
-        out.push_str(format!(in alloc; "{written}, again\n")?.as_str())?;
+}
+
+// The same of the path that a text spells, or why it spells none.
+fn told(alloc: Global, schema: &Schema, text: &str) -> Result<String, NoMemory> {
+    match read_path(alloc, schema, text) {
+        Ok(path) => written(alloc, schema, &path),
+        Err(PathFault::Unknown) => Ok(String::from_str(alloc, "unknown")?),
+        Err(PathFault::BadText) => Ok(String::from_str(alloc, "bad text")?),
+        Err(PathFault::NoMemory) => Err(NoMemory),
+    }
+}
+
+fn check(rt: &impl Abort, alloc: Global, schema: &Schema, rows: &str) -> Result<(), Fail> {
+    for row in rows.lines().skip(1) {
+        let (text, expected) = row.split_once(" => ").ok_or("no row")?;
+        let found = told(alloc, schema, text)?;
+        assert_eq!(rt; found.as_str(), expected, "{text}");
     }
     Ok(())
+}
+
+fn check_apart(
+    rt: &impl Abort,
+    alloc: Global,
+    schema: &Schema,
+    rows: &[Apart],
+) -> Result<(), Fail> {
+    for (text, expected) in rows {
+        let found = told(alloc, schema, text)?;
+        assert_eq!(rt; found.as_str(), *expected, "{text}");
+    }
+    Ok(())
+}
+
+// What is written spells the same path.
+fn check_again(rt: &impl Abort, alloc: Global, schema: &Schema, rows: &str) -> Result<(), Fail> {
+    for row in rows.lines().skip(1) {
+        let (_, expected) = row.split_once(" => ").ok_or("no row")?;
+        let (text, _) = expected.split_once(" => ").ok_or("no row")?;
+        let found = told(alloc, schema, text)?;
+        assert_eq!(rt; found.as_str(), expected, "{text}");
+    }
+    Ok(())
+}
+
+fn check_both(rt: &impl Abort, alloc: Global, schema: &Schema, rows: &str) -> Result<(), Fail> {
+    check(rt, alloc, schema, rows)?;
+    check_again(rt, alloc, schema, rows)
+}
+
+fn check_spelled(rt: &impl Abort, alloc: Global, schema: &Schema) -> Result<(), Fail> {
+    check_both(rt, alloc, schema, NAMES)?;
+    check_both(rt, alloc, schema, QUOTED)?;
+    check_both(rt, alloc, schema, KEYED)?;
+    check_both(rt, alloc, schema, VALUES)?;
+    check_apart(rt, alloc, schema, QUOTED_APART)
 }
 
 // Each of these texts spells the path whose text stands beside it, and so does that text.
 #[test]
 fn paths_are_read_and_written(rt: HostRuntime) -> Result<(), Fail> {
     let schema = sample(rt.alloc())?;
-    let mut out = String::new(rt.alloc());
-    for table in [NAMES, QUOTED, KEYED, VALUES] {
-        for case in table {
-            note_spelled(rt.alloc(), &schema, case, &mut out)?;
-        }
-    }
-    assert_eq!(rt; out.as_str(), "");
-    Ok(())
+    check_spelled(&rt, rt.alloc(), &schema)
 }
 
-// Notes what is read of a text where that isn't the fault that is expected.
-fn note_refused(
-    alloc: Global,
-    schema: &Schema,
-    text: &str,
-    fault: PathFault,
-    out: &mut String,
-) -> Result<(), NoMemory> {
-    match read_path(alloc, schema, text) {
-        Ok(_) => out.push_str(format!(in alloc; "{text}: a path\n")?.as_str())?,
-        Err(found) if found != fault => {
-            out.push_str(format!(in alloc; "{text}: {found}\n")?.as_str())?
-        }
-        Err(_) => {}
-    }
-    Ok(())
+fn check_refused(rt: &impl Abort, alloc: Global, schema: &Schema) -> Result<(), Fail> {
+    check(rt, alloc, schema, MISFORMED)?;
+    check(rt, alloc, schema, MISKEYED)?;
+    check(rt, alloc, schema, LOST)?;
+    check_apart(rt, alloc, schema, MISFORMED_APART)
 }
 
 // Each of these texts is refused for the cause that stands beside it.
 #[test]
 fn other_texts_are_refused(rt: HostRuntime) -> Result<(), Fail> {
     let schema = sample(rt.alloc())?;
-    let mut out = String::new(rt.alloc());
-    for table in [MISFORMED, MISKEYED, LOST] {
-        for (text, fault) in table {
-            note_refused(rt.alloc(), &schema, text, *fault, &mut out)?;
-        }
-    }
-    assert_eq!(rt; out.as_str(), "");
-    Ok(())
+    check_refused(&rt, rt.alloc(), &schema)
 }
 
 fn step(alloc: Global, module: &str, name: &str, chosen: Chosen) -> Result<Step, NoMemory> {
@@ -280,65 +329,57 @@ fn inside(alloc: Global, module: &str, name: &str, pick: Pick) -> Result<Path, N
     Ok(Path { steps })
 }
 
+fn pick_of(word: &str) -> Pick {
+    match word {
+        "no" => Pick::Keys(&[]),
+        "1" => Pick::Keys(&[1]),
+        "1,2" => Pick::Keys(&[1, 2]),
+        ".1" => Pick::Entry(1),
+        ".-1" => Pick::Entry(-1),
+        _ => Pick::Whole,
+    }
+}
+
 // A bare list is its name alone; of what no node names nothing is written, and keys past the values are left out (this
-// project's own).
+// project's own). In each line a module, a name and the keys or the entry that are chosen.
+const PICKED: &str = r#"
+ex iface whole => /ex:sys/iface => 1
+ex iface 1 => /ex:sys/iface[name='1'] => 1
+ex iface 1,2 => /ex:sys/iface[name='1'] => 1
+ex iface no => /ex:sys/iface => 1
+ex iface .-1 => /ex:sys/iface[.='-1'] => 1
+ex route 1,2 => /ex:sys/route[dest='1'][id='2'] => 4
+ex route 1 => /ex:sys/route[dest='1'] => 4
+ex nope 1 => /ex:sys/nope => none
+m iface 1 => /ex:sys/iface => none
+m iface .1 => /ex:sys/iface[.='1'] => none
+"#;
+
+fn picked(alloc: Global, schema: &Schema, text: &str) -> Result<String, Fail> {
+    let (module, rest) = text.split_once(" ").ok_or("no row")?;
+    let (name, word) = rest.split_once(" ").ok_or("no row")?;
+    let path = inside(alloc, module, name, pick_of(word))?;
+    Ok(written(alloc, schema, &path)?)
+}
+
+fn check_picked(rt: &impl Abort, alloc: Global, schema: &Schema) -> Result<(), Fail> {
+    for row in PICKED.lines().skip(1) {
+        let (text, expected) = row.split_once(" => ").ok_or("no row")?;
+        let found = picked(alloc, schema, text)?;
+        assert_eq!(rt; found.as_str(), expected, "{text}");
+    }
+    Ok(())
+}
+
 #[test]
 fn other_paths_are_written(rt: HostRuntime) -> Result<(), Fail> {
-    let alloc = rt.alloc();
-    let schema = sample(alloc)?;
-    for (module, name, pick, want, node) in [
-        ("ex", "iface", Pick::Whole, "/ex:sys/iface", Some(1)),
-        (
-            "ex",
-            "iface",
-            Pick::Keys(&[1]),
-            "/ex:sys/iface[name='1']",
-            Some(1),
-        ),
-        (
-            "ex",
-            "iface",
-            Pick::Keys(&[1, 2]),
-            "/ex:sys/iface[name='1']",
-            Some(1),
-        ),
-        ("ex", "iface", Pick::Keys(&[]), "/ex:sys/iface", Some(1)),
-        (
-            "ex",
-            "iface",
-            Pick::Entry(-1),
-            "/ex:sys/iface[.='-1']",
-            Some(1),
-        ),
-        (
-            "ex",
-            "route",
-            Pick::Keys(&[1, 2]),
-            "/ex:sys/route[dest='1'][id='2']",
-            Some(4),
-        ),
-        (
-            "ex",
-            "route",
-            Pick::Keys(&[1]),
-            "/ex:sys/route[dest='1']",
-            Some(4),
-        ),
-        ("ex", "nope", Pick::Keys(&[1]), "/ex:sys/nope", None),
-        ("m", "iface", Pick::Keys(&[1]), "/ex:sys/iface", None),
-        ("m", "iface", Pick::Entry(1), "/ex:sys/iface[.='1']", None),
-    ]
-    .as_slice()
-    {
-        let path = inside(alloc, module, name, *pick)?;
-        assert_eq!(rt; write_path(alloc, &schema, &path)?.as_str(), *want);
-        assert_eq!(rt; node_of(&schema, &path), *node, "{name}");
-    }
+    let schema = sample(rt.alloc())?;
+    check_picked(&rt, rt.alloc(), &schema)?;
     let top = Path {
-        steps: Vec::new(alloc),
+        steps: Vec::new(rt.alloc()),
     };
-    assert_eq!(rt; write_path(alloc, &schema, &top)?.as_str(), "");
-    assert_eq!(rt; node_of(&schema, &top), None);
+    let found = written(rt.alloc(), &schema, &top)?;
+    assert_eq!(rt; found.as_str(), " => none");
     laws::one_path();
     laws::full_paths();
     Ok(())

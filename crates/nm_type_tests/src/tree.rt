@@ -1,7 +1,8 @@
 use nm_base::{Groups, Label, NoMemory, Numbers};
 use nm_tree::{CaseNode, ChoiceNode, Elements, Node, NodeKind, Reference, Schema, SharedType};
 use nm_types::{LeafType, TypeKind};
-use std::alloc::Global;
+use std::alloc::{AllocError, Global};
+use std::process::Abort;
 use std::test::Fail;
 
 #[derive(Clone, Copy)]
@@ -49,7 +50,7 @@ fn put(
     module: &str,
     name: &str,
     shape: Shape,
-) -> Result<Option<usize>, NoMemory> {
+) -> Result<(), NoMemory> {
     let node = Node {
         parent,
         case_in: None,
@@ -57,90 +58,139 @@ fn put(
         name: Label::new(alloc, name)?,
         kind: kind_of(alloc, shape)?,
     };
-    if !schema.takes(&node) {
-        return Ok(None);
-    }
-    match schema.push(node) {
-        Ok(at) => Ok(Some(at)),
-        Err(error) => Err(error),
-    }
-}
-
-// The list `ports` of module a with its key `name`, a container of that name in module b, and doubles.
-fn sample(alloc: Global) -> Result<Schema, NoMemory> {
-    let mut schema = Schema::new(alloc, Vec::new(alloc));
-    for (parent, module, name, shape) in [
-        (None, "a", "ports", Shape::List),
-        (Some(0), "a", "speed", Shape::Leaf),
-        (Some(0), "a", "name", Shape::Leaf),
-        (Some(0), "a", "name", Shape::Container),
-        (None, "b", "ports", Shape::Container),
-        (Some(4), "b", "name", Shape::Leaf),
-        (None, "a", "ports", Shape::Container),
-        (Some(4), "a", "other", Shape::Leaf),
-        (Some(9), "a", "other", Shape::Leaf),
-    ]
-    .as_slice()
-    {
-        put(alloc, &mut schema, *parent, module, name, *shape)?;
-    }
-    Ok(schema)
-}
-
-// RFC 7950 section 5.5: names at the top belong to their module. A node of another module and one below no node aren't
-// taken.
-#[test]
-fn nodes_are_found_by_their_names(rt: HostRuntime) -> Result<(), Fail> {
-    let schema = sample(rt.alloc())?;
-    assert_eq!(rt; schema.len(), 7);
-    for (module, name, want) in [
-        ("a", "ports", Some(0)),
-        ("b", "ports", Some(4)),
-        ("c", "ports", None),
-        ("a", "name", None),
-    ]
-    .as_slice()
-    {
-        assert_eq!(rt; schema.top(module, name), *want, "{module} {name}");
-    }
-    for (node, name, want) in [
-        (0, "name", Some(2)),
-        (0, "speed", Some(1)),
-        (4, "name", Some(5)),
-        (4, "speed", None),
-        (5, "name", None),
-        (9, "name", None),
-    ]
-    .as_slice()
-    {
-        assert_eq!(rt; schema.child(*node, name), *want, "{node} {name}");
+    if schema.takes(&node) {
+        schema.push(node)?;
     }
     Ok(())
 }
 
-// RFC 7950 section 7.8.2: the leafs that the key statement names are keys of their list.
-#[test]
-fn keys_are_told(rt: HostRuntime) -> Result<(), Fail> {
-    let mut schema = sample(rt.alloc())?;
-    let mut keys = Numbers::new(rt.alloc());
-    keys.push(2)?;
-    if schema.len() > 0 {
-        schema.set_keys(0, keys, Groups::new(rt.alloc()));
+// The list `ports` of module a with its key `name`, a container of that name in module b, and doubles: the node that each node
+// stands in, its module, its name and its shape.
+const NODES: &str = r#"
+- a ports list
+0 a speed leaf
+0 a name leaf
+0 a name container
+- b ports container
+4 b name leaf
+- a ports container
+4 a other leaf
+9 a other leaf
+"#;
+
+fn shape_of(word: &str) -> Shape {
+    match word {
+        "container" => Shape::Container,
+        "list" => Shape::List,
+        _ => Shape::Leaf,
     }
-    for (node, is_key, below, has_type) in [
-        (0, false, 3, false),
-        (1, false, 0, true),
-        (2, true, 0, true),
-        (4, false, 1, false),
-        (5, false, 0, true),
-        (9, false, 0, false),
-    ]
-    .as_slice()
-    {
+}
+
+fn put_row(alloc: Global, schema: &mut Schema, row: &str) -> Result<(), Fail> {
+    let (parent, rest) = row.split_once(" ").ok_or("no row")?;
+    let (module, rest) = rest.split_once(" ").ok_or("no row")?;
+    let (name, word) = rest.split_once(" ").ok_or("no row")?;
+    let parent = parent.parse::<usize>().ok();
+    put(alloc, schema, parent, module, name, shape_of(word))?;
+    Ok(())
+}
+
+fn sample(alloc: Global) -> Result<Schema, Fail> {
+    let mut schema = Schema::new(alloc, Vec::new(alloc));
+    for row in NODES.lines().skip(1) {
+        put_row(alloc, &mut schema, row)?;
+    }
+    Ok(schema)
+}
+
+fn number_text(alloc: Global, number: Option<usize>) -> Result<String, AllocError> {
+    match number {
+        None => String::from_str(alloc, "none"),
+        Some(number) => format!(in alloc; "{number}"),
+    }
+}
+
+// RFC 7950 section 5.5: names at the top belong to their module.
+const TOPS: &str = r#"
+a ports => 0
+b ports => 4
+c ports => none
+a name => none
+"#;
+
+fn check_tops(rt: &impl Abort, alloc: Global, schema: &Schema) -> Result<(), Fail> {
+    for row in TOPS.lines().skip(1) {
+        let (text, expected) = row.split_once(" => ").ok_or("no row")?;
+        let (module, name) = text.split_once(" ").ok_or("no row")?;
+        let found = number_text(alloc, schema.top(module, name))?;
+        assert_eq!(rt; found.as_str(), expected, "{text}");
+    }
+    Ok(())
+}
+
+const CHILDREN: &str = r#"
+0 name => 2
+0 speed => 1
+4 name => 5
+4 speed => none
+5 name => none
+9 name => none
+"#;
+
+fn check_children(rt: &impl Abort, alloc: Global, schema: &Schema) -> Result<(), Fail> {
+    for row in CHILDREN.lines().skip(1) {
+        let (text, expected) = row.split_once(" => ").ok_or("no row")?;
+        let (node, name) = text.split_once(" ").ok_or("no row")?;
+        let node = node.parse::<usize>()?;
+        let found = number_text(alloc, schema.child(node, name))?;
+        assert_eq!(rt; found.as_str(), expected, "{text}");
+    }
+    Ok(())
+}
+
+// A node of another module and one below no node aren't taken.
+#[test]
+fn nodes_are_found_by_their_names(rt: HostRuntime) -> Result<(), Fail> {
+    let schema = sample(rt.alloc())?;
+    assert_eq!(rt; schema.len(), 7);
+    check_tops(&rt, rt.alloc(), &schema)?;
+    check_children(&rt, rt.alloc(), &schema)
+}
+
+// The same tree, whose list has a key.
+fn keyed(alloc: Global) -> Result<Schema, Fail> {
+    let mut keys = Numbers::new(alloc);
+    keys.push(2)?;
+    let mut schema = sample(alloc)?;
+    if schema.len() > 0 {
+        schema.set_keys(0, keys, Groups::new(alloc));
+    }
+    Ok(schema)
+}
+
+// RFC 7950 section 7.8.2: the leafs that the key statement names are keys of their list. A node, whether it is a key, how many
+// nodes stand in it, and whether it has a type.
+const KEYS: [(usize, bool, usize, bool); 6] = [
+    (0, false, 3, false),
+    (1, false, 0, true),
+    (2, true, 0, true),
+    (4, false, 1, false),
+    (5, false, 0, true),
+    (9, false, 0, false),
+];
+
+fn check_keys(rt: &impl Abort, schema: &Schema) {
+    for (node, is_key, below, has_type) in &KEYS {
         assert_eq!(rt; schema.is_key(*node), *is_key, "{node}");
         assert_eq!(rt; schema.below(*node).len(), *below, "{node}");
         assert_eq!(rt; schema.leaf_type(*node).is_some(), *has_type, "{node}");
     }
+}
+
+#[test]
+fn keys_are_told(rt: HostRuntime) -> Result<(), Fail> {
+    let schema = keyed(rt.alloc())?;
+    check_keys(&rt, &schema);
     Ok(())
 }
 
@@ -166,15 +216,19 @@ fn references_are_set(rt: HostRuntime) -> Result<(), Fail> {
 
 // RFC 7950 section 7.9: in the container of module b the choice `how` with the cases `fixed` and `other`, and in `other`
 // the choice `kind` with the case `plain`. Choices of a case that isn't there and cases of such a choice aren't put.
-fn with_choices(alloc: Global) -> Result<Schema, NoMemory> {
+fn put_choices(alloc: Global, schema: &mut Schema) -> Result<(), NoMemory> {
+    put_choice(alloc, schema, None, "how")?;
+    put_case(alloc, schema, 0, "fixed")?;
+    put_case(alloc, schema, 0, "other")?;
+    put_choice(alloc, schema, Some(1), "kind")?;
+    put_case(alloc, schema, 1, "plain")?;
+    put_choice(alloc, schema, Some(3), "lost")?;
+    put_case(alloc, schema, 2, "lost")
+}
+
+fn with_choices(alloc: Global) -> Result<Schema, Fail> {
     let mut schema = sample(alloc)?;
-    put_choice(alloc, &mut schema, None, "how")?;
-    put_case(alloc, &mut schema, 0, "fixed")?;
-    put_case(alloc, &mut schema, 0, "other")?;
-    put_choice(alloc, &mut schema, Some(1), "kind")?;
-    put_case(alloc, &mut schema, 1, "plain")?;
-    put_choice(alloc, &mut schema, Some(3), "lost")?;
-    put_case(alloc, &mut schema, 2, "lost")?;
+    put_choices(alloc, &mut schema)?;
     Ok(schema)
 }
 
@@ -209,46 +263,58 @@ fn put_case(alloc: Global, schema: &mut Schema, choice: usize, name: &str) -> Re
 }
 
 // RFC 7950 section 7.9: cases are of choices, and choices may stand in cases.
-#[test]
-fn cases_lead_outwards(rt: HostRuntime) -> Result<(), Fail> {
-    let schema = with_choices(rt.alloc())?;
+const CASES: [(usize, Option<usize>, Option<usize>); 4] = [
+    (0, Some(0), None),
+    (1, Some(0), None),
+    (2, Some(1), Some(1)),
+    (3, None, None),
+];
+
+fn check_cases(rt: &impl Abort, schema: &Schema) {
     assert_eq!(rt; schema.choices().len(), 2);
     assert_eq!(rt; schema.cases().len(), 3);
-    for (case, choice, outer) in [
-        (0, Some(0), None),
-        (1, Some(0), None),
-        (2, Some(1), Some(1)),
-        (3, None, None),
-    ]
-    .as_slice()
-    {
+    for (case, choice, outer) in &CASES {
         assert_eq!(rt; schema.choice_of(*case), *choice, "{case}");
         assert_eq!(rt; schema.outer_case(*case), *outer, "{case}");
     }
+}
+
+#[test]
+fn cases_lead_outwards(rt: HostRuntime) -> Result<(), Fail> {
+    let schema = with_choices(rt.alloc())?;
+    check_cases(&rt, &schema);
     Ok(())
 }
 
-// RFC 7950 sections 7.6 and 7.8: what a leaf, a list and a container say of themselves.
+// RFC 7950 sections 7.6 and 7.8: what a leaf, a list and a container say of themselves: a node, its parent, whether it is a guard.
+const SAID: [(usize, Option<usize>, bool); 4] = [
+    (0, None, true),
+    (1, Some(0), false),
+    (4, None, false),
+    (9, None, false),
+];
+
+fn says_nothing_more(schema: &Schema, node: usize) -> bool {
+    schema.case_in(node).is_none()
+        && schema.default(node).is_none()
+        && schema.reference(node).is_none()
+        && schema.elements(node).min.is_none()
+        && !schema.is_mandatory(node)
+        && schema.keys(node).is_empty()
+        && schema.uniques(node).is_empty()
+}
+
+fn check_said(rt: &impl Abort, schema: &Schema) {
+    for (node, parent, is_guard) in &SAID {
+        assert_eq!(rt; schema.parent(*node), *parent, "{node}");
+        assert_eq!(rt; schema.is_guard(*node), *is_guard, "{node}");
+        assert!(rt; says_nothing_more(schema, *node), "{node}");
+    }
+}
+
 #[test]
 fn nodes_say_what_they_are(rt: HostRuntime) -> Result<(), Fail> {
     let schema = sample(rt.alloc())?;
-    for (node, parent, is_guard) in [
-        (0, None, true),
-        (1, Some(0), false),
-        (4, None, false),
-        (9, None, false),
-    ]
-    .as_slice()
-    {
-        assert_eq!(rt; schema.parent(*node), *parent, "{node}");
-        assert_eq!(rt; schema.is_guard(*node), *is_guard, "{node}");
-        assert!(rt; schema.case_in(*node).is_none(), "{node}");
-        assert!(rt; schema.default(*node).is_none(), "{node}");
-        assert!(rt; schema.reference(*node).is_none(), "{node}");
-        assert!(rt; schema.elements(*node).min.is_none(), "{node}");
-        assert!(rt; !schema.is_mandatory(*node), "{node}");
-        assert!(rt; schema.keys(*node).is_empty(), "{node}");
-        assert!(rt; schema.uniques(*node).is_empty(), "{node}");
-    }
+    check_said(&rt, &schema);
     Ok(())
 }

@@ -7,6 +7,7 @@ use nm_types::{
 };
 use std::alloc::Global;
 use std::cmp::Ordering;
+use std::process::Abort;
 use std::test::Fail;
 
 const BAD: &str = "bad text";
@@ -42,157 +43,156 @@ fn limited(alloc: Global, kind: TypeKind, parts: &[(i128, i128)]) -> Result<Leaf
     })
 }
 
-// RFC 7950 section 9.2: the ends of each width, signs and leading zeros.
-#[test]
-fn integers(rt: HostRuntime) -> Result<(), Fail> {
-    let cases = [
-        (-128, 127, "127", "127"),
-        (-128, 127, "-128", "-128"),
-        (-128, 127, "128", OUT),
-        (-128, 127, "-129", OUT),
-        (-32768, 32767, "-32768", "-32768"),
-        (-32768, 32767, "32768", OUT),
-        (-2147483648, 2147483647, "2147483647", "2147483647"),
-        (-2147483648, 2147483647, "-2147483649", OUT),
-        (
-            -9223372036854775808,
-            9223372036854775807,
-            "-9223372036854775808",
-            "-9223372036854775808",
-        ),
-        (
-            -9223372036854775808,
-            9223372036854775807,
-            "9223372036854775808",
-            OUT,
-        ),
-        (0, 255, "255", "255"),
-        (0, 255, "256", OUT),
-        (0, 255, "-1", OUT),
-        (0, 65535, "65536", OUT),
-        (0, 4294967295, "4294967295", "4294967295"),
-        (
-            0,
-            18446744073709551615,
-            "18446744073709551615",
-            "18446744073709551615",
-        ),
-        (0, 18446744073709551615, "18446744073709551616", OUT),
-        (0, 255, "1000000000000000000000000000000000000000000", OUT),
-        (-128, 127, "+5", "5"),
-        (-128, 127, "007", "7"),
-        (-128, 127, "-0", "0"),
-        (-128, 127, "", BAD),
-        (-128, 127, "-", BAD),
-        (-128, 127, "+-1", BAD),
-        (-128, 127, " 1", BAD),
-        (-128, 127, "0x10", BAD),
-    ];
-    for (low, high, text, expected) in cases {
-        let int = limited(rt.alloc(), TypeKind::Integer { low, high }, &[])?;
-        assert_eq!(rt;
-            shown(rt.alloc(), &int, text)?.as_str(),
-            expected,
-            "at {text}"
-        );
+fn integer(low: i128, high: i128) -> TypeKind {
+    TypeKind::Integer { low, high }
+}
+
+// The integers of RFC 7950 section 9.2, and a decimal by its fraction digits.
+fn number_kind(word: &str) -> TypeKind {
+    match word {
+        "int8" => integer(-128, 127),
+        "int16" => integer(-32768, 32767),
+        "int32" => integer(-2147483648, 2147483647),
+        "int64" => integer(-9223372036854775808, 9223372036854775807),
+        "uint8" => integer(0, 255),
+        "uint16" => integer(0, 65535),
+        "uint32" => integer(0, 4294967295),
+        "uint64" => integer(0, 18446744073709551615),
+        "1" => TypeKind::Decimal { digits: 1 },
+        "2" => TypeKind::Decimal { digits: 2 },
+        _ => TypeKind::Decimal { digits: 18 },
+    }
+}
+
+// Rows of a text, and what it spells in a type.
+fn check(rt: &impl Abort, alloc: Global, leaf_type: &LeafType, rows: &str) -> Result<(), Fail> {
+    for row in rows.lines().skip(1) {
+        let (text, expected) = row.split_once(" => ").ok_or("no row")?;
+        let found = shown(alloc, leaf_type, text)?;
+        assert_eq!(rt; found.as_str(), expected, "at {text}");
     }
     Ok(())
+}
+
+fn number_shown(alloc: Global, word: &str, text: &str) -> Result<Label, Fail> {
+    let leaf_type = limited(alloc, number_kind(word), &[])?;
+    Ok(shown(alloc, &leaf_type, text)?)
+}
+
+// Rows of a type, a text, and what it spells in it.
+fn check_numbers(rt: &impl Abort, alloc: Global, rows: &str) -> Result<(), Fail> {
+    for row in rows.lines().skip(1) {
+        let (word, rest) = row.split_once(" => ").ok_or("no row")?;
+        let (text, expected) = rest.split_once(" => ").ok_or("no row")?;
+        let found = number_shown(alloc, word, text)?;
+        assert_eq!(rt; found.as_str(), expected, "at {text}");
+    }
+    Ok(())
+}
+
+// RFC 7950 section 9.2: the ends of each width, signs and leading zeros.
+const INTEGERS: &str = r#"
+int8 => 127 => 127
+int8 => -128 => -128
+int8 => 128 => out of range
+int8 => -129 => out of range
+int16 => -32768 => -32768
+int16 => 32768 => out of range
+int32 => 2147483647 => 2147483647
+int32 => -2147483649 => out of range
+int64 => -9223372036854775808 => -9223372036854775808
+int64 => 9223372036854775808 => out of range
+uint8 => 255 => 255
+uint8 => 256 => out of range
+uint8 => -1 => out of range
+uint16 => 65536 => out of range
+uint32 => 4294967295 => 4294967295
+uint64 => 18446744073709551615 => 18446744073709551615
+uint64 => 18446744073709551616 => out of range
+uint8 => 1000000000000000000000000000000000000000000 => out of range
+int8 => +5 => 5
+int8 => 007 => 7
+int8 => -0 => 0
+int8 =>  => bad text
+int8 => - => bad text
+int8 => +-1 => bad text
+int8 =>  1 => bad text
+int8 => 0x10 => bad text
+"#;
+
+#[test]
+fn integers(rt: HostRuntime) -> Result<(), Fail> {
+    check_numbers(&rt, rt.alloc(), INTEGERS)
 }
 
 // RFC 7950 section 9.2.4: a value is within one of the parts, their ends included.
+const RANGES: &str = r#"
+1 => 1
+4 => 4
+10 => 10
+22 => 22
+0 => out of range
+5 => out of range
+21 => out of range
+101 => out of range
+"#;
+
 #[test]
 fn ranges(rt: HostRuntime) -> Result<(), Fail> {
-    let kind = TypeKind::Integer {
-        low: -128,
-        high: 127,
-    };
-    let narrowed = limited(rt.alloc(), kind, &[(1, 4), (10, 20), (22, 22)])?;
-    let cases = [
-        ("1", "1"),
-        ("4", "4"),
-        ("10", "10"),
-        ("22", "22"),
-        ("0", OUT),
-        ("5", OUT),
-        ("21", OUT),
-        ("101", OUT),
-    ];
-    for (text, expected) in cases {
-        assert_eq!(rt;
-            shown(rt.alloc(), &narrowed, text)?.as_str(),
-            expected,
-            "at {text}"
-        );
-    }
-    Ok(())
+    let parts = [(1, 4), (10, 20), (22, 22)];
+    let narrowed = limited(rt.alloc(), integer(-128, 127), &parts)?;
+    check(&rt, rt.alloc(), &narrowed, RANGES)
 }
 
 // RFC 7950 section 9.3: digits at both ends of 64 bits, for 1 and for 18 fraction digits.
+const DECIMALS: &str = r#"
+1 => 922337203685477580.7 => 922337203685477580.7
+1 => -922337203685477580.8 => -922337203685477580.8
+1 => 922337203685477580.8 => out of range
+18 => 9.223372036854775807 => 9.223372036854775807
+18 => -9.223372036854775808 => -9.223372036854775808
+18 => 9.223372036854775808 => out of range
+2 => 3.14 => 3.14
+2 => +3.1400 => 3.14
+2 => 10 => 10.0
+2 => -0.50 => -0.5
+2 => -0 => 0.0
+2 => 007.1 => 7.1
+2 => 3.141 => bad text
+2 => 3. => bad text
+2 => .5 => bad text
+2 => 1.2.3 => bad text
+2 => 1e3 => bad text
+"#;
+
 #[test]
 fn decimals(rt: HostRuntime) -> Result<(), Fail> {
-    let cases = [
-        (1, "922337203685477580.7", "922337203685477580.7"),
-        (1, "-922337203685477580.8", "-922337203685477580.8"),
-        (1, "922337203685477580.8", OUT),
-        (18, "9.223372036854775807", "9.223372036854775807"),
-        (18, "-9.223372036854775808", "-9.223372036854775808"),
-        (18, "9.223372036854775808", OUT),
-        (2, "3.14", "3.14"),
-        (2, "+3.1400", "3.14"),
-        (2, "10", "10.0"),
-        (2, "-0.50", "-0.5"),
-        (2, "-0", "0.0"),
-        (2, "007.1", "7.1"),
-        (2, "3.141", BAD),
-        (2, "3.", BAD),
-        (2, ".5", BAD),
-        (2, "1.2.3", BAD),
-        (2, "1e3", BAD),
-    ];
-    for (digits, text, expected) in cases {
-        let decimal = limited(rt.alloc(), TypeKind::Decimal { digits }, &[])?;
-        assert_eq!(rt;
-            shown(rt.alloc(), &decimal, text)?.as_str(),
-            expected,
-            "at {text}"
-        );
-    }
-    Ok(())
+    check_numbers(&rt, rt.alloc(), DECIMALS)
 }
 
 // RFC 7950 sections 9.4.4, 9.5 and 9.11: a length counts characters, of 1 to 4 bytes.
+const TEXTS: &str = "
+aé€😀 => aé€😀
+abcde => out of range
+ => out of range
+ a\t =>  a\t
+";
+
+const BOOLEANS: &str = r#"
+true => true
+false => false
+True => bad text
+1 => bad text
+"#;
+
 #[test]
 fn texts(rt: HostRuntime) -> Result<(), Fail> {
     let string = limited(rt.alloc(), TypeKind::Text, &[(1, 4)])?;
-    for (text, expected) in [
-        ("aé€😀", "aé€😀"),
-        ("abcde", OUT),
-        ("", OUT),
-        (" a\t", " a\t"),
-    ] {
-        assert_eq!(rt;
-            shown(rt.alloc(), &string, text)?.as_str(),
-            expected,
-            "at {text}"
-        );
-    }
+    check(&rt, rt.alloc(), &string, TEXTS)?;
     let boolean = limited(rt.alloc(), TypeKind::Boolean, &[])?;
-    for (text, expected) in [
-        ("true", "true"),
-        ("false", "false"),
-        ("True", BAD),
-        ("1", BAD),
-    ] {
-        assert_eq!(rt;
-            shown(rt.alloc(), &boolean, text)?.as_str(),
-            expected,
-            "at {text}"
-        );
-    }
+    check(&rt, rt.alloc(), &boolean, BOOLEANS)?;
     let empty = limited(rt.alloc(), TypeKind::Empty, &[])?;
-    assert_eq!(rt; shown(rt.alloc(), &empty, "")?.as_str(), "");
-    assert_eq!(rt; shown(rt.alloc(), &empty, "x")?.as_str(), BAD);
-    Ok(())
+    check(&rt, rt.alloc(), &empty, "\n => \nx => bad text\n")
 }
 
 fn labels(alloc: Global, texts: &[&str]) -> Result<Vec<Label>, NoMemory> {
@@ -204,18 +204,18 @@ fn labels(alloc: Global, texts: &[&str]) -> Result<Vec<Label>, NoMemory> {
 }
 
 // RFC 7950 section 9.6.4.
+const NAMES: &str = r#"
+one => one
+zero => zero
+two => bad text
+ => bad text
+"#;
+
 #[test]
 fn names(rt: HostRuntime) -> Result<(), Fail> {
     let names = once(rt.alloc(), labels(rt.alloc(), &["zero", "one"])?)?;
     let enumeration = limited(rt.alloc(), TypeKind::Names(names), &[])?;
-    for (text, expected) in [("one", "one"), ("zero", "zero"), ("two", BAD), ("", BAD)] {
-        assert_eq!(rt;
-            shown(rt.alloc(), &enumeration, text)?.as_str(),
-            expected,
-            "at {text}"
-        );
-    }
-    Ok(())
+    check(&rt, rt.alloc(), &enumeration, NAMES)
 }
 
 // Names that are each once; none, where one comes again.
@@ -228,32 +228,23 @@ fn once(alloc: Global, names: Vec<Label>) -> Result<Names, NoMemory> {
 }
 
 // RFC 7950 section 9.7.5: bits in any order.
+const BITS: &str = "
+ => 
+ten-mb-only => ten-mb-only
+ten-mb-only  disable-nagle => disable-nagle ten-mb-only
+ten-mb-only auto-sense-speed disable-nagle => disable-nagle auto-sense-speed ten-mb-only
+ten-mb-only ten-mb-only => bad text
+ten-mb-only\tdisable-nagle => bad text
+ ten-mb-only => bad text
+other => bad text
+";
+
 #[test]
 fn bits(rt: HostRuntime) -> Result<(), Fail> {
     let all = ["disable-nagle", "auto-sense-speed", "ten-mb-only"];
     let bits = once(rt.alloc(), labels(rt.alloc(), &all)?)?;
     let flags = limited(rt.alloc(), TypeKind::Bits(bits), &[])?;
-    let cases = [
-        ("", ""),
-        ("ten-mb-only", "ten-mb-only"),
-        ("ten-mb-only  disable-nagle", "disable-nagle ten-mb-only"),
-        (
-            "ten-mb-only auto-sense-speed disable-nagle",
-            "disable-nagle auto-sense-speed ten-mb-only",
-        ),
-        ("ten-mb-only ten-mb-only", BAD),
-        ("ten-mb-only\tdisable-nagle", BAD),
-        (" ten-mb-only", BAD),
-        ("other", BAD),
-    ];
-    for (text, expected) in cases {
-        assert_eq!(rt;
-            shown(rt.alloc(), &flags, text)?.as_str(),
-            expected,
-            "at {text}"
-        );
-    }
-    Ok(())
+    check(&rt, rt.alloc(), &flags, BITS)
 }
 
 fn keyed(alloc: Global, key: Value) -> Result<Chosen, NoMemory> {
@@ -280,65 +271,93 @@ fn chosen(alloc: Global, key: Key) -> Result<Chosen, NoMemory> {
     }
 }
 
-fn path(alloc: Global, names: &[&str], key: Key) -> Result<Path, NoMemory> {
+fn key_of(word: &str) -> Key {
+    match word {
+        "-9" => Key::Number(-9),
+        "9" => Key::Number(9),
+        "10" => Key::Number(10),
+        "last" => Key::Text("\u{ffee}"),
+        "later" => Key::Text("\u{1f600}"),
+        "false" => Key::Flag(false),
+        "true" => Key::Flag(true),
+        _ => Key::Whole,
+    }
+}
+
+fn step(alloc: Global, module: &str, name: &str, key: Key) -> Result<Step, NoMemory> {
+    Ok(Step {
+        module: Label::new(alloc, module)?,
+        name: Label::new(alloc, name)?,
+        chosen: chosen(alloc, key)?,
+    })
+}
+
+// The path of a text: the module, what its steps choose, and their names.
+fn path(alloc: Global, text: &str) -> Result<Path, NoMemory> {
+    let (module, rest) = text.split_once(" ").unwrap_or((text, ""));
+    let (word, names) = rest.split_once(" ").unwrap_or((rest, ""));
+    let names: Vec<&str> = names.split(' ').collect(alloc)?;
     let mut steps = Vec::new(alloc);
-    let module = names.first().copied().unwrap_or("");
-    for name in names.iter().skip(1) {
-        steps.push(Step {
-            module: Label::new(alloc, module)?,
-            name: Label::new(alloc, name)?,
-            chosen: chosen(alloc, key)?,
-        })?;
+    for name in &names {
+        steps.push(step(alloc, module, name, key_of(word))?)?;
     }
     Ok(Path { steps })
 }
 
-// Each path stands before the one beside it; the first name is the module's.
+// Each path stands before the one beside it.
+const ORDER: &str = r#"
+a-b whole c => a whole c
+a whole c => a whole c b
+a whole c b => a whole d
+a whole c => a -9 c
+a 9 c => a 10 c
+a last c => a later c
+a false c => a true c
+"#;
+
+// Whether a path stands before another, isn't the same, and is the same as its copy.
+fn is_before(alloc: Global, text: &str, other: &str) -> Result<bool, NoMemory> {
+    let one = path(alloc, text)?;
+    let other = path(alloc, other)?;
+    let copy = one.copy(alloc)?;
+    Ok(one.cmp(&other) == Ordering::Less && !one.same(&other) && copy.same(&one))
+}
+
 #[test]
 fn path_order(rt: HostRuntime) -> Result<(), Fail> {
-    let cases: [(&[&str], Key, &[&str], Key); 7] = [
-        (&["a-b", "c"], Key::Whole, &["a", "c"], Key::Whole),
-        (&["a", "c"], Key::Whole, &["a", "c", "b"], Key::Whole),
-        (&["a", "c", "b"], Key::Whole, &["a", "d"], Key::Whole),
-        (&["a", "c"], Key::Whole, &["a", "c"], Key::Number(-9)),
-        (&["a", "c"], Key::Number(9), &["a", "c"], Key::Number(10)),
-        (
-            &["a", "c"],
-            Key::Text("\u{ffee}"),
-            &["a", "c"],
-            Key::Text("\u{1f600}"),
-        ),
-        (&["a", "c"], Key::Flag(false), &["a", "c"], Key::Flag(true)),
-    ];
-    for (names, key, other_names, other_key) in cases {
-        let one = path(rt.alloc(), names, key)?;
-        let other = path(rt.alloc(), other_names, other_key)?;
-        assert_eq!(rt; one.cmp(&other), Ordering::Less);
-        assert!(rt; !one.same(&other));
-        assert!(rt; one.copy(rt.alloc())?.same(&one));
+    for row in ORDER.lines().skip(1) {
+        let (one, other) = row.split_once(" => ").ok_or("no row")?;
+        let found = is_before(rt.alloc(), one, other)?;
+        assert!(rt; found, "{row}");
     }
     Ok(())
 }
 
-// A path, a name more, and the path with a step of that name; the first name is the module's.
+// A path, a name more, and the path with a step of that name.
+const LONGER: &str = r#"
+a whole c => b => a whole c b
+a whole c b => c => a whole c b c
+"#;
+
+fn is_longer(alloc: Global, start: Path, name: &str, longer: &str) -> Result<bool, NoMemory> {
+    let made = start.with_step(alloc, step(alloc, "a", name, Key::Whole)?)?;
+    let longer = path(alloc, longer)?;
+    Ok(made.same(&longer))
+}
+
 #[test]
 fn longer_paths(rt: HostRuntime) -> Result<(), Fail> {
-    let cases: [(&[&str], &str, &[&str]); 3] = [
-        (&["a"], "c", &["a", "c"]),
-        (&["a", "c"], "b", &["a", "c", "b"]),
-        (&["a", "c", "b"], "c", &["a", "c", "b", "c"]),
-    ];
-    for (names, name, longer) in cases {
-        let step = Step {
-            module: Label::new(rt.alloc(), "a")?,
-            name: Label::new(rt.alloc(), name)?,
-            chosen: Chosen::Whole,
-        };
-        let made = path(rt.alloc(), names, Key::Whole)?.with_step(rt.alloc(), step)?;
-        assert!(rt;
-            made.same(&path(rt.alloc(), longer, Key::Whole)?),
-            "at {name}"
-        );
+    let alloc = rt.alloc();
+    for row in LONGER.lines().skip(1) {
+        let (text, rest) = row.split_once(" => ").ok_or("no row")?;
+        let (name, longer) = rest.split_once(" => ").ok_or("no row")?;
+        let found = is_longer(alloc, path(alloc, text)?, name, longer)?;
+        assert!(rt; found, "at {name}");
     }
+    let top = Path {
+        steps: Vec::new(alloc),
+    };
+    let found = is_longer(alloc, top, "c", "a whole c")?;
+    assert!(rt; found);
     Ok(())
 }

@@ -7,44 +7,57 @@ use nm_schema_typing::{
 };
 use nm_yang::read_module;
 use std::alloc::{AllocError, Global};
+use std::process::Abort;
 use std::test::Fail;
 
-// Paths after RFC 7950 section 9.9.2 and the grammar of section 14.
+// Paths after RFC 7950 section 9.9.2 and the grammar of section 14: how far up, 9 for no path, and how many nodes.
+const PATHS: &str = r#"
+/p:a/p:b => 0 2
+/a => 0 1
+../a => 1 1
+../../if:interface/if:name => 2 2
+ => 9 0
+/ => 9 0
+a => 9 0
+.. => 9 0
+../ => 9 0
+../a/.. => 9 0
+../a/ => 9 0
+/a//b => 9 0
+/../a => 9 0
+../ a => 9 0
+/a:b:c => 9 0
+../a[k = current()/../k]/b => 9 0
+"#;
+
+fn path_text(alloc: Global, text: &str) -> Result<String, NoMemory> {
+    let (ups, count) = match read_path(alloc, text)? {
+        None => (9, 0),
+        Some(path) => match path.start {
+            Start::Root => (0, path.nodes.len()),
+            Start::Up(up) => (up, path.nodes.len()),
+        },
+    };
+    Ok(format!(in alloc; "{ups} {count}")?)
+}
+
 #[test]
 fn paths_are_read(rt: HostRuntime) -> Result<(), Fail> {
-    for (text, ups, nodes) in [
-        ("/p:a/p:b", 0, 2),
-        ("/a", 0, 1),
-        ("../a", 1, 1),
-        ("../../if:interface/if:name", 2, 2),
-        ("", 9, 0),
-        ("/", 9, 0),
-        ("a", 9, 0),
-        ("..", 9, 0),
-        ("../", 9, 0),
-        ("../a/..", 9, 0),
-        ("../a/", 9, 0),
-        ("/a//b", 9, 0),
-        ("/../a", 9, 0),
-        ("../ a", 9, 0),
-        ("/a:b:c", 9, 0),
-        ("../a[k = current()/../k]/b", 9, 0),
-    ]
-    .as_slice()
-    {
-        let (found, count) = match read_path(rt.alloc(), text)? {
-            None => (9, 0),
-            Some(path) => match path.start {
-                Start::Root => (0, path.nodes.len()),
-                Start::Up(up) => (up, path.nodes.len()),
-            },
-        };
-        assert_eq!(rt; found, *ups, "{text}");
-        assert_eq!(rt; count, *nodes, "{text}");
+    for row in PATHS.lines().skip(1) {
+        let (text, expected) = row.split_once(" => ").ok_or("no row")?;
+        let found = path_text(rt.alloc(), text)?;
+        assert_eq!(rt; found.as_str(), expected, "{text}");
     }
     assert!(rt; has_predicate("../a[k = current()/../k]/b"));
     assert!(rt; !has_predicate("../a/b"));
     Ok(())
+}
+
+// The rows of a module with these statements.
+fn rows_in(alloc: Global, within: &str) -> Result<Rows, Fail> {
+    let text = format!(in alloc; "module m {{ {within} }}")?;
+    let module = read_module(alloc, text.as_bytes())?;
+    Ok(rows_of(alloc, &[module])?)
 }
 
 fn has_name(rows: &Rows, at: usize, word: Word, name: &Option<Label>) -> bool {
@@ -176,16 +189,17 @@ leaf a { type leafref { path /b; } default x; } => none
 leaf a { type nothing; default x; } => none
 "#;
 
+fn flaw_in(alloc: Global, within: &str) -> Result<String, Fail> {
+    let rows = rows_in(alloc, within)?;
+    let typedefs = typedefs_of(alloc, &rows)?;
+    Ok(first_flaw(alloc, &rows, &typedefs)?)
+}
+
 #[test]
 fn flaws_are_found(rt: HostRuntime) -> Result<(), Fail> {
-    let alloc = rt.alloc();
     for row in FLAWS.lines().skip(1) {
         let (within, expected) = row.split_once(" => ").ok_or("no row")?;
-        let text = format!(in alloc; "module m {{ {within} }}")?;
-        let modules = [read_module(alloc, text.as_str().as_bytes())?];
-        let rows = rows_of(alloc, &modules)?;
-        let typedefs = typedefs_of(alloc, &rows)?;
-        let found = first_flaw(alloc, &rows, &typedefs)?;
+        let found = flaw_in(rt.alloc(), within)?;
         assert_eq!(rt; found.as_str(), expected, "{within}");
     }
     Ok(())
@@ -239,39 +253,48 @@ const LEAFS: &[(&str, &str)] = &[
     ("container a;", "false 0"),
 ];
 
+fn leaf_in(alloc: Global, within: &str) -> Result<String, Fail> {
+    let rows = rows_in(alloc, within)?;
+    let typedefs = typedefs_of(alloc, &rows)?;
+    Ok(leaf_text(alloc, &rows, &typedefs, 1)?)
+}
+
 #[test]
 fn leafs_have_types(rt: HostRuntime) -> Result<(), Fail> {
-    let alloc = rt.alloc();
     for (within, expected) in LEAFS {
-        let text = format!(in alloc; "module m {{ {within} }}")?;
-        let modules = [read_module(alloc, text.as_str().as_bytes())?];
-        let rows = rows_of(alloc, &modules)?;
-        let typedefs = typedefs_of(alloc, &rows)?;
-        let found = leaf_text(alloc, &rows, &typedefs, 1)?;
+        let found = leaf_in(rt.alloc(), within)?;
         assert_eq!(rt; found.as_str(), *expected, "{within}");
     }
     Ok(())
 }
 
-// What stands in row 2, and where the rows lead (RFC 7950 section 7.4).
-#[test]
-fn rows_are_read(rt: HostRuntime) -> Result<(), Fail> {
-    let alloc = rt.alloc();
-    let text =
-        "module m { leaf a { type t { range 1; enum a; enum b; bit c; } } typedef t { type int8; } }";
-    let modules = [read_module(alloc, text.as_bytes())?];
-    let rows = rows_of(alloc, &modules)?;
-    let restrictions = restrictions_of(alloc, &rows, 2)?;
+fn check_restrictions(rt: &impl Abort, alloc: Global, rows: &Rows) -> Result<(), Fail> {
+    let restrictions = restrictions_of(alloc, rows, 2)?;
     assert!(rt; restrictions.digits.is_none());
     assert!(rt; restrictions.range.is_some());
     assert!(rt; restrictions.length.is_none());
     assert_eq!(rt; restrictions.names.len(), 2);
     assert_eq!(rt; restrictions.bits.len(), 1);
-    let typedefs = typedefs_of(alloc, &rows)?;
-    let graph = type_graph(alloc, &rows, &typedefs)?;
-    for (at, expected) in [(0, 0), (1, 1), (2, 1), (7, 1), (8, 0)].as_slice() {
+    Ok(())
+}
+
+const NEXTS: [(usize, usize); 5] = [(0, 0), (1, 1), (2, 1), (7, 1), (8, 0)];
+
+fn check_nexts(rt: &impl Abort, graph: &[Vec<usize>]) {
+    for (at, expected) in &NEXTS {
         let found = graph.get(*at).map(|nexts| nexts.len());
         assert_eq!(rt; found, Some(*expected), "{at}");
     }
+}
+
+// What stands in row 2, and where the rows lead (RFC 7950 section 7.4).
+#[test]
+fn rows_are_read(rt: HostRuntime) -> Result<(), Fail> {
+    let within = "leaf a { type t { range 1; enum a; enum b; bit c; } } typedef t { type int8; }";
+    let rows = rows_in(rt.alloc(), within)?;
+    check_restrictions(&rt, rt.alloc(), &rows)?;
+    let typedefs = typedefs_of(rt.alloc(), &rows)?;
+    let graph = type_graph(rt.alloc(), &rows, &typedefs)?;
+    check_nexts(&rt, &graph);
     Ok(())
 }

@@ -317,17 +317,19 @@ fn numbers(
     Ok(numbers)
 }
 
-fn put_keys(alloc: Global, schema: &mut Schema, at: usize, shape: Shape) -> Result<(), NoMemory> {
-    match shape {
-        Shape::List(names) => {
-            let keys = numbers(alloc, schema, at, names)?;
-            if at < schema.len() {
-                schema.set_keys(at, keys, Groups::new(alloc));
-            }
-            Ok(())
-        }
-        _ => Ok(()),
+fn set_keys(alloc: Global, schema: &mut Schema, at: usize, keys: Numbers) {
+    if at < schema.len() {
+        schema.set_keys(at, keys, Groups::new(alloc));
     }
+}
+
+fn put_keys(alloc: Global, schema: &mut Schema, at: usize, shape: Shape) -> Result<(), NoMemory> {
+    let Shape::List(names) = shape else {
+        return Ok(());
+    };
+    let keys = numbers(alloc, schema, at, names)?;
+    set_keys(alloc, schema, at, keys);
+    Ok(())
 }
 
 fn put_all_keys(alloc: Global, schema: &mut Schema) -> Result<(), NoMemory> {

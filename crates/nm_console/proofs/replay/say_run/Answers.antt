@@ -3,11 +3,11 @@ use Rattle.nm_console.specs.Console.{led_to}
 use Rattle.nm_console.proofs.Runs.{damaged_told, ran_tells}
 use Rattle.nm_console.proofs.replay.say_run.Goals as goal
 
-pub returns-in_ok-say_world-in-Ok-clause-told : goal.returns-in_ok-say_world-in-Ok-clause-told
-returns-in_ok-say_world-in-Ok-clause-told g c =
-    let said = c.in_ok-say_world-in-Ok.field-0 in
+pub returns-in_ok-say_last-in-Ok-clause-told : goal.returns-in_ok-say_last-in-Ok-clause-told
+returns-in_ok-say_last-in-Ok-clause-told g c =
+    let said = c.in_ok-say_last-in-Ok.field-0 in
     ran_tells g.C.Show.shown c.args.trace c.args.world c.in-Ok.last _ c.args.events.now (g.D.Disk.told c.args.disk.now) (g.D.Disk.told c.lead.new.disk) said.status said.text.items
-    c.in-Ok.ensures.others c.in-Ok.ensures.done c.in-Ok.ensures.straight c.in-Ok.ensures.calm c.in-Ok.ensures.stored c.in_ok-say_world-in-Ok.ensures
+    c.in-Ok.ensures.others c.in-Ok.ensures.done c.in-Ok.ensures.straight c.in-Ok.ensures.calm c.in-Ok.ensures.stored c.in_ok-say_last-in-Ok.ensures
 
 pub returns-in-Err-Damaged-clause-told : goal.returns-in-Err-Damaged-clause-told
 returns-in-Err-Damaged-clause-told g c =

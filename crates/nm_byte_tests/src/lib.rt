@@ -1,0 +1,9 @@
+//! Tests of sources, sinks and disks.
+//!
+//! They stand apart from the crates that they test, since a crate's functions are proved once more with its tests.
+#![tactic(auto)]
+
+#[cfg(test)]
+mod disk;
+#[cfg(test)]
+mod io;

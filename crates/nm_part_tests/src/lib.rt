@@ -1,0 +1,23 @@
+//! Tests of the parts that a device is made of, of its history, and of the board that threads share.
+//!
+//! They stand apart from the crates that they test, since a crate's functions are proved once more with its tests.
+#![tactic(auto)]
+
+#[cfg(test)]
+mod chronicle;
+#[cfg(test)]
+mod history;
+#[cfg(test)]
+mod locks;
+#[cfg(test)]
+mod partial;
+#[cfg(test)]
+mod pending;
+#[cfg(test)]
+mod phases;
+#[cfg(test)]
+mod sessions;
+#[cfg(test)]
+mod standing;
+#[cfg(test)]
+mod stores;

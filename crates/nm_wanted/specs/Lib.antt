@@ -1,0 +1,4 @@
+pub mod Place
+pub mod Numbers
+pub mod Types
+pub mod Wanted
