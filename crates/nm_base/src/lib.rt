@@ -14,8 +14,6 @@ pub mod number;
 pub mod numbers;
 pub mod steps;
 pub mod tag;
-#[cfg(test)]
-mod tests;
 pub mod token;
 pub mod words;
 

@@ -16,6 +16,3 @@ pub use edges::is_graph;
 pub use reach::reached;
 pub use sorting::{Ordered, order};
 pub use walking::{Visitor, values};
-
-#[cfg(test)]
-mod tests;

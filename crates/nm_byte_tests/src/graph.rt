@@ -1,7 +1,7 @@
 ghost use Rattle.std.specs.Prelude.{Some};
 
-use crate::{Visitor, is_graph, order, reached, values};
 use nm_base::NoMemory;
+use nm_graph::{Visitor, is_graph, order, reached, values};
 use std::alloc::Global;
 use std::test::Fail;
 

@@ -1,4 +1,7 @@
-use super::*;
+use nm_base::{
+    ChangeMask, ChangeNo, DeviceMask, DeviceNo, Failed, Groups, Label, Numbers, SessionId, Tag,
+    count_fault, read_decimal, token, write_decimal,
+};
 use std::test::Fail;
 
 // Numbers and their ranges, as the limits of a scenario give them.
