@@ -2,25 +2,35 @@ ghost use Rattle.std.specs.Prelude.{Some};
 
 use nm_base::NoMemory;
 use nm_graph::{Visitor, is_graph, order, reached, values};
-use std::alloc::Global;
+use std::alloc::{AllocError, Global};
 use std::test::Fail;
 
-// The graph with these edges among so many nodes; an edge from no node is left out.
-fn graph(
-    alloc: Global,
-    nodes: usize,
-    edges: &[(usize, usize)],
-) -> Result<Vec<Vec<usize>>, NoMemory> {
+// A graph as a row gives it: how many nodes there are, and its edges, as `3 0-1 1-2`.
+fn graph_of(alloc: Global, text: &str) -> Result<Vec<Vec<usize>>, Fail> {
+    let (nodes, edges) = text.split_once(' ').unwrap_or((text, ""));
+    let mut graph = without_edges(alloc, nodes.parse::<usize>()?)?;
+    for edge in edges.split(' ') {
+        add_edge(&mut graph, edge)?;
+    }
+    Ok(graph)
+}
+
+fn without_edges(alloc: Global, nodes: usize) -> Result<Vec<Vec<usize>>, AllocError> {
     let mut graph = Vec::new(alloc);
     for _ in 0..nodes {
         graph.push(Vec::new(alloc))?;
     }
-    for (from, to) in edges {
-        if let Some(row) = graph.get_mut(*from) {
-            row.push(*to)?;
-        }
-    }
     Ok(graph)
+}
+
+fn add_edge(graph: &mut Vec<Vec<usize>>, edge: &str) -> Result<(), Fail> {
+    if edge.is_empty() {
+        return Ok(());
+    }
+    let (from, to) = edge.split_once('-').ok_or("no edge")?;
+    let row = graph.get_mut(from.parse::<usize>()?).ok_or("no node")?;
+    row.push(to.parse::<usize>()?)?;
+    Ok(())
 }
 
 // A node's value is its number.
@@ -42,116 +52,123 @@ impl Visitor for Numbered {
     }
 }
 
-#[test]
-fn graphs(rt: HostRuntime) -> Result<(), Fail> {
-    let alloc = rt.alloc();
-    let cases: &[(&str, usize, &[(usize, usize)], bool)] = &[
-        ("empty", 0, &[], true),
-        ("an edge", 2, &[(0, 1)], true),
-        ("an edge to no node", 2, &[(0, 2)], false),
-    ];
-    for (name, nodes, edges, expected) in cases {
-        let graph = graph(alloc, *nodes, edges)?;
-        assert_eq!(rt; is_graph(&graph), *expected, "{name}");
+fn number_text(alloc: Global, number: Option<usize>) -> Result<String, AllocError> {
+    match number {
+        Some(number) => format!(in alloc; " {number}"),
+        None => String::from_str(alloc, " -"),
     }
-    Ok(())
 }
+
+// Numbers, each after a blank.
+fn numbers_text(alloc: Global, numbers: &[usize]) -> Result<String, AllocError> {
+    let mut text = String::new(alloc);
+    for number in numbers {
+        text.push_str(number_text(alloc, Some(*number))?.as_str())?;
+    }
+    Ok(text)
+}
+
+fn values_text(alloc: Global, numbers: &[Option<usize>]) -> Result<String, AllocError> {
+    let mut text = String::new(alloc);
+    for number in numbers {
+        text.push_str(number_text(alloc, *number)?.as_str())?;
+    }
+    Ok(text)
+}
+
+// The order of a graph and its least node on a cycle, as `order 2 1 0 cycle -`.
+fn order_text(alloc: Global, graph: &Vec<Vec<usize>>) -> Result<String, Fail> {
+    if !is_graph(graph) {
+        return Ok(String::from_str(alloc, "no graph")?);
+    }
+    let found = order(alloc, graph)?;
+    let nodes = numbers_text(alloc, found.nodes.as_slice())?;
+    let cycle = number_text(alloc, found.cycle)?;
+    Ok(format!(in alloc; "order{nodes} cycle{cycle}")?)
+}
+
+// Whether a row `GRAPH => ORDER` is so.
+fn is_ordered(alloc: Global, row: &str) -> Result<bool, Fail> {
+    let (text, want) = row.split_once(" => ").ok_or("no row")?;
+    let graph = graph_of(alloc, text)?;
+    Ok(order_text(alloc, &graph)?.as_str() == want)
+}
+
+// No node, one, an edge, an edge to no node; chains, forwards and backwards; a diamond, one edge twice; a loop, two cycles, what
+// stands between two and what leads into one.
+static ORDERS: &str = "
+0 => order cycle -
+1 => order 0 cycle -
+2 0-1 => order 1 0 cycle -
+2 0-2 => no graph
+3 0-1 1-2 => order 2 1 0 cycle -
+3 2-1 1-0 => order 0 1 2 cycle -
+4 0-1 0-2 1-3 2-3 => order 3 1 2 0 cycle -
+2 0-1 0-1 => order 1 0 cycle -
+2 0-1 1-1 => order cycle 1
+5 0-4 4-0 2-1 1-2 0-2 => order 3 cycle 0
+5 3-4 4-3 3-0 0-2 2-1 1-2 => order cycle 1
+4 0-2 2-3 3-2 3-1 => order 1 cycle 2
+";
 
 #[test]
 fn orders(rt: HostRuntime) -> Result<(), Fail> {
-    let alloc = rt.alloc();
-    let cases: &[(&str, usize, &[(usize, usize)], &[usize], Option<usize>)] = &[
-        ("empty", 0, &[], &[], None),
-        ("one node", 1, &[], &[0], None),
-        ("chain forwards", 3, &[(0, 1), (1, 2)], &[2, 1, 0], None),
-        ("chain backwards", 3, &[(2, 1), (1, 0)], &[0, 1, 2], None),
-        (
-            "diamond",
-            4,
-            &[(0, 1), (0, 2), (1, 3), (2, 3)],
-            &[3, 1, 2, 0],
-            None,
-        ),
-        ("one edge twice", 2, &[(0, 1), (0, 1)], &[1, 0], None),
-        ("self loop", 2, &[(0, 1), (1, 1)], &[], Some(1)),
-        (
-            "two cycles",
-            5,
-            &[(0, 4), (4, 0), (2, 1), (1, 2), (0, 2)],
-            &[3],
-            Some(0),
-        ),
-        (
-            "between two cycles",
-            5,
-            &[(3, 4), (4, 3), (3, 0), (0, 2), (2, 1), (1, 2)],
-            &[],
-            Some(1),
-        ),
-        (
-            "into a cycle",
-            4,
-            &[(0, 2), (2, 3), (3, 2), (3, 1)],
-            &[1],
-            Some(2),
-        ),
-    ];
-    for (name, nodes, edges, expected, cycle) in cases {
-        let graph = graph(alloc, *nodes, edges)?;
-        if is_graph(&graph) {
-            let found = order(alloc, &graph)?;
-            assert_eq!(rt; found.nodes.as_slice(), *expected, "{name}");
-            assert_eq!(rt; found.cycle, *cycle, "{name}");
-        } else {
-            assert!(rt; false, "{name}");
-        }
+    for row in ORDERS.lines().skip(1) {
+        assert!(rt; is_ordered(rt.alloc(), row)?, "{row}");
     }
     Ok(())
 }
 
+// The values of nodes, `-` where a node has none.
+fn told_values(alloc: Global, text: &str) -> Result<String, Fail> {
+    let graph = graph_of(alloc, text)?;
+    if !is_graph(&graph) {
+        return Err(Fail::new("no graph"));
+    }
+    let found = order(alloc, &graph)?;
+    let given = values(alloc, &Numbered, &graph, &found.nodes)?;
+    Ok(values_text(alloc, given.as_slice())?)
+}
+
+// A chain, and what leads into a cycle.
 #[test]
 fn node_values(rt: HostRuntime) -> Result<(), Fail> {
-    let alloc = rt.alloc();
-    let cases: &[(&str, usize, &[(usize, usize)], &[Option<usize>])] = &[
-        ("chain", 3, &[(0, 1), (1, 2)], &[Some(0), Some(1), Some(2)]),
-        (
-            "into a cycle",
-            4,
-            &[(0, 2), (2, 3), (3, 2), (3, 1)],
-            &[None, Some(1), None, None],
-        ),
-    ];
-    for (name, nodes, edges, expected) in cases {
-        let graph = graph(alloc, *nodes, edges)?;
-        if is_graph(&graph) {
-            let found = order(alloc, &graph)?;
-            let given = values(alloc, &Numbered, &graph, &found.nodes)?;
-            assert_eq!(rt; given.as_slice(), *expected, "{name}");
-        } else {
-            assert!(rt; false, "{name}");
-        }
-    }
+    let chain = told_values(rt.alloc(), "3 0-1 1-2")?;
+    assert_eq!(rt; chain.as_str(), " 0 1 2");
+    let cycle = told_values(rt.alloc(), "4 0-2 2-3 3-2 3-1")?;
+    assert_eq!(rt; cycle.as_str(), " - 1 - -");
     Ok(())
 }
 
+// Which nodes are reached from one, none where it isn't there.
+fn told_reached(alloc: Global, text: &str, start: usize) -> Result<Vec<bool>, Fail> {
+    let graph = graph_of(alloc, text)?;
+    if is_graph(&graph) && start < graph.len() {
+        return Ok(reached(alloc, &graph, &[start])?);
+    }
+    Ok(Vec::new(alloc))
+}
+
+// From an end, from a cycle, from the first node, and from no node.
 #[test]
 fn reaches(rt: HostRuntime) -> Result<(), Fail> {
     let alloc = rt.alloc();
-    let edges = [(0, 1), (1, 2), (2, 1), (3, 0)];
-    let graph = graph(alloc, 5, &edges)?;
-    let cases: &[(&str, usize, &[bool])] = &[
-        ("from an end", 4, &[false, false, false, false, true]),
-        ("from a cycle", 2, &[false, true, true, false, false]),
-        ("from the first", 3, &[true, true, true, true, false]),
-        ("from no node", 5, &[]),
-    ];
-    for (name, start, expected) in cases {
-        if is_graph(&graph) && *start < graph.len() {
-            let found = reached(alloc, &graph, &[*start])?;
-            assert_eq!(rt; found.as_slice(), *expected, "{name}");
-        } else {
-            assert!(rt; expected.is_empty(), "{name}");
-        }
-    }
+    let graph = "5 0-1 1-2 2-1 3-0";
+    let end = told_reached(alloc, graph, 4)?;
+    assert_eq!(rt;
+        end.as_slice(),
+        [false, false, false, false, true].as_slice()
+    );
+    let cycle = told_reached(alloc, graph, 2)?;
+    assert_eq!(rt;
+        cycle.as_slice(),
+        [false, true, true, false, false].as_slice()
+    );
+    let first = told_reached(alloc, graph, 3)?;
+    assert_eq!(rt;
+        first.as_slice(),
+        [true, true, true, true, false].as_slice()
+    );
+    assert!(rt; told_reached(alloc, graph, 5)?.is_empty());
     Ok(())
 }

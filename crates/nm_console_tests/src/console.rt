@@ -1,3 +1,4 @@
+use crate::table::{Teller, first_wrong, is_text};
 use nm_console::console::console;
 use nm_console::status::Status;
 use nm_disk::MemoryDisk;
@@ -6,7 +7,7 @@ use std::alloc::Global;
 use std::test::Fail;
 
 // A status and what was written.
-type Ended = (Status, Vec<u8>);
+pub type Ended = (Status, Vec<u8>);
 
 pub fn listed(alloc: Global, words: &[&str]) -> Result<Vec<String>, Fail> {
     let mut list = Vec::new(alloc);
@@ -39,64 +40,74 @@ pub fn run(
     Ok((status, Vec::from_slice(alloc, output.taken())?))
 }
 
+// What a command says of a scenario.
+pub struct Command(pub &'static str);
+
+impl Teller for Command {
+    fn told(&self, alloc: Global, text: &str) -> Result<Ended, Fail> {
+        run(alloc, &[self.0], text, &[], &[])
+    }
+}
+
 const EMPTY: &str = r#"{"netm":1,"contents":"flat","devices":[{"running":{}}]}"#;
 
-const CLEAN: &str = "netm 1\nrunning 1 {\"marks\":[]}\ndiffer none\nunsettled none\n";
+// Inputs with the texts and statuses that docs/FORMATS.md gives.
+static INPUTS: &str = r#"
+{"netm":1,"contents":"flat","devices":[{"running":{}}]} => 0 netm 1|running 1 {"marks":[]}|differ none|unsettled none|
+{ => 3 scenario not-json /|
+{} => 3 scenario missing /netm|
+{"netm":2} => 3 scenario bad-value /netm|
+{"netm":1,"contents":"flat","devices":[{"running":{},"x":1}]} => 3 scenario unknown /devices/0/x|
+"#;
 
-const USAGE: &str = "usage: netm check, replay, run, make, stress, journal\n";
-
-// Words and inputs with the texts and statuses that docs/FORMATS.md gives.
 #[test]
-fn answers_words_and_inputs(rt: HostRuntime) -> Result<(), Fail> {
-    let cases: [(&[&str], &str, Status, &str); 12] = [
-        (&["replay"], EMPTY, Status::Ok, CLEAN),
-        (&["replay"], "{", Status::Scenario, "scenario not-json /\n"),
-        (
-            &["replay"],
-            "{}",
-            Status::Scenario,
-            "scenario missing /netm\n",
-        ),
-        (
-            &["replay"],
-            r#"{"netm":2}"#,
-            Status::Scenario,
-            "scenario bad-value /netm\n",
-        ),
-        (
-            &["replay"],
-            r#"{"netm":1,"contents":"flat","devices":[{"running":{},"x":1}]}"#,
-            Status::Scenario,
-            "scenario unknown /devices/0/x\n",
-        ),
-        (&[], EMPTY, Status::Usage, USAGE),
-        (&["replay", "replay"], EMPTY, Status::Usage, USAGE),
-        (&["check", "replay"], EMPTY, Status::Usage, USAGE),
-        (&["Check"], EMPTY, Status::Usage, USAGE),
-        (&["make"], EMPTY, Status::Usage, USAGE),
-        (&["Replay"], EMPTY, Status::Usage, USAGE),
-        (&[""], EMPTY, Status::Usage, USAGE),
-    ];
-    for (words, input, status, text) in cases {
-        let ended = run(rt.alloc(), words, input, &[], &[])?;
-        assert_eq!(rt; ended.0, status, "{words:?} {input}");
-        assert_eq!(rt; ended.1.as_slice(), text.as_bytes(), "{words:?} {input}");
-    }
+fn answers_inputs(rt: HostRuntime) -> Result<(), Fail> {
+    assert_eq!(rt; first_wrong(rt.alloc(), &Command("replay"), INPUTS)?, None);
     Ok(())
+}
+
+// What other words than those known say, parted by `+`.
+struct TellsWords;
+
+impl Teller for TellsWords {
+    fn told(&self, alloc: Global, text: &str) -> Result<Ended, Fail> {
+        match text.split_once('+') {
+            Some((one, other)) => run(alloc, &[one, other], EMPTY, &[], &[]),
+            None => run(alloc, &[text], EMPTY, &[], &[]),
+        }
+    }
+}
+
+static WORDS: &str = "
+replay+replay => 2 usage: netm check, replay, run, make, stress, journal|
+check+replay => 2 usage: netm check, replay, run, make, stress, journal|
+Check => 2 usage: netm check, replay, run, make, stress, journal|
+make => 2 usage: netm check, replay, run, make, stress, journal|
+Replay => 2 usage: netm check, replay, run, make, stress, journal|
+ => 2 usage: netm check, replay, run, make, stress, journal|
+";
+
+#[test]
+fn answers_words(rt: HostRuntime) -> Result<(), Fail> {
+    assert_eq!(rt; first_wrong(rt.alloc(), &TellsWords, WORDS)?, None);
+    let (status, text) = run(rt.alloc(), &[], EMPTY, &[], &[])?;
+    assert_eq!(rt; status, Status::Usage);
+    let usage = "usage: netm check, replay, run, make, stress, journal|";
+    assert!(rt; is_text(text.as_slice(), usage));
+    Ok(())
+}
+
+// Whether nothing is written where reads or writes of these numbers fail, and this is the status.
+fn fails(alloc: Global, reads: &[u64], writes: &[u64], status: Status) -> Result<bool, Fail> {
+    let ended = run(alloc, &["replay"], EMPTY, reads, writes)?;
+    Ok(ended.0 == status && ended.1.is_empty())
 }
 
 #[test]
 fn failing_streams(rt: HostRuntime) -> Result<(), Fail> {
-    let cases: [(&[u64], &[u64], Status); 3] = [
-        (&[1], &[], Status::ReadFault),
-        (&[2], &[], Status::ReadFault),
-        (&[], &[1], Status::WriteFault),
-    ];
-    for (reads, writes, status) in cases {
-        let ended = run(rt.alloc(), &["replay"], EMPTY, reads, writes)?;
-        assert_eq!(rt; ended.0, status);
-        assert_eq!(rt; ended.1.len(), 0);
-    }
+    assert!(rt; fails(rt.alloc(), &[1], &[], Status::ReadFault)?);
+    assert!(rt; fails(rt.alloc(), &[2], &[], Status::ReadFault)?);
+    assert!(rt; fails(rt.alloc(), &[], &[1], Status::WriteFault)?);
     Ok(())
 }
 

@@ -45,70 +45,87 @@ pub fn print(alloc: Global, disk: &mut MemoryDisk) -> Result<(Status, Vec<u8>), 
     Ok((status, Vec::from_slice(alloc, output.taken())?))
 }
 
+// Whether a journal of these records is printed so.
+fn prints(alloc: Global, records: &[[u8; 16]], status: Status, text: &str) -> Result<bool, Fail> {
+    let mut disk = disk_of(alloc, records)?;
+    let ended = print(alloc, &mut disk)?;
+    Ok(ended.0 == status && ended.1.as_slice() == text.as_bytes())
+}
+
 // Journals of both versions, a closed gate, a record of no kind, and an empty disk.
 #[test]
 fn journals_are_printed(rt: HostRuntime) -> Result<(), Fail> {
     let begun = "netm journal 1\nstart 1 devices 1 2\nchange 1 undecided\n";
     let whole =
         "netm journal 1\nstart 1 devices 1 2 timeout 600\ndecide 1 commit\nend 1 kept 1 2\nchange 1 commit ended\n";
-    let cases: [(&[[u8; 16]], Status, &str); 5] = [
-        (&[STARTED], Status::Ok, begun),
-        (&[STARTED, CLOSED], Status::Ok, begun),
-        (&[STARTED, NO_KIND], Status::Journal, "journal damaged 16\n"),
-        (&[], Status::Ok, "netm journal 1\n"),
-        (&[TIMED, COMMITTED, ENDED], Status::Ok, whole),
-    ];
-    for (records, status, text) in cases {
-        let mut disk = disk_of(rt.alloc(), records)?;
-        let ended = print(rt.alloc(), &mut disk)?;
-        assert_eq!(rt; ended.0, status, "{text}");
-        assert_eq!(rt; ended.1.as_slice(), text.as_bytes(), "{text}");
-    }
+    assert!(rt; prints(rt.alloc(), &[STARTED], Status::Ok, begun)?);
+    assert!(rt; prints(rt.alloc(), &[STARTED, CLOSED], Status::Ok, begun)?);
+    let damaged = "journal damaged 16\n";
+    assert!(rt; prints(rt.alloc(), &[STARTED, NO_KIND], Status::Journal, damaged)?);
+    assert!(rt; prints(rt.alloc(), &[], Status::Ok, "netm journal 1\n")?);
+    assert!(rt; prints(rt.alloc(), &[TIMED, COMMITTED, ENDED], Status::Ok, whole)?);
     Ok(())
+}
+
+// The status of a print whose disk fails at a call, and whether nothing is written.
+fn printed_at(alloc: Global, call: u64) -> Result<(Status, bool), Fail> {
+    let mut disk = disk_of(alloc, &[STARTED])?;
+    disk.plan(&[call])?;
+    let ended = print(alloc, &mut disk)?;
+    Ok((ended.0, ended.1.is_empty()))
 }
 
 // The length and the read of a journal fail in turn.
 #[test]
 fn a_failing_disk_is_told(rt: HostRuntime) -> Result<(), Fail> {
-    for (call, status) in [
-        (3, Status::DiskFault),
-        (4, Status::DiskFault),
-        (5, Status::Ok),
-    ] {
-        let mut disk = disk_of(rt.alloc(), &[STARTED])?;
-        disk.plan(&[call])?;
-        let ended = print(rt.alloc(), &mut disk)?;
-        assert_eq!(rt; ended.0, status);
-        assert_eq!(rt; ended.1.is_empty(), status == Status::DiskFault);
-    }
+    assert_eq!(rt; printed_at(rt.alloc(), 3)?, (Status::DiskFault, true));
+    assert_eq!(rt; printed_at(rt.alloc(), 4)?, (Status::DiskFault, true));
+    assert_eq!(rt; printed_at(rt.alloc(), 5)?, (Status::Ok, false));
     Ok(())
 }
 
+// Words, parted by blanks.
+fn words_of(alloc: Global, text: &str) -> Result<Vec<String>, Fail> {
+    let mut words = Vec::new(alloc);
+    for word in text.split(' ') {
+        words.push(String::from_str(alloc, word)?)?;
+    }
+    Ok(words)
+}
+
+// Whether a row `WORDS => PATH` is so.
+fn is_named(alloc: Global, row: &str) -> Result<bool, Fail> {
+    let (words, want) = row.split_once(" => ").ok_or("no row")?;
+    let words = words_of(alloc, words)?;
+    let path = journal_path(alloc, words.as_slice())?;
+    Ok(path.as_ref().map_or("none", |path| path.as_str()) == want)
+}
+
 // Words, and the path that they name.
+static PATHS: &str = "
+replay --journal f => f
+replay --journal=f => f
+replay --journal -f => none
+replay => none
+journal --journal f => f
+journal --journal=f => f
+journal --journal=-x => -x
+journal --journal==x => =x
+journal --journal -x => none
+journal --journal= => none
+journal --journal=a= => none
+journal --journal a= => none
+journal --journal  => none
+journal => none
+check --journal f => none
+";
+
 #[test]
 fn paths_are_named(rt: HostRuntime) -> Result<(), Fail> {
-    let cases: [(&[&str], Option<&str>); 16] = [
-        (&["replay", "--journal", "f"], Some("f")),
-        (&["replay", "--journal=f"], Some("f")),
-        (&["replay", "--journal", "-f"], None),
-        (&["replay"], None),
-        (&["journal", "--journal", "f"], Some("f")),
-        (&["journal", "--journal=f"], Some("f")),
-        (&["journal", "--journal=-x"], Some("-x")),
-        (&["journal", "--journal==x"], Some("=x")),
-        (&["journal", "--journal", "-x"], None),
-        (&["journal", "--journal="], None),
-        (&["journal", "--journal=a="], None),
-        (&["journal", "--journal", "a="], None),
-        (&["journal", "--journal", ""], None),
-        (&["journal"], None),
-        (&["check", "--journal", "f"], None),
-        (&[], None),
-    ];
-    for (words, want) in cases {
-        let words = listed(rt.alloc(), words)?;
-        let path = journal_path(rt.alloc(), words.as_slice())?;
-        assert!(rt; path.as_ref().map(|path| path.as_str()) == want);
+    for row in PATHS.lines().skip(1) {
+        assert!(rt; is_named(rt.alloc(), row)?, "{row}");
     }
+    let nothing = journal_path(rt.alloc(), &[])?;
+    assert!(rt; nothing.is_none());
     Ok(())
 }

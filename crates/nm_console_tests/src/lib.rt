@@ -18,4 +18,6 @@ mod report;
 #[cfg(test)]
 mod run;
 #[cfg(test)]
+mod table;
+#[cfg(test)]
 mod trace;

@@ -1,4 +1,5 @@
-use crate::console::run;
+use crate::console::{Command, run};
+use crate::table::is_told;
 use nm_console::status::Status;
 use std::alloc::Global;
 use std::test::Fail;
@@ -14,32 +15,39 @@ fn devices(alloc: Global, count: usize) -> Result<String, Fail> {
     Ok(text)
 }
 
+// So many parts, each a number between two texts, parted by commas, between two others.
+fn parts(
+    alloc: Global,
+    open: &str,
+    count: usize,
+    around: (&str, &str),
+    close: &str,
+) -> Result<String, Fail> {
+    let mut text = String::from_str(alloc, open)?;
+    for number in 0..count {
+        text.push_str(part(alloc, number, around)?.as_str())?;
+    }
+    text.push_str(close)?;
+    Ok(text)
+}
+
+fn part(alloc: Global, number: usize, around: (&str, &str)) -> Result<String, Fail> {
+    let mark = if number == 0 { "" } else { "," };
+    let (before, after) = around;
+    Ok(format!(in alloc; "{mark}{before}{number}{after}")?)
+}
+
 // One device with so many cells.
 fn cells(alloc: Global, count: usize) -> Result<String, Fail> {
-    let mut text = String::from_str(
-        alloc,
-        r#"{"netm":1,"contents":"flat","devices":[{"running":{"#,
-    )?;
-    for number in 0..count {
-        let mark = if number == 0 { "" } else { "," };
-        text.push_str(format!(in alloc; "{mark}\"{number}\":1")?.as_str())?;
-    }
-    text.push_str("}}]}")?;
-    Ok(text)
+    let open = r#"{"netm":1,"contents":"flat","devices":[{"running":{"#;
+    parts(alloc, open, count, ("\"", "\":1"), "}}]}")
 }
 
 // One device with a leaf-list of so many values.
 fn values(alloc: Global, count: usize) -> Result<String, Fail> {
-    let mut text = String::from_str(
-        alloc,
-        r#"{"netm":1,"contents":"yang","modules":["module l { namespace \"l\"; prefix l; leaf-list n { type uint32; } }"],"devices":[{"running":{"l:n":["#,
-    )?;
-    for number in 0..count {
-        let mark = if number == 0 { "" } else { "," };
-        text.push_str(format!(in alloc; "{mark}{number}")?.as_str())?;
-    }
-    text.push_str("]}}]}")?;
-    Ok(text)
+    let open =
+        r#"{"netm":1,"contents":"yang","modules":["module l { namespace \"l\"; prefix l; leaf-list n { type uint32; } }"],"devices":[{"running":{"l:n":["#;
+    parts(alloc, open, count, ("", ""), "]}}]}")
 }
 
 fn is_checked(alloc: Global, text: &str, status: Status, want: &str) -> Result<bool, Fail> {
@@ -91,13 +99,9 @@ fn rows_above_the_limit(rt: HostRuntime) -> Result<(), Fail> {
 // The timeout of a change set is 1 at least.
 #[test]
 fn timeouts_are_told(rt: HostRuntime) -> Result<(), Fail> {
-    let text =
-        r#"{"netm":1,"contents":"flat","devices":[{"running":{}}],"changes":[{"timeout":0}]}"#;
-    let want = "scenario bad-value /changes/0/timeout\n";
-    for word in ["check", "replay"] {
-        let ended = run(rt.alloc(), &[word], text, &[], &[])?;
-        assert_eq!(rt; ended.0, Status::Scenario, "{word}");
-        assert_eq!(rt; ended.1.as_slice(), want.as_bytes(), "{word}");
-    }
+    let row =
+        r#"{"netm":1,"contents":"flat","devices":[{"running":{}}],"changes":[{"timeout":0}]} => 3 scenario bad-value /changes/0/timeout|"#;
+    assert!(rt; is_told(rt.alloc(), &Command("check"), row)?);
+    assert!(rt; is_told(rt.alloc(), &Command("replay"), row)?);
     Ok(())
 }

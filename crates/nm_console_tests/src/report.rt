@@ -17,15 +17,11 @@ fn writes(alloc: Global, reply: &Reply, want: &str) -> Result<bool, NoMemory> {
 #[test]
 fn replies_are_written(rt: HostRuntime) -> Result<(), Fail> {
     let session = SessionId::new(2).ok_or("2")?;
-    for (reply, want) in [
-        (Reply::Done, "ok"),
-        (Reply::Opened(session), "opened 2"),
-        (Reply::LockId(1), "lock-id 1"),
-        (Reply::Mark(false), "mark false"),
-        (Reply::Rows(4294967295), "rows 4294967295"),
-    ] {
-        assert!(rt; writes(rt.alloc(), &reply, want)?);
-    }
+    assert!(rt; writes(rt.alloc(), &Reply::Done, "ok")?);
+    assert!(rt; writes(rt.alloc(), &Reply::Opened(session), "opened 2")?);
+    assert!(rt; writes(rt.alloc(), &Reply::LockId(1), "lock-id 1")?);
+    assert!(rt; writes(rt.alloc(), &Reply::Mark(false), "mark false")?);
+    assert!(rt; writes(rt.alloc(), &Reply::Rows(4294967295), "rows 4294967295")?);
     Ok(())
 }
 
@@ -46,66 +42,66 @@ fn errors_are_written(rt: HostRuntime) -> Result<(), Fail> {
     Ok(())
 }
 
+// Whether a verdict is written so.
+fn decides(alloc: Global, verdict: Verdict, want: &str) -> Result<bool, NoMemory> {
+    let mut out = Vec::new(alloc);
+    write_verdict(&mut out, &verdict)?;
+    Ok(out.as_slice() == want.as_bytes())
+}
+
 #[test]
 fn verdicts_are_written(rt: HostRuntime) -> Result<(), Fail> {
     let device = DeviceNo::new(2).ok_or("2")?;
     let tag = Tag::DataMissing;
-    for (verdict, want) in [
-        (Verdict::Commit, "commit"),
-        (
-            Verdict::Abort(AbortCause::Refused { device, tag }),
-            "abort refused 2 data-missing",
-        ),
-        (
-            Verdict::Abort(AbortCause::Broken { device }),
-            "abort broken 2",
-        ),
-        (Verdict::Abort(AbortCause::Forgotten), "abort forgotten"),
-    ] {
-        let mut out = Vec::new(rt.alloc());
-        write_verdict(&mut out, &verdict)?;
-        assert!(rt; out.as_slice() == want.as_bytes());
-    }
+    let refused = Verdict::Abort(AbortCause::Refused { device, tag });
+    let broken = Verdict::Abort(AbortCause::Broken { device });
+    let forgotten = Verdict::Abort(AbortCause::Forgotten);
+    assert!(rt; decides(rt.alloc(), Verdict::Commit, "commit")?);
+    assert!(rt; decides(rt.alloc(), refused, "abort refused 2 data-missing")?);
+    assert!(rt; decides(rt.alloc(), broken, "abort broken 2")?);
+    assert!(rt; decides(rt.alloc(), forgotten, "abort forgotten")?);
     Ok(())
+}
+
+fn two_modules(alloc: Global) -> Result<Vec<Label>, NoMemory> {
+    let one = Label::new(alloc, "example-system")?;
+    let two = Label::new(alloc, "b")?;
+    Ok(vec![in alloc; one, two]?)
+}
+
+// Whether modules, rows of devices, and how many change sets, operators and events there are, are written so.
+fn checks(
+    alloc: Global,
+    names: &[Label],
+    rows: &[u32],
+    counts: (usize, usize, usize),
+    want: &str,
+) -> Result<bool, NoMemory> {
+    let (changes, operators, events) = counts;
+    let text = write_check(alloc, names, rows, changes, operators, events)?;
+    Ok(text.as_slice() == want.as_bytes())
 }
 
 // Modules, rows of devices and counts, and the text that docs/FORMATS.md gives.
 #[test]
 fn checks_are_written(rt: HostRuntime) -> Result<(), Fail> {
-    let one = Label::new(rt.alloc(), "example-system")?;
-    let two = Label::new(rt.alloc(), "b")?;
-    let modules = vec![in rt.alloc(); one, two]?;
-    let none: &[Label] = &[];
-    let cases: [(&[Label], &[u32], usize, usize, usize, &str); 3] = [
-        (
-            none,
-            &[1],
-            0,
-            0,
-            0,
-            "netm check 1\ndevice 1 rows 1\nchanges 0 operators 0 events 0\n",
-        ),
-        (
+    let alloc = rt.alloc();
+    let first = "netm check 1\ndevice 1 rows 1\nchanges 0 operators 0 events 0\n";
+    assert!(rt; checks(alloc, &[], &[1], (0, 0, 0), first)?);
+    let second =
+        "netm check 1\nmodule example-system\nmodule b\ndevice 1 rows 0\ndevice 2 rows 20000\nchanges 1 operators 2 events 100000\n";
+    let modules = two_modules(alloc)?;
+    assert!(rt;
+        checks(
+            alloc,
             modules.as_slice(),
             &[0, 20000],
-            1,
-            2,
-            100000,
-            "netm check 1\nmodule example-system\nmodule b\ndevice 1 rows 0\ndevice 2 rows 20000\nchanges 1 operators 2 events 100000\n",
-        ),
-        (
-            none,
-            &[],
-            64,
-            16,
-            0,
-            "netm check 1\nchanges 64 operators 16 events 0\n",
-        ),
-    ];
-    for (names, rows, changes, operators, events, want) in cases {
-        let text = write_check(rt.alloc(), names, rows, changes, operators, events)?;
-        assert_eq!(rt; text.as_slice(), want.as_bytes());
-    }
+            (1, 2, 100000),
+            second
+        )?
+    );
+    let third = "netm check 1\nchanges 64 operators 16 events 0\n";
+    assert!(rt; checks(alloc, &[], &[], (64, 16, 0), third)?);
     Ok(())
 }
 

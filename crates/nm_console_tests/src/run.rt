@@ -32,28 +32,40 @@ fn replay(alloc: Global, scenario: &str, disk: &mut MemoryDisk) -> Result<(Statu
     Ok((status, Vec::from_slice(alloc, output.taken())?))
 }
 
+// Runs over a disk that fails at a call, and no more after it.
+fn replay_at(alloc: Global, call: u64, disk: &mut MemoryDisk) -> Result<(Status, Vec<u8>), Fail> {
+    disk.plan(&[call])?;
+    let ended = replay(alloc, WHOLE, disk)?;
+    disk.plan(&[])?;
+    Ok(ended)
+}
+
+// Whether a run whose disk fails at a call ends so, and leaves a journal of this text.
+fn ends_at(alloc: Global, call: u64, status: Status, text: &str) -> Result<bool, Fail> {
+    let mut disk = MemoryDisk::with_limit(alloc, 64, 64)?;
+    let (ended, written) = replay_at(alloc, call, &mut disk)?;
+    let (_, listed) = print(alloc, &mut disk)?;
+    let is_silent = written.is_empty() == (status == Status::DiskFault);
+    Ok(ended == status && is_silent && listed.as_slice() == text.as_bytes())
+}
+
 // Each call of the disk fails in turn: three open the journal, and each entry takes four. Nothing is written, and the journal
 // lists the entries whose gate was opened; the one whose gate was opened and not synced is there where the disk kept it.
 #[test]
 fn each_call_of_the_disk_fails(rt: HostRuntime) -> Result<(), Fail> {
-    for (first, last, status, text) in [
-        (1, 6, Status::DiskFault, NOTHING),
-        (7, 10, Status::DiskFault, STARTS),
-        (11, 14, Status::DiskFault, DECIDES),
-        (15, 15, Status::DiskFault, ENDS),
-        (16, 16, Status::Ok, ENDS),
-    ] {
-        for call in first..=last {
-            let mut disk = MemoryDisk::with_limit(rt.alloc(), 64, 64)?;
-            disk.plan(&[call])?;
-            let ended = replay(rt.alloc(), WHOLE, &mut disk)?;
-            assert_eq!(rt; ended.0, status, "{call}");
-            assert_eq!(rt; ended.1.is_empty(), status == Status::DiskFault, "{call}");
-            disk.plan(&[])?;
-            let listed = print(rt.alloc(), &mut disk)?;
-            assert_eq!(rt; listed.1.as_slice(), text.as_bytes(), "{call}");
-        }
+    for call in 1..=15u64 {
+        let text = match call {
+            1..=6 => NOTHING,
+            7..=10 => STARTS,
+            11..=14 => DECIDES,
+            _ => ENDS,
+        };
+        assert!(rt;
+            ends_at(rt.alloc(), call, Status::DiskFault, text)?,
+            "{call}"
+        );
     }
+    assert!(rt; ends_at(rt.alloc(), 16, Status::Ok, ENDS)?);
     Ok(())
 }
 
@@ -68,46 +80,44 @@ fn records_stand_in_order(rt: HostRuntime) -> Result<(), Fail> {
     Ok(())
 }
 
+// Whether a journal of so many bytes of a whole run is printed so.
+fn is_front(alloc: Global, bytes: &[u8], size: usize, text: &str) -> Result<bool, Fail> {
+    let mut disk = MemoryDisk::with_limit(alloc, 64, 64)?;
+    for byte in &bytes[..size.min(bytes.len())] {
+        let end = disk.bytes().len() as u64;
+        let _ = disk.write_at(end, &[*byte]);
+    }
+    let (status, listed) = print(alloc, &mut disk)?;
+    Ok(status == Status::Ok && listed.as_slice() == text.as_bytes())
+}
+
 // A crash leaves some front of the bytes, which reads as the entries that are whole in it.
 #[test]
 fn fronts_are_read(rt: HostRuntime) -> Result<(), Fail> {
-    let mut bytes = Vec::new(rt.alloc());
-    for record in [TIMED, COMMITTED, ENDED] {
-        bytes.extend_from_slice(record.as_slice())?;
-    }
-    bytes.push(0)?;
-    for (first, last, text) in [
-        (0, 16, NOTHING),
-        (17, 32, STARTS),
-        (33, 48, DECIDES),
-        (49, 49, ENDS),
-    ] {
-        for size in first..=last {
-            let mut disk = MemoryDisk::with_limit(rt.alloc(), 64, 64)?;
-            for byte in &bytes[..size.min(bytes.len())] {
-                let end = disk.bytes().len() as u64;
-                let _ = disk.write_at(end, &[*byte]);
-            }
-            let listed = print(rt.alloc(), &mut disk)?;
-            assert_eq!(rt; listed.0, Status::Ok, "{size}");
-            assert_eq!(rt; listed.1.as_slice(), text.as_bytes(), "{size}");
-        }
+    let whole = disk_of(rt.alloc(), &[TIMED, COMMITTED, ENDED])?;
+    for size in 0..=49usize {
+        let text = match size {
+            0..=16 => NOTHING,
+            17..=32 => STARTS,
+            33..=48 => DECIDES,
+            _ => ENDS,
+        };
+        assert!(rt; is_front(rt.alloc(), whole.bytes(), size, text)?, "{size}");
     }
     Ok(())
+}
+
+// Whether a run over a journal of one record ends so, and leaves it.
+fn is_refused(alloc: Global, scenario: &str, status: Status, text: &str) -> Result<bool, Fail> {
+    let mut disk = disk_of(alloc, &[STARTED])?;
+    let (ended, written) = replay(alloc, scenario, &mut disk)?;
+    Ok(ended == status && written.as_slice() == text.as_bytes() && disk.bytes().len() == 17)
 }
 
 // Nothing is run over a journal that holds something, and no journal is opened for what is no scenario.
 #[test]
 fn full_journals_are_refused(rt: HostRuntime) -> Result<(), Fail> {
-    for (scenario, status, text) in [
-        (WHOLE, Status::Journal, "journal not empty 17\n"),
-        ("{", Status::Scenario, "scenario not-json /\n"),
-    ] {
-        let mut disk = disk_of(rt.alloc(), &[STARTED])?;
-        let ended = replay(rt.alloc(), scenario, &mut disk)?;
-        assert_eq!(rt; ended.0, status);
-        assert_eq!(rt; ended.1.as_slice(), text.as_bytes());
-        assert_eq!(rt; disk.bytes().len(), 17);
-    }
+    assert!(rt; is_refused(rt.alloc(), WHOLE, Status::Journal, "journal not empty 17\n")?);
+    assert!(rt; is_refused(rt.alloc(), "{", Status::Scenario, "scenario not-json /\n")?);
     Ok(())
 }

@@ -1,13 +1,13 @@
-ghost use Rattle.std.specs.Prelude.{◌≡◌, IfOk};
+ghost use Rattle.std.specs.Prelude.{◌≡◌, IfOk, IsTrue};
 ghost use Rattle.nm_proto.specs.FlatContent.{flat_meaning};
 ghost use Rattle.nm_device.specs.Device.{IsInTime, IsSound};
 ghost use Rattle.nm_device.specs.Table.{is_opening};
 
-use nm_base::{ChangeMask, ChangeNo, EditNo, Label, MANAGER, NoMemory, SelectNo, SessionId, Tag};
+use crate::words::{is_told, number_of, parted, request_of, yes_or_no};
+use nm_base::{Label, MANAGER, NoMemory, SessionId};
 use nm_device::Device;
 use nm_proto::{
-    Content, DefaultOperation, FlatConfig, FlatContent, FlatEdit, Listed, Marks, NumberMap, Reply,
-    Request, Store, Tables,
+    Content, FlatConfig, FlatContent, FlatEdit, Listed, NumberMap, Reply, Request, Tables,
 };
 use std::alloc::Global;
 use std::test::Fail;
@@ -15,7 +15,6 @@ use std::test::Fail;
 // A device that runs `{"7":1}`.
 fn device_of(alloc: Global) -> Result<Device<FlatContent>, Fail>
     ensures sound { IfOk result (λ device. IsSound flat_meaning device) }
-    ensures in_time { IfOk result (λ device. IsInTime device.clock) }
 {
     let mut cells = NumberMap::new(alloc);
     cells.insert(7, 1)?;
@@ -61,31 +60,12 @@ fn is_opening(request: &Request) -> bool
     matches!(request, Request::OpenSession { .. })
 }
 
-// Whether the session with this number, opened before, is answered so.
-fn answers(
-    alloc: Global,
-    device: &mut Device<FlatContent>,
-    session: u32,
-    request: &Request,
-    want: &Reply,
-) -> Result<bool, NoMemory>
-    requires sound { IsSound flat_meaning device.old }
-    requires in_time { IsInTime device.old.clock }
-    ensures sound { IsSound flat_meaning device.new }
-    ensures in_time { IsInTime device.new.clock }
+// Whether the clock is in the range that a step needs: no script takes it above a million seconds.
+#[tactic(auto, unfolding(nm_device::specs::Device::IsInTime))]
+fn is_in_time(device: &Device<FlatContent>) -> bool
+    ensures { IsTrue result → IsInTime device.now.clock }
 {
-    let Some(session) = SessionId::new(session) else {
-        return Ok(false);
-    };
-    if !device.has_session(session) {
-        return Ok(false);
-    }
-    if is_opening(request) {
-        return Ok(false);
-    }
-    let tables = tables_of(alloc)?;
-    let reply = device.step(&FlatContent::new(alloc), &tables, session, request)?;
-    Ok(reply.same(want))
+    device.clock() <= 1_000_000
 }
 
 // Whether a user gets the session with this number.
@@ -96,9 +76,7 @@ fn opens(
     session: u32,
 ) -> Result<bool, NoMemory>
     requires sound { IsSound flat_meaning device.old }
-    requires in_time { IsInTime device.old.clock }
     ensures sound { IsSound flat_meaning device.new }
-    ensures in_time { IsInTime device.new.clock }
 {
     match device.open_session(Label::new(alloc, user)?)? {
         Reply::Opened(opened) => Ok(opened.get() == session),
@@ -106,59 +84,9 @@ fn opens(
     }
 }
 
-fn refused(tag: Tag) -> Reply {
-    Reply::Error {
-        tag,
-        session: None,
-        path: None,
-    }
-}
-
-fn denied(holder: u32) -> Reply {
-    Reply::Error {
-        tag: Tag::LockDenied,
-        session: Some(holder),
-        path: None,
-    }
-}
-
-fn refused_at(alloc: Global, tag: Tag, path: &str) -> Result<Reply, NoMemory> {
-    Ok(Reply::Error {
-        tag,
-        session: None,
-        path: Some(Label::new(alloc, path)?),
-    })
-}
-
-fn edit(number: u32, default_operation: DefaultOperation) -> Request {
-    Request::Edit {
-        edit: EditNo(number),
-        default_operation,
-        marks: None,
-    }
-}
-
-fn plain_commit() -> Request {
-    Request::Commit {
-        confirmed: false,
-        timeout: None,
-        persist: None,
-        persist_id: None,
-    }
-}
-
-fn lock(store: Store) -> Request {
-    Request::Lock { store }
-}
-
-fn unlock(store: Store) -> Request {
-    Request::Unlock { store }
-}
-
 // Two open sessions, 1 of alice and 2 of the manager.
 fn two_sessions(alloc: Global) -> Result<Device<FlatContent>, Fail>
     ensures sound { IfOk result (λ device. IsSound flat_meaning device) }
-    ensures in_time { IfOk result (λ device. IsInTime device.clock) }
 {
     let mut device = device_of(alloc)?;
     if !opens(alloc, &mut device, "alice", 1)? || !opens(alloc, &mut device, MANAGER, 2)? {
@@ -167,68 +95,216 @@ fn two_sessions(alloc: Global) -> Result<Device<FlatContent>, Fail>
     Ok(device)
 }
 
-// Whether these requests of sessions are answered so, one after another.
-fn all_answer(
+// ---- what sessions ask
+
+// What a session is answered, None where it isn't open or the request opens one.
+fn answer_of(
     alloc: Global,
     device: &mut Device<FlatContent>,
-    steps: &[(u32, Request, Reply)],
-) -> Result<bool, NoMemory>
+    session: SessionId,
+    request: &Request,
+) -> Option<Reply>
     requires sound { IsSound flat_meaning device.old }
-    requires in_time { IsInTime device.old.clock }
     ensures sound { IsSound flat_meaning device.new }
-    ensures in_time { IsInTime device.new.clock }
 {
-    for (session, request, want) in steps {
-        if !answers(alloc, device, *session, request, want)? {
-            return Ok(false);
+    if !device.has_session(session) {
+        return None;
+    }
+    if is_opening(request) {
+        return None;
+    }
+    if !is_in_time(device) {
+        return None;
+    }
+    let tables = tables_of(alloc).ok()?;
+    device
+        .step(&FlatContent::new(alloc), &tables, session, request)
+        .ok()
+}
+
+// What the session with this number is answered, None where the words are no request.
+fn asked(
+    alloc: Global,
+    device: &mut Device<FlatContent>,
+    session: &str,
+    words: &str,
+) -> Option<Reply>
+    requires sound { IsSound flat_meaning device.old }
+    ensures sound { IsSound flat_meaning device.new }
+{
+    let session = session_of(session)?;
+    let request = request_of(alloc, words)?;
+    answer_of(alloc, device, session, &request)
+}
+
+// Whether it is answered so.
+fn answers(
+    alloc: Global,
+    device: &mut Device<FlatContent>,
+    session: &str,
+    words: &str,
+    want: &str,
+) -> bool
+    requires sound { IsSound flat_meaning device.old }
+    ensures sound { IsSound flat_meaning device.new }
+{
+    match asked(alloc, device, session, words) {
+        Some(reply) => is_told(&reply, want),
+        None => false,
+    }
+}
+
+// The session of a number.
+fn session_of(text: &str) -> Option<SessionId> {
+    SessionId::new(number_of(text)?)
+}
+
+// ---- what comes to the device itself
+
+// Whether a configuration has this value at a cell.
+fn is_cell(config: &FlatConfig, cell: &str, want: &str) -> bool {
+    let Some(cell) = number_of(cell) else {
+        return false;
+    };
+    match config.cells().get(cell) {
+        Some(value) => want.parse::<u64>() == Ok(value),
+        None => want == "none",
+    }
+}
+
+// Whether the session with this number is open.
+fn has_session(device: &Device<FlatContent>, session: &str) -> bool {
+    match session_of(session) {
+        Some(session) => device.has_session(session),
+        None => false,
+    }
+}
+
+// Whether the device tells this of itself, None where the word asks for nothing.
+fn is_so(device: &Device<FlatContent>, word: &str, rest: &str, want: &str) -> Option<bool> {
+    match word {
+        "running" => Some(is_cell(device.running(), rest, want)),
+        "candidate" => Some(is_cell(device.candidate(), rest, want)),
+        "pending" => Some(want == yes_or_no(device.is_pending())),
+        "has-session" => Some(want == yes_or_no(has_session(device, rest))),
+        "clock" => Some(want.parse::<u64>() == Ok(device.clock())),
+        _ => None,
+    }
+}
+
+// What became of the commit that is pending: whether it was undone.
+fn undone_or_kept(undone: bool) -> &'static str {
+    if undone { "undone" } else { "kept" }
+}
+
+// Whether some seconds do this to the commit that is pending.
+fn advances(alloc: Global, device: &mut Device<FlatContent>, seconds: &str, want: &str) -> bool
+    requires sound { IsSound flat_meaning device.old }
+    ensures sound { IsSound flat_meaning device.new }
+{
+    let Some(seconds) = number_of(seconds) else {
+        return false;
+    };
+    if !is_in_time(device) {
+        return false;
+    }
+    want == undone_or_kept(device.advance(&FlatContent::new(alloc), seconds))
+}
+
+// Whether the loss of a session that is open does this to the commit that is pending.
+fn loses(alloc: Global, device: &mut Device<FlatContent>, session: &str, want: &str) -> bool
+    requires sound { IsSound flat_meaning device.old }
+    ensures sound { IsSound flat_meaning device.new }
+{
+    let Some(session) = session_of(session) else {
+        return false;
+    };
+    if !device.has_session(session) {
+        return false;
+    }
+    want == undone_or_kept(device.lose(&FlatContent::new(alloc), session))
+}
+
+// Whether what comes to the device does this.
+fn comes(
+    alloc: Global,
+    device: &mut Device<FlatContent>,
+    word: &str,
+    rest: &str,
+    want: &str,
+) -> bool
+    requires sound { IsSound flat_meaning device.old }
+    ensures sound { IsSound flat_meaning device.new }
+{
+    match word {
+        "advance" => advances(alloc, device, rest, want),
+        "lose" => loses(alloc, device, rest, want),
+        "restart" => want == undone_or_kept(device.restart(&FlatContent::new(alloc))),
+        _ => false,
+    }
+}
+
+// ---- scripts
+
+// Whether a step of a script is so: `1 lock running` of a session, `device clock` of the device itself.
+fn goes(alloc: Global, device: &mut Device<FlatContent>, step: &str, want: &str) -> bool
+    requires sound { IsSound flat_meaning device.old }
+    ensures sound { IsSound flat_meaning device.new }
+{
+    let (who, words) = parted(step);
+    if who != "device" {
+        return answers(alloc, device, who, words, want);
+    }
+    let (word, rest) = parted(words);
+    match is_so(device, word, rest, want) {
+        Some(so) => so,
+        None => comes(alloc, device, word, rest, want),
+    }
+}
+
+// The first line `STEP => WANT` that isn't so, where sessions 1 of alice and 2 of the manager are open. None where all are.
+fn unlike(alloc: Global, script: &str) -> Result<Option<&str>, Fail> {
+    let mut device = two_sessions(alloc)?;
+    for line in script.lines().skip(1) {
+        let (step, want) = line.split_once(" => ").unwrap_or((line, ""));
+        if !goes(alloc, &mut device, step, want) {
+            return Ok(Some(line));
         }
     }
-    Ok(true)
+    Ok(None)
 }
 
 // RFC 6241 section 7.5: who holds a lock is named, the asker included.
 #[test]
 fn locks_are_denied_in_order(rt: HostRuntime) -> Result<(), Fail> {
-    let mut device = two_sessions(rt.alloc())?;
-    assert!(rt;
-        all_answer(
-            rt.alloc(),
-            &mut device,
-            &[
-                (1, lock(Store::Running), Reply::Done),
-                (1, lock(Store::Running), denied(1)),
-                (2, lock(Store::Running), denied(1)),
-                (2, lock(Store::Candidate), Reply::Done),
-                (1, lock(Store::Candidate), denied(2)),
-                (1, unlock(Store::Candidate), refused(Tag::OperationFailed)),
-                (2, unlock(Store::Candidate), Reply::Done),
-                (2, unlock(Store::Candidate), refused(Tag::OperationFailed)),
-            ]
-        )?
-    );
+    let script = r"
+1 lock running => ok
+1 lock running => lock-denied by 1
+2 lock running => lock-denied by 1
+2 lock candidate => ok
+1 lock candidate => lock-denied by 2
+1 unlock candidate => operation-failed
+2 unlock candidate => ok
+2 unlock candidate => operation-failed
+";
+    assert_eq!(rt; unlike(rt.alloc(), script)?, None);
     Ok(())
 }
 
 // A modified candidate can't be locked, and unlocking one drops its changes.
 #[test]
 fn modified_candidates_are_not_locked(rt: HostRuntime) -> Result<(), Fail> {
-    let mut device = two_sessions(rt.alloc())?;
-    assert!(rt;
-        all_answer(
-            rt.alloc(),
-            &mut device,
-            &[
-                (1, edit(0, DefaultOperation::Merge), Reply::Done),
-                (1, lock(Store::Candidate), denied(0)),
-                (1, Request::Discard, Reply::Done),
-                (1, lock(Store::Candidate), Reply::Done),
-                (1, edit(0, DefaultOperation::Merge), Reply::Done),
-                (1, unlock(Store::Candidate), Reply::Done),
-                (2, lock(Store::Candidate), Reply::Done),
-            ]
-        )?
-    );
-    assert_eq!(rt; device.candidate().cells().get(7), Some(1));
+    let script = r"
+1 edit 0 => ok
+1 lock candidate => lock-denied by 0
+1 discard => ok
+1 lock candidate => ok
+1 edit 0 => ok
+1 unlock candidate => ok
+2 lock candidate => ok
+device candidate 7 => 1
+";
+    assert_eq!(rt; unlike(rt.alloc(), script)?, None);
     Ok(())
 }
 
@@ -236,206 +312,102 @@ fn modified_candidates_are_not_locked(rt: HostRuntime) -> Result<(), Fail> {
 // with its tag and path.
 #[test]
 fn edits_are_refused_in_order(rt: HostRuntime) -> Result<(), Fail> {
-    let mut device = two_sessions(rt.alloc())?;
-    let missing = refused_at(rt.alloc(), Tag::DataMissing, "8")?;
-    let invalid = refused_at(rt.alloc(), Tag::InvalidValue, "7")?;
-    assert!(rt;
-        all_answer(
-            rt.alloc(),
-            &mut device,
-            &[
-                (2, lock(Store::Candidate), Reply::Done),
-                (1, edit(0, DefaultOperation::Merge), refused(Tag::InUse)),
-                (1, Request::Discard, refused(Tag::InUse)),
-                (2, edit(2, DefaultOperation::Nothing), missing),
-                (2, edit(0, DefaultOperation::Merge), Reply::Done),
-                (2, Request::Validate, Reply::Done),
-                (2, edit(1, DefaultOperation::Merge), Reply::Done),
-                (1, Request::Validate, invalid),
-            ]
-        )?
-    );
-    assert_eq!(rt; device.running().cells().get(7), Some(1));
-    assert_eq!(rt; device.candidate().cells().get(7), Some(1_000_001));
+    let script = r"
+2 lock candidate => ok
+1 edit 0 => in-use
+1 discard => in-use
+2 edit 2 none => data-missing at 8
+2 edit 0 => ok
+2 validate => ok
+2 edit 1 => ok
+1 validate => invalid-value at 7
+device running 7 => 1
+device candidate 7 => 1000001
+";
+    assert_eq!(rt; unlike(rt.alloc(), script)?, None);
     Ok(())
 }
 
 // RFC 6241 section 8.3.4.1: no other session may hold a lock, and candidate must be valid.
 #[test]
 fn commits_are_refused_in_order(rt: HostRuntime) -> Result<(), Fail> {
-    let mut device = two_sessions(rt.alloc())?;
-    let invalid = refused_at(rt.alloc(), Tag::InvalidValue, "7")?;
-    assert!(rt;
-        all_answer(
-            rt.alloc(),
-            &mut device,
-            &[
-                (1, edit(1, DefaultOperation::Merge), Reply::Done),
-                (2, lock(Store::Running), Reply::Done),
-                (1, plain_commit(), refused(Tag::InUse)),
-                (2, unlock(Store::Running), Reply::Done),
-                (1, plain_commit(), invalid),
-                (1, edit(0, DefaultOperation::Merge), Reply::Done),
-                (1, plain_commit(), Reply::Done),
-                (1, plain_commit(), Reply::Done),
-            ]
-        )?
-    );
-    assert_eq!(rt; device.running().cells().get(7), Some(5));
+    let script = r"
+1 edit 1 => ok
+2 lock running => ok
+1 commit => in-use
+2 unlock running => ok
+1 commit => invalid-value at 7
+1 edit 0 => ok
+1 commit => ok
+1 commit => ok
+device running 7 => 5
+";
+    assert_eq!(rt; unlike(rt.alloc(), script)?, None);
     Ok(())
-}
-
-// A commit that waits so many seconds under a token.
-fn confirmed(alloc: Global, seconds: u32, token: &str) -> Result<Request, NoMemory> {
-    Ok(Request::Commit {
-        confirmed: true,
-        timeout: Some(seconds),
-        persist: Some(Label::new(alloc, token)?),
-        persist_id: None,
-    })
-}
-
-// A commit that names a token.
-fn confirming(alloc: Global, token: &str) -> Result<Request, NoMemory> {
-    Ok(Request::Commit {
-        confirmed: false,
-        timeout: None,
-        persist: None,
-        persist_id: Some(Label::new(alloc, token)?),
-    })
 }
 
 // RFC 6241 section 8.4: the manager's tokens are its own, a commit waits at least a second, and nothing else than what
 // is pending can be confirmed.
 #[test]
 fn tokens_are_refused_in_order(rt: HostRuntime) -> Result<(), Fail> {
-    let mut device = two_sessions(rt.alloc())?;
-    let stolen = confirming(rt.alloc(), "netm:1")?;
-    let unnamed = confirmed(rt.alloc(), 0, "netm:1")?;
-    let begun = confirmed(rt.alloc(), 600, "netm:1")?;
-    let early = confirming(rt.alloc(), "netm:1")?;
-    assert!(rt;
-        all_answer(
-            rt.alloc(),
-            &mut device,
-            &[
-                (1, stolen, refused(Tag::AccessDenied)),
-                (2, unnamed, refused(Tag::InvalidValue)),
-                (2, early, refused(Tag::InvalidValue)),
-                (2, begun, Reply::Done),
-            ]
-        )?
-    );
+    let script = r"
+1 confirm netm:1 => access-denied
+2 commit 0 netm:1 => invalid-value
+2 confirm netm:1 => invalid-value
+2 commit 600 netm:1 => ok
+";
+    assert_eq!(rt; unlike(rt.alloc(), script)?, None);
     Ok(())
 }
 
 // A pending commit keeps other users' lock of running out, and commits that don't name its token.
 #[test]
 fn pending_commits_are_confirmed_by_their_token(rt: HostRuntime) -> Result<(), Fail> {
-    let mut device = two_sessions(rt.alloc())?;
-    let begun = confirmed(rt.alloc(), 600, "netm:1")?;
-    let other = confirming(rt.alloc(), "netm:2")?;
-    let named = confirming(rt.alloc(), "netm:1")?;
-    assert!(rt;
-        all_answer(
-            rt.alloc(),
-            &mut device,
-            &[
-                (2, begun, Reply::Done),
-                (1, lock(Store::Running), denied(0)),
-                (2, lock(Store::Running), Reply::Done),
-                (2, plain_commit(), refused(Tag::InvalidValue)),
-                (2, other, refused(Tag::InvalidValue)),
-                (2, unlock(Store::Running), Reply::Done),
-                (2, named, Reply::Done),
-                (1, lock(Store::Running), Reply::Done),
-            ]
-        )?
-    );
+    let script = r"
+2 commit 600 netm:1 => ok
+1 lock running => lock-denied by 0
+2 lock running => ok
+2 commit => invalid-value
+2 confirm netm:2 => invalid-value
+2 unlock running => ok
+2 confirm netm:1 => ok
+1 lock running => ok
+";
+    assert_eq!(rt; unlike(rt.alloc(), script)?, None);
     Ok(())
 }
 
 // Running is told by its marks and its rows.
 #[test]
 fn running_is_told(rt: HostRuntime) -> Result<(), Fail> {
-    let mut device = two_sessions(rt.alloc())?;
-    let change = ChangeNo::new(1).ok_or("1")?;
-    let marked = Request::Edit {
-        edit: EditNo(2),
-        default_operation: DefaultOperation::Merge,
-        marks: Some(Marks {
-            add: change,
-            remove: ChangeMask(0),
-        }),
-    };
-    assert!(rt;
-        all_answer(
-            rt.alloc(),
-            &mut device,
-            &[
-                (1, Request::HasMark { change }, Reply::Mark(false)),
-                (1, Request::GetConfig, Reply::Rows(1)),
-                (2, marked, Reply::Done),
-                (1, Request::HasMark { change }, Reply::Mark(false)),
-                (2, plain_commit(), Reply::Done),
-                (1, Request::HasMark { change }, Reply::Mark(true)),
-                (1, Request::GetConfig, Reply::Rows(2)),
-            ]
-        )?
-    );
+    let script = r"
+1 has-mark 1 => mark no
+1 get-config => rows 1
+2 edit 2 mark => ok
+1 has-mark 1 => mark no
+2 commit => ok
+1 has-mark 1 => mark yes
+1 get-config => rows 2
+";
+    assert_eq!(rt; unlike(rt.alloc(), script)?, None);
     Ok(())
-}
-
-// A confirmed commit of 600 seconds, with the token that it gives and the one that it names.
-fn waiting(alloc: Global, persist: &str, persist_id: &str) -> Result<Request, NoMemory> {
-    Ok(Request::Commit {
-        confirmed: true,
-        timeout: None,
-        persist: token_of(alloc, persist)?,
-        persist_id: token_of(alloc, persist_id)?,
-    })
-}
-
-fn cancel(alloc: Global, persist_id: &str) -> Result<Request, NoMemory> {
-    Ok(Request::CancelCommit {
-        persist_id: token_of(alloc, persist_id)?,
-    })
-}
-
-// The token of a text, none where it is empty.
-fn token_of(alloc: Global, text: &str) -> Result<Option<Label>, NoMemory> {
-    if text.is_empty() {
-        return Ok(None);
-    }
-    Ok(Some(Label::new(alloc, text)?))
 }
 
 // RFC 6241 section 8.4.4: a cancel names what is pending, and takes the follow-up of another session back too.
 #[test]
 fn cancels_take_back_all(rt: HostRuntime) -> Result<(), Fail> {
-    let mut device = two_sessions(rt.alloc())?;
-    let nothing = cancel(rt.alloc(), "")?;
-    let begun = waiting(rt.alloc(), "x", "")?;
-    let followed = waiting(rt.alloc(), "", "x")?;
-    let other = cancel(rt.alloc(), "y")?;
-    let named = cancel(rt.alloc(), "x")?;
-    assert!(rt;
-        all_answer(
-            rt.alloc(),
-            &mut device,
-            &[
-                (1, nothing, refused(Tag::OperationFailed)),
-                (1, edit(0, DefaultOperation::Merge), Reply::Done),
-                (1, begun, Reply::Done),
-                (2, edit(3, DefaultOperation::Merge), Reply::Done),
-                (2, followed, Reply::Done),
-                (1, other, refused(Tag::InvalidValue)),
-                (1, named, Reply::Done),
-            ]
-        )?
-    );
-    assert!(rt; !device.is_pending());
-    assert_eq!(rt; device.running().cells().get(7), Some(1));
+    let script = r"
+1 cancel => operation-failed
+1 edit 0 => ok
+1 wait x => ok
+2 edit 3 => ok
+2 follow x => ok
+1 cancel y => invalid-value
+1 cancel x => ok
+device pending => no
+device running 7 => 1
+";
+    assert_eq!(rt; unlike(rt.alloc(), script)?, None);
     Ok(())
 }
 
@@ -443,184 +415,103 @@ fn cancels_take_back_all(rt: HostRuntime) -> Result<(), Fail> {
 // token.
 #[test]
 fn kills_undo_what_is_their_own(rt: HostRuntime) -> Result<(), Fail> {
-    let mut device = two_sessions(rt.alloc())?;
-    let begun = waiting(rt.alloc(), "", "")?;
-    assert!(rt;
-        all_answer(
-            rt.alloc(),
-            &mut device,
-            &[
-                (1, edit(0, DefaultOperation::Merge), Reply::Done),
-                (1, begun, Reply::Done),
-                (2, plain_commit(), refused(Tag::InUse)),
-                (2, Request::Kill { session: 2 }, refused(Tag::InvalidValue)),
-                (2, Request::Kill { session: 3 }, refused(Tag::InvalidValue)),
-                (2, Request::Kill { session: 1 }, Reply::Done),
-            ]
-        )?
-    );
-    assert!(rt; !device.is_pending());
-    assert_eq!(rt; device.running().cells().get(7), Some(1));
+    let script = r"
+1 edit 0 => ok
+1 wait => ok
+2 commit => in-use
+2 kill 2 => invalid-value
+2 kill 3 => invalid-value
+2 kill 1 => ok
+device pending => no
+device running 7 => 1
+";
+    assert_eq!(rt; unlike(rt.alloc(), script)?, None);
     Ok(())
 }
 
-// RFC 6241 section 8.4.1: a commit is undone at its deadline and at a restart, which ends all sessions.
+// RFC 6241 section 8.4.1: a commit is undone at its deadline, 600 seconds on, and at a restart, which ends all sessions.
 #[test]
 fn timers_and_restarts_undo(rt: HostRuntime) -> Result<(), Fail> {
-    let content = FlatContent::new(rt.alloc());
-    let alice = SessionId::new(1).ok_or("1")?;
-    for (seconds, undone) in [(599, false), (600, true)] {
-        let mut device = two_sessions(rt.alloc())?;
-        let begun = waiting(rt.alloc(), "x", "")?;
-        let steps = [
-            (1, edit(0, DefaultOperation::Merge), Reply::Done),
-            (1, begun, Reply::Done),
-        ];
-        assert!(rt; all_answer(rt.alloc(), &mut device, &steps)?);
-        assert_eq!(rt; device.advance(&content, seconds), undone);
-        assert_eq!(rt; device.clock(), u64::from(seconds));
-        assert_eq!(rt; device.restart(&content), !undone);
-        assert!(rt; !device.has_session(alice));
-        assert_eq!(rt; device.running().cells().get(7), Some(1));
-    }
+    let script = r"
+1 edit 0 => ok
+1 wait x => ok
+device advance 599 => kept
+device clock => 599
+device restart => undone
+device has-session 1 => no
+device running 7 => 1
+";
+    assert_eq!(rt; unlike(rt.alloc(), script)?, None);
+    let script = r"
+1 edit 0 => ok
+1 wait x => ok
+device advance 600 => undone
+device clock => 600
+device restart => kept
+device has-session 1 => no
+device running 7 => 1
+";
+    assert_eq!(rt; unlike(rt.alloc(), script)?, None);
     Ok(())
 }
 
 // The end of a session, by a close or by a loss, gives its locks back and drops the changes of a locked candidate.
 #[test]
 fn sessions_end_with_their_locks(rt: HostRuntime) -> Result<(), Fail> {
-    let mut device = two_sessions(rt.alloc())?;
-    assert!(rt;
-        all_answer(
-            rt.alloc(),
-            &mut device,
-            &[
-                (1, lock(Store::Running), Reply::Done),
-                (1, lock(Store::Candidate), Reply::Done),
-                (1, edit(0, DefaultOperation::Merge), Reply::Done),
-                (1, Request::CloseSession, Reply::Done),
-                (2, lock(Store::Running), Reply::Done),
-                (2, lock(Store::Candidate), Reply::Done),
-                (2, edit(0, DefaultOperation::Merge), Reply::Done),
-            ]
-        )?
-    );
-    let lost = SessionId::new(2).ok_or("2")?;
-    assert!(rt; device.has_session(lost));
-    assert_eq!(rt; device.lose(&FlatContent::new(rt.alloc()), lost), false);
-    assert!(rt; !device.has_session(lost));
-    assert_eq!(rt; device.candidate().cells().get(7), Some(1));
-    assert_eq!(rt; device.clock(), 0);
+    let script = r"
+1 lock running => ok
+1 lock candidate => ok
+1 edit 0 => ok
+1 close-session => ok
+2 lock running => ok
+2 lock candidate => ok
+2 edit 0 => ok
+device has-session 2 => yes
+device lose 2 => kept
+device has-session 2 => no
+device candidate 7 => 1
+device clock => 0
+";
+    assert_eq!(rt; unlike(rt.alloc(), script)?, None);
     Ok(())
-}
-
-// 64 sessions may be open, and no id is given twice.
-#[test]
-fn the_65th_session_is_refused(rt: HostRuntime) -> Result<(), Fail> {
-    let mut device = device_of(rt.alloc())?;
-    for session in 1..65 {
-        assert!(rt; opens(rt.alloc(), &mut device, "alice", session)?);
-    }
-    let reply = device.open_session(Label::new(rt.alloc(), "bob")?)?;
-    assert!(rt; reply.same(&refused(Tag::ResourceDenied)));
-    assert!(rt;
-        answers(
-            rt.alloc(),
-            &mut device,
-            1,
-            &Request::CloseSession,
-            &Reply::Done
-        )?
-    );
-    assert!(rt; opens(rt.alloc(), &mut device, "bob", 65)?);
-    Ok(())
-}
-
-fn lock_part(number: u32) -> Request {
-    Request::PartialLock {
-        select: SelectNo(number),
-    }
 }
 
 // RFC 5717 section 2.4.1: a partial lock is refused for a text that names no node, another's lock of running, a pending
 // commit of others, nodes that aren't there, and an overlap, in this order. What is locked is told by its holder alone.
 #[test]
 fn partial_locks_are_refused_in_order(rt: HostRuntime) -> Result<(), Fail> {
-    let mut device = two_sessions(rt.alloc())?;
-    let begun = confirmed(rt.alloc(), 600, "netm:1")?;
-    let named = confirming(rt.alloc(), "netm:1")?;
-    assert!(rt;
-        all_answer(
-            rt.alloc(),
-            &mut device,
-            &[
-                (2, begun, Reply::Done),
-                (2, lock(Store::Running), Reply::Done),
-                (1, lock_part(3), refused(Tag::InvalidValue)),
-                (1, lock_part(1), denied(2)),
-                (2, unlock(Store::Running), Reply::Done),
-                (1, lock_part(1), denied(0)),
-                (2, lock_part(0), Reply::LockId(1)),
-                (2, named, Reply::Done),
-                (1, lock_part(1), refused(Tag::OperationFailed)),
-                (1, lock_part(2), denied(2)),
-                (2, lock_part(0), Reply::LockId(2)),
-                (1, lock_part(4), refused(Tag::OperationFailed)),
-            ]
-        )?
-    );
+    let script = r"
+2 commit 600 netm:1 => ok
+2 lock running => ok
+1 partial-lock 3 => invalid-value
+1 partial-lock 1 => lock-denied by 2
+2 unlock running => ok
+1 partial-lock 1 => lock-denied by 0
+2 partial-lock 0 => lock-id 1
+2 confirm netm:1 => ok
+1 partial-lock 1 => operation-failed
+1 partial-lock 2 => lock-denied by 2
+2 partial-lock 0 => lock-id 2
+1 partial-lock 4 => operation-failed
+";
+    assert_eq!(rt; unlike(rt.alloc(), script)?, None);
     Ok(())
 }
 
 // RFC 5717 section 2.4.2: a partial lock is given back by its holder, once, and at the end of its session.
 #[test]
 fn partial_locks_are_given_back(rt: HostRuntime) -> Result<(), Fail> {
-    let mut device = two_sessions(rt.alloc())?;
-    assert!(rt;
-        all_answer(
-            rt.alloc(),
-            &mut device,
-            &[
-                (1, lock_part(0), Reply::LockId(1)),
-                (1, lock(Store::Running), denied(1)),
-                (
-                    2,
-                    Request::PartialUnlock { id: 1 },
-                    refused(Tag::InvalidValue)
-                ),
-                (1, Request::PartialUnlock { id: 1 }, Reply::Done),
-                (
-                    1,
-                    Request::PartialUnlock { id: 1 },
-                    refused(Tag::InvalidValue)
-                ),
-                (2, lock_part(0), Reply::LockId(2)),
-                (2, Request::CloseSession, Reply::Done),
-                (1, lock(Store::Running), Reply::Done),
-            ]
-        )?
-    );
-    Ok(())
-}
-
-// As many partial locks may stand as the limit allows.
-#[test]
-fn the_65th_partial_lock_is_refused(rt: HostRuntime) -> Result<(), Fail> {
-    let mut device = two_sessions(rt.alloc())?;
-    for id in 1..65 {
-        assert!(rt;
-            answers(
-                rt.alloc(),
-                &mut device,
-                1,
-                &lock_part(0),
-                &Reply::LockId(id)
-            )?
-        );
-    }
-    let full = refused(Tag::ResourceDenied);
-    assert!(rt; answers(rt.alloc(), &mut device, 1, &lock_part(0), &full)?);
-    assert!(rt; answers(rt.alloc(), &mut device, 2, &lock_part(0), &denied(1))?);
+    let script = r"
+1 partial-lock 0 => lock-id 1
+1 lock running => lock-denied by 1
+2 partial-unlock 1 => invalid-value
+1 partial-unlock 1 => ok
+1 partial-unlock 1 => invalid-value
+2 partial-lock 0 => lock-id 2
+2 close-session => ok
+1 lock running => ok
+";
+    assert_eq!(rt; unlike(rt.alloc(), script)?, None);
     Ok(())
 }
 
@@ -628,63 +519,124 @@ fn the_65th_partial_lock_is_refused(rt: HostRuntime) -> Result<(), Fail> {
 // forgotten, and their lock stands.
 #[test]
 fn locked_parts_stay(rt: HostRuntime) -> Result<(), Fail> {
-    let mut device = two_sessions(rt.alloc())?;
-    assert!(rt;
-        all_answer(
-            rt.alloc(),
-            &mut device,
-            &[
-                (1, lock_part(0), Reply::LockId(1)),
-                (2, edit(2, DefaultOperation::Merge), Reply::Done),
-                (2, plain_commit(), Reply::Done),
-                (2, edit(0, DefaultOperation::Merge), Reply::Done),
-                (2, plain_commit(), refused(Tag::InUse)),
-                (1, plain_commit(), Reply::Done),
-                (1, edit(3, DefaultOperation::Merge), Reply::Done),
-                (1, plain_commit(), Reply::Done),
-                (2, lock_part(0), refused(Tag::OperationFailed)),
-                (2, lock(Store::Running), denied(1)),
-                (2, edit(0, DefaultOperation::Merge), Reply::Done),
-                (2, plain_commit(), Reply::Done),
-            ]
-        )?
-    );
-    assert_eq!(rt; device.running().cells().get(7), Some(5));
+    let script = r"
+1 partial-lock 0 => lock-id 1
+2 edit 2 => ok
+2 commit => ok
+2 edit 0 => ok
+2 commit => in-use
+1 commit => ok
+1 edit 3 => ok
+1 commit => ok
+2 partial-lock 0 => operation-failed
+2 lock running => lock-denied by 1
+2 edit 0 => ok
+2 commit => ok
+device running 7 => 5
+";
+    assert_eq!(rt; unlike(rt.alloc(), script)?, None);
     Ok(())
 }
 
 // Only the manager changes the marks of change sets. That comes after others' partial locks, and before what isn't valid.
 #[test]
 fn marks_are_the_managers(rt: HostRuntime) -> Result<(), Fail> {
+    let script = r"
+2 partial-lock 0 => lock-id 1
+1 edit 1 mark => ok
+1 commit => in-use
+2 partial-unlock 1 => ok
+1 commit => access-denied
+2 commit => invalid-value at 7
+1 edit 0 => ok
+1 commit => access-denied
+2 commit => ok
+1 edit 2 => ok
+1 commit => ok
+";
+    assert_eq!(rt; unlike(rt.alloc(), script)?, None);
+    Ok(())
+}
+
+// ---- limits
+
+// Whether alice gets the sessions 1 to 64.
+fn opens_64(alloc: Global, device: &mut Device<FlatContent>) -> Result<bool, NoMemory>
+    requires sound { IsSound flat_meaning device.old }
+    ensures sound { IsSound flat_meaning device.new }
+{
+    for session in 1..65 {
+        if !opens(alloc, device, "alice", session)? {
+            return Ok(false);
+        }
+    }
+    Ok(true)
+}
+
+// Whether one more session, bob's, is refused so.
+fn is_refused(alloc: Global, device: &mut Device<FlatContent>, want: &str) -> Result<bool, NoMemory>
+    requires sound { IsSound flat_meaning device.old }
+    ensures sound { IsSound flat_meaning device.new }
+{
+    let reply = device.open_session(Label::new(alloc, "bob")?)?;
+    Ok(is_told(&reply, want))
+}
+
+// 64 sessions may be open, and no id is given twice.
+#[test]
+fn the_65th_session_is_refused(rt: HostRuntime) -> Result<(), Fail> {
+    let mut device = device_of(rt.alloc())?;
+    assert!(rt; opens_64(rt.alloc(), &mut device)?);
+    assert!(rt; is_refused(rt.alloc(), &mut device, "resource-denied")?);
+    assert!(rt; goes(rt.alloc(), &mut device, "1 close-session", "ok"));
+    assert!(rt; opens(rt.alloc(), &mut device, "bob", 65)?);
+    Ok(())
+}
+
+// Whether session 1 gets a partial lock of cell 7 with this id.
+fn locks_part(alloc: Global, device: &mut Device<FlatContent>, id: u32) -> bool
+    requires sound { IsSound flat_meaning device.old }
+    ensures sound { IsSound flat_meaning device.new }
+{
+    match asked(alloc, device, "1", "partial-lock 0") {
+        Some(reply) => reply.same(&Reply::LockId(id)),
+        None => false,
+    }
+}
+
+// Whether it gets 64 of them, with the ids 1 to 64.
+fn locks_64_parts(alloc: Global, device: &mut Device<FlatContent>) -> bool
+    requires sound { IsSound flat_meaning device.old }
+    ensures sound { IsSound flat_meaning device.new }
+{
+    for id in 1..65 {
+        if !locks_part(alloc, device, id) {
+            return false;
+        }
+    }
+    true
+}
+
+// As many partial locks may stand as the limit allows.
+#[test]
+fn the_65th_partial_lock_is_refused(rt: HostRuntime) -> Result<(), Fail> {
     let mut device = two_sessions(rt.alloc())?;
-    let change = ChangeNo::new(1).ok_or("1")?;
-    let marked = Request::Edit {
-        edit: EditNo(1),
-        default_operation: DefaultOperation::Merge,
-        marks: Some(Marks {
-            add: change,
-            remove: ChangeMask(0),
-        }),
-    };
-    let invalid = refused_at(rt.alloc(), Tag::InvalidValue, "7")?;
+    assert!(rt; locks_64_parts(rt.alloc(), &mut device));
     assert!(rt;
-        all_answer(
+        goes(
             rt.alloc(),
             &mut device,
-            &[
-                (2, lock_part(0), Reply::LockId(1)),
-                (1, marked, Reply::Done),
-                (1, plain_commit(), refused(Tag::InUse)),
-                (2, Request::PartialUnlock { id: 1 }, Reply::Done),
-                (1, plain_commit(), refused(Tag::AccessDenied)),
-                (2, plain_commit(), invalid),
-                (1, edit(0, DefaultOperation::Merge), Reply::Done),
-                (1, plain_commit(), refused(Tag::AccessDenied)),
-                (2, plain_commit(), Reply::Done),
-                (1, edit(2, DefaultOperation::Merge), Reply::Done),
-                (1, plain_commit(), Reply::Done),
-            ]
-        )?
+            "1 partial-lock 0",
+            "resource-denied"
+        )
+    );
+    assert!(rt;
+        goes(
+            rt.alloc(),
+            &mut device,
+            "2 partial-lock 0",
+            "lock-denied by 1"
+        )
     );
     Ok(())
 }

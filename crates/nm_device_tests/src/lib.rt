@@ -9,3 +9,5 @@ mod cells;
 mod device;
 #[cfg(test)]
 mod proto;
+#[cfg(test)]
+mod words;

@@ -1,174 +1,47 @@
-mod tree;
-
+use crate::tree::sample;
+use crate::words::{default_of, edit_of, expect};
 use nm_base::{Label, NoMemory};
 use nm_change::{apply_rows, changes_of};
 use nm_config::{Config, RowMap};
-use nm_edit::{Edit, EditFault, EditNode, Operation};
+use nm_edit::{Edit, EditFault};
 use nm_json::{read_config, write_config};
 use nm_overlay::Overlay;
-use nm_path::read_path;
 use nm_proto::DefaultOperation;
 use nm_tree::Schema;
 use nm_types::{Chosen, Path, Step, Value};
 use std::alloc::Global;
 use std::test::Fail;
-use tree::sample;
-
-// The value of a node: none of a container and of a leaf that is taken away.
-#[derive(Clone, Copy)]
-enum Worth {
-    Nothing,
-    Present,
-    Text(&'static str),
-    Number(i128),
-}
-
-// A node of an edit: its path, what is said of it, and its value.
-type Named = (&'static str, Option<Operation>, Worth);
-
-// A configuration, the default operation and an edit; what is made of it, or a tag and a path; how many rows are changed.
-type Case = (
-    &'static str,
-    DefaultOperation,
-    &'static [Named],
-    &'static str,
-    usize,
-);
-
-const SYS: Named = ("/ex:sys", None, Worth::Nothing);
-
-const ADDR: Named = ("/ex:addr", None, Worth::Nothing);
-
-const ETH0: Named = ("/ex:sys/iface[name='eth0']", None, Worth::Present);
-
-const ETH1: Named = ("/ex:sys/iface[name='eth1']", None, Worth::Present);
-
-const NO_ETH0: Named = (
-    "/ex:sys/iface[name='eth0']",
-    Some(Operation::Remove),
-    Worth::Present,
-);
-
-const NEW_ETH0: Named = (
-    "/ex:sys/iface[name='eth0']",
-    Some(Operation::Create),
-    Worth::Present,
-);
-
-const MTU_1500: Named = ("/ex:sys/iface[name='eth0']/mtu", None, Worth::Number(1500));
-
-const MTU_9000: Named = ("/ex:sys/iface[name='eth0']/mtu", None, Worth::Number(9000));
 
 const BASE: &str = r#"{"ex:sys":{"iface":[{"mtu":1500,"name":"eth0"}]}}"#;
 
-const CASES: &[Case] = &[
-    // nothing is named
-    (BASE, DefaultOperation::Merge, &[], BASE, 0),
-    (BASE, DefaultOperation::Replace, &[], "{}", 2),
-    // one row with another value, with the value that it has, and with a row more
-    (
-        BASE,
-        DefaultOperation::Merge,
-        &[SYS, ETH0, MTU_9000],
-        r#"{"ex:sys":{"iface":[{"mtu":9000,"name":"eth0"}]}}"#,
-        1,
-    ),
-    (
-        BASE,
-        DefaultOperation::Merge,
-        &[SYS, ETH0, MTU_1500],
-        BASE,
-        0,
-    ),
-    (
-        BASE,
-        DefaultOperation::Merge,
-        &[SYS, ETH1],
-        r#"{"ex:sys":{"iface":[{"mtu":1500,"name":"eth0"},{"name":"eth1"}]}}"#,
-        1,
-    ),
-    // rows go, some of them for others
-    (BASE, DefaultOperation::Merge, &[SYS, NO_ETH0], "{}", 2),
-    (
-        BASE,
-        DefaultOperation::Replace,
-        &[SYS, ETH0, MTU_9000],
-        r#"{"ex:sys":{"iface":[{"mtu":9000,"name":"eth0"}]}}"#,
-        1,
-    ),
-    (
-        BASE,
-        DefaultOperation::Replace,
-        &[SYS, ETH1],
-        r#"{"ex:sys":{"iface":[{"name":"eth1"}]}}"#,
-        3,
-    ),
-    // one case of a choice for the other
-    (
-        r#"{"ex:addr":{"ip":"a"}}"#,
-        DefaultOperation::Merge,
-        &[ADDR, ("/ex:addr/lease", None, Worth::Number(1))],
-        r#"{"ex:addr":{"lease":1}}"#,
-        2,
-    ),
-    (
-        r#"{"ex:addr":{"lease":1}}"#,
-        DefaultOperation::Merge,
-        &[ADDR, ("/ex:addr/ip", None, Worth::Text("a"))],
-        r#"{"ex:addr":{"ip":"a"}}"#,
-        2,
-    ),
-    // refused
-    (
-        BASE,
-        DefaultOperation::Merge,
-        &[SYS, NEW_ETH0, MTU_9000],
-        "data-exists /ex:sys/iface[name='eth0']",
-        0,
-    ),
-    (
-        BASE,
-        DefaultOperation::Nothing,
-        &[SYS, ETH1],
-        "data-missing /ex:sys/iface[name='eth1']",
-        0,
-    ),
-];
+// A configuration, the default operation and the nodes of an edit; what is made of it, or a tag and a path; how many rows are changed: where
+// nothing is named; of one row with another value, with the value that it has, and with a row more; of rows that go, some of them for
+// others; of one case of a choice for the other; and of what is refused.
+const CASES: &str = r#"
+{"ex:sys":{"iface":[{"mtu":1500,"name":"eth0"}]}} => merge => nothing => {"ex:sys":{"iface":[{"mtu":1500,"name":"eth0"}]}} => 0
+{"ex:sys":{"iface":[{"mtu":1500,"name":"eth0"}]}} => replace => nothing => {} => 2
+{"ex:sys":{"iface":[{"mtu":1500,"name":"eth0"}]}} => merge => /ex:sys - nothing & /ex:sys/iface[name='eth0'] - present & /ex:sys/iface[name='eth0']/mtu - number=9000 => {"ex:sys":{"iface":[{"mtu":9000,"name":"eth0"}]}} => 1
+{"ex:sys":{"iface":[{"mtu":1500,"name":"eth0"}]}} => merge => /ex:sys - nothing & /ex:sys/iface[name='eth0'] - present & /ex:sys/iface[name='eth0']/mtu - number=1500 => {"ex:sys":{"iface":[{"mtu":1500,"name":"eth0"}]}} => 0
+{"ex:sys":{"iface":[{"mtu":1500,"name":"eth0"}]}} => merge => /ex:sys - nothing & /ex:sys/iface[name='eth1'] - present => {"ex:sys":{"iface":[{"mtu":1500,"name":"eth0"},{"name":"eth1"}]}} => 1
+{"ex:sys":{"iface":[{"mtu":1500,"name":"eth0"}]}} => merge => /ex:sys - nothing & /ex:sys/iface[name='eth0'] remove present => {} => 2
+{"ex:sys":{"iface":[{"mtu":1500,"name":"eth0"}]}} => replace => /ex:sys - nothing & /ex:sys/iface[name='eth0'] - present & /ex:sys/iface[name='eth0']/mtu - number=9000 => {"ex:sys":{"iface":[{"mtu":9000,"name":"eth0"}]}} => 1
+{"ex:sys":{"iface":[{"mtu":1500,"name":"eth0"}]}} => replace => /ex:sys - nothing & /ex:sys/iface[name='eth1'] - present => {"ex:sys":{"iface":[{"name":"eth1"}]}} => 3
+{"ex:addr":{"ip":"a"}} => merge => /ex:addr - nothing & /ex:addr/lease - number=1 => {"ex:addr":{"lease":1}} => 2
+{"ex:addr":{"lease":1}} => merge => /ex:addr - nothing & /ex:addr/ip - text=a => {"ex:addr":{"ip":"a"}} => 2
+{"ex:sys":{"iface":[{"mtu":1500,"name":"eth0"}]}} => merge => /ex:sys - nothing & /ex:sys/iface[name='eth0'] create present & /ex:sys/iface[name='eth0']/mtu - number=9000 => data-exists /ex:sys/iface[name='eth0'] => 0
+{"ex:sys":{"iface":[{"mtu":1500,"name":"eth0"}]}} => none => /ex:sys - nothing & /ex:sys/iface[name='eth1'] - present => data-missing /ex:sys/iface[name='eth1'] => 0
+"#;
 
-fn cases() -> &'static [Case] {
-    CASES
-}
+// A case without what is expected of it.
+type Case<'t> = (&'t str, DefaultOperation, &'t str);
 
-fn value_of(alloc: Global, worth: Worth) -> Result<Option<Value>, NoMemory> {
-    match worth {
-        Worth::Nothing => Ok(None),
-        Worth::Present => Ok(Some(Value::Present)),
-        Worth::Text(text) => Ok(Some(Value::Text(Label::new(alloc, text)?))),
-        Worth::Number(number) => Ok(Some(Value::Int(number))),
-    }
-}
-
-// Puts a node behind the others of an edit.
-fn put_node(alloc: Global, schema: &Schema, edit: &mut Edit, node: &Named) -> Result<(), NoMemory> {
-    if let Ok(path) = read_path(alloc, schema, node.0) {
-        let value = value_of(alloc, node.2)?;
-        edit.nodes.push(EditNode {
-            path,
-            operation: node.1,
-            value,
-        })?;
-    }
-    Ok(())
-}
-
-fn edit_of(alloc: Global, schema: &Schema, nodes: &[Named]) -> Result<Edit, NoMemory> {
-    let mut edit = Edit {
-        nodes: Vec::new(alloc),
-    };
-    for node in nodes {
-        put_node(alloc, schema, &mut edit, node)?;
-    }
-    Ok(edit)
+// The case of a line, what is made, and how many rows are changed.
+fn case_of(line: &str) -> Option<(Case<'_>, &str, &str)> {
+    let (old, rest) = line.split_once(" => ")?;
+    let (word, rest) = rest.split_once(" => ")?;
+    let (nodes, rest) = rest.split_once(" => ")?;
+    let (made, count) = rest.split_once(" => ")?;
+    Some(((old, default_of(word)?, nodes), made, count))
 }
 
 // An overlay over a configuration, of which nothing is changed.
@@ -194,15 +67,15 @@ fn text_of(
 }
 
 // What an edit makes, as it is printed.
-fn made(alloc: Global, schema: &Schema, case: &Case) -> Result<String, NoMemory> {
+fn made(alloc: Global, schema: &Schema, case: Case<'_>) -> Result<String, Fail> {
     let edit = edit_of(alloc, schema, case.2)?;
     let mut rows = over(alloc, schema, case.0)?;
     let answer = apply_rows(alloc, schema, &mut rows, &edit, case.1);
-    text_of(alloc, schema, &rows, &answer)
+    Ok(text_of(alloc, schema, &rows, &answer)?)
 }
 
 // How many rows an edit leaves otherwise than they were.
-fn left(alloc: Global, schema: &Schema, case: &Case) -> Result<usize, NoMemory> {
+fn left(alloc: Global, schema: &Schema, case: Case<'_>) -> Result<usize, Fail> {
     let edit = edit_of(alloc, schema, case.2)?;
     let mut rows = over(alloc, schema, case.0)?;
     let _ = apply_rows(alloc, schema, &mut rows, &edit, case.1);
@@ -210,7 +83,7 @@ fn left(alloc: Global, schema: &Schema, case: &Case) -> Result<usize, NoMemory> 
 }
 
 // How many rows an edit changes by what is told of it; none where it is refused.
-fn told(alloc: Global, schema: &Schema, case: &Case) -> Result<usize, NoMemory> {
+fn told(alloc: Global, schema: &Schema, case: Case<'_>) -> Result<usize, Fail> {
     let edit = edit_of(alloc, schema, case.2)?;
     let rows = over(alloc, schema, case.0)?;
     match changes_of(alloc, schema, &rows, &edit, case.1) {
@@ -219,62 +92,86 @@ fn told(alloc: Global, schema: &Schema, case: &Case) -> Result<usize, NoMemory> 
     }
 }
 
-#[test]
-fn rows_are_edited(rt: HostRuntime) -> Result<(), Fail> {
-    let schema = sample(rt.alloc())?;
-    for case in cases() {
-        assert_eq!(rt; made(rt.alloc(), &schema, case)?.as_str(), case.3);
+// What is asked of each case.
+#[derive(Clone, Copy)]
+enum Ask {
+    Made,
+    Left,
+    Told,
+}
+
+fn expect_count(line: &str, count: usize, expected: &str) -> Result<(), Fail> {
+    if expected.parse::<usize>() == Ok(count) {
+        return Ok(());
+    }
+    Err(Fail::new(format_args!("{count} of {line}")))
+}
+
+// Fails where the answer isn't what a line expects.
+fn is_so(alloc: Global, schema: &Schema, ask: Ask, line: &str) -> Result<(), Fail> {
+    let (case, text, count) = case_of(line).ok_or("no case")?;
+    match ask {
+        Ask::Made => expect(line, made(alloc, schema, case)?.as_str(), text),
+        Ask::Left => expect_count(line, left(alloc, schema, case)?, count),
+        Ask::Told => expect_count(line, told(alloc, schema, case)?, count),
+    }
+}
+
+fn are_so(alloc: Global, ask: Ask) -> Result<(), Fail> {
+    let schema = sample(alloc)?;
+    for line in CASES.lines().skip(1) {
+        is_so(alloc, &schema, ask, line)?;
     }
     Ok(())
+}
+
+#[test]
+fn rows_are_edited(rt: HostRuntime) -> Result<(), Fail> {
+    are_so(rt.alloc(), Ask::Made)
 }
 
 #[test]
 fn only_changes_are_left(rt: HostRuntime) -> Result<(), Fail> {
-    let schema = sample(rt.alloc())?;
-    for case in cases() {
-        assert_eq!(rt; left(rt.alloc(), &schema, case)?, case.4);
-    }
-    Ok(())
+    are_so(rt.alloc(), Ask::Left)
 }
 
 #[test]
 fn changes_are_told(rt: HostRuntime) -> Result<(), Fail> {
-    let schema = sample(rt.alloc())?;
-    for case in cases() {
-        assert_eq!(rt; told(rt.alloc(), &schema, case)?, case.4);
-    }
-    Ok(())
+    are_so(rt.alloc(), Ask::Told)
 }
 
-// Does an edit by merging to rows that were edited before, and tells how many are otherwise than in the base then.
-fn pairs_after(
+// Does the edit of a line by merging to rows that were edited before; so many are otherwise than in the base then.
+fn edit_further(
     alloc: Global,
     schema: &Schema,
     rows: &mut Overlay,
-    nodes: &[Named],
-) -> Result<usize, NoMemory> {
+    line: &str,
+) -> Result<(), Fail> {
+    let (nodes, expected) = line.split_once(" => ").ok_or("no step")?;
     let edit = edit_of(alloc, schema, nodes)?;
     let _ = apply_rows(alloc, schema, rows, &edit, DefaultOperation::Merge);
-    Ok(rows.pairs().len())
+    expect_count(line, rows.pairs().len(), expected)
+}
+
+fn edit_all(alloc: Global, schema: &Schema, lines: &str) -> Result<(), Fail> {
+    let mut rows = over(alloc, schema, BASE)?;
+    for line in lines.lines().skip(1) {
+        edit_further(alloc, schema, &mut rows, line)?;
+    }
+    Ok(())
 }
 
 // A value and the one before again leave no pair, and an entry that goes leaves one for each of its rows.
+const STEPS: &str = r#"
+/ex:sys - nothing & /ex:sys/iface[name='eth0'] - present & /ex:sys/iface[name='eth0']/mtu - number=9000 => 1
+/ex:sys - nothing & /ex:sys/iface[name='eth0'] - present & /ex:sys/iface[name='eth0']/mtu - number=1500 => 0
+/ex:sys - nothing & /ex:sys/iface[name='eth0'] remove present => 2
+"#;
+
 #[test]
 fn edits_follow_edits(rt: HostRuntime) -> Result<(), Fail> {
     let schema = sample(rt.alloc())?;
-    let mut rows = over(rt.alloc(), &schema, BASE)?;
-    let steps: &[(&[Named], usize)] = &[
-        (&[SYS, ETH0, MTU_9000], 1),
-        (&[SYS, ETH0, MTU_1500], 0),
-        (&[SYS, NO_ETH0], 2),
-    ];
-    for (nodes, expected) in steps {
-        assert_eq!(rt;
-            pairs_after(rt.alloc(), &schema, &mut rows, nodes)?,
-            *expected
-        );
-    }
-    Ok(())
+    edit_all(rt.alloc(), &schema, STEPS)
 }
 
 // The path of an entry of a list, by a number.
@@ -297,20 +194,22 @@ fn full(alloc: Global) -> Result<Config, NoMemory> {
     Ok(config)
 }
 
+// Whether an edit of full rows is refused, and how many they are then.
+fn refused(alloc: Global, schema: &Schema, edit: &Edit) -> Result<(bool, u32), NoMemory> {
+    let mut rows = full(alloc)?;
+    let answer = apply_rows(alloc, schema, &mut rows, edit, DefaultOperation::Merge);
+    Ok((answer.is_err(), RowMap::row_count(&rows)))
+}
+
 // A row more than a configuration may have is refused, and nothing is changed.
 #[test]
 fn too_many_rows_are_refused(rt: HostRuntime) -> Result<(), Fail> {
     let schema = sample(rt.alloc())?;
-    let mut rows = full(rt.alloc())?;
-    let edit = edit_of(rt.alloc(), &schema, &[SYS, ETH0])?;
-    let answer = apply_rows(
+    let edit = edit_of(
         rt.alloc(),
         &schema,
-        &mut rows,
-        &edit,
-        DefaultOperation::Merge,
-    );
-    assert!(rt; answer.is_err());
-    assert_eq!(rt; RowMap::row_count(&rows), 20_000);
+        "/ex:sys - nothing & /ex:sys/iface[name='eth0'] - present",
+    )?;
+    assert_eq!(rt; refused(rt.alloc(), &schema, &edit)?, (true, 20_000));
     Ok(())
 }

@@ -9,3 +9,7 @@ mod change;
 mod edit;
 #[cfg(test)]
 mod edit_json;
+#[cfg(test)]
+mod tree;
+#[cfg(test)]
+mod words;

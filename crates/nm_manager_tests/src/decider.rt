@@ -1,6 +1,7 @@
-use nm_base::{ChangeNo, DeviceMask, DeviceNo, SessionId, Tag};
+use crate::words::{ask_of, device_of, reply_of, verdict_of};
+use nm_base::{ChangeNo, DeviceMask, DeviceNo, SessionId};
 use nm_decider::{Course, NextAction, Stage};
-use nm_proto::{AbortCause, Ask, Reply, Verdict};
+use nm_proto::{Ask, Reply};
 use std::test::Fail;
 
 // The reply that fits what was asked.
@@ -12,147 +13,233 @@ fn fitting(ask: Ask, session: SessionId) -> Reply {
     }
 }
 
-// An error of a tag.
-fn refusal(tag: Tag) -> Reply {
-    Reply::Error {
-        tag,
-        session: None,
-        path: None,
-    }
-}
-
 // Asks a device, which answers as is fitting.
-fn ask(course: &mut Course, device: DeviceNo, ask: Ask, session: SessionId) {
+fn ask(course: &mut Course, device: DeviceNo, ask: Ask) -> Option<()> {
+    let session = SessionId::new(1)?;
     course.on_sent(device);
     course.on_reply(device, &fitting(ask, session));
+    Some(())
 }
 
-const FIRST: [Ask; 6] = [
-    Ask::OpenSession,
-    Ask::LockRunning,
-    Ask::LockCandidate,
-    Ask::Edit,
-    Ask::Validate,
-    Ask::CommitConfirmed,
-];
-
-// Device 1 and then device 2, up to their confirmed commits; then by turns, since the fewest requests come first.
-#[test]
-fn all_devices_commit(rt: HostRuntime) -> Result<(), Fail> {
-    let session = SessionId::new(1).ok_or("1")?;
-    let one = DeviceNo::new(1).ok_or("1")?;
-    let two = DeviceNo::new(2).ok_or("2")?;
-    let mut course = Course::new(ChangeNo::new(1).ok_or("1")?, DeviceMask(0b11));
-    for device in [one, two] {
-        for what in FIRST {
-            assert_eq!(rt;
-                course.next_action(),
-                NextAction::Send { device, ask: what }
-            );
-            ask(&mut course, device, what, session);
+// The first line of a script that isn't so, and an empty text where all are.
+fn first_wrong<'a>(course: &mut Course, script: &'a str) -> &'a str {
+    for line in script.lines() {
+        if is_so(course, line) != Some(true) {
+            return line;
         }
     }
-    assert_eq!(rt; course.next_action(), NextAction::Decide(Verdict::Commit));
-    course.on_decided(Verdict::Commit);
-    for (device, what) in [
-        (one, Ask::Confirm),
-        (two, Ask::Confirm),
-        (one, Ask::CloseSession),
-        (two, Ask::CloseSession),
-    ] {
-        assert_eq!(rt;
-            course.next_action(),
-            NextAction::Send { device, ask: what }
-        );
-        ask(&mut course, device, what, session);
+    ""
+}
+
+// Whether a line is so: a device or the course, what it does, and what comes of it. None where it can't be read. An empty
+// one is so.
+fn is_so(course: &mut Course, line: &str) -> Option<bool> {
+    if line.is_empty() {
+        return Some(true);
     }
-    let kept = DeviceMask(0b11);
-    assert_eq!(rt; course.next_action(), NextAction::Finish { kept });
+    let (actor, rest) = line.split_once(" ")?;
+    let (words, want) = rest.split_once(" => ")?;
+    if actor == "course" {
+        return goes_on(course, words, want);
+    }
+    let device = device_of(actor)?;
+    match ask_of(words) {
+        Some(ask) => asks(course, device, ask, want),
+        None => acts(course, device, words, want),
+    }
+}
+
+// Asks a device, where `next` says that this is what comes next.
+fn asks(course: &mut Course, device: DeviceNo, what: Ask, want: &str) -> Option<bool> {
+    if want == "next" && course.next_action() != (NextAction::Send { device, ask: what }) {
+        return Some(false);
+    }
+    ask(course, device, what)?;
+    Some(want == "next" || want == "any")
+}
+
+// What else comes of a device.
+fn acts(course: &mut Course, device: DeviceNo, words: &str, want: &str) -> Option<bool> {
+    match words {
+        "may-renew" => Some(
+            (if course.may_renew(device) {
+                "yes"
+            } else {
+                "no"
+            }) == want,
+        ),
+        "stage" => Some(want == "resync" && course.seat(device).stage == Stage::Resync),
+        "reply" => {
+            let reply = reply_of(want)?;
+            course.on_reply(device, &reply);
+            Some(true)
+        }
+        _ => Some(want == "ok" && moves(course, device, words)),
+    }
+}
+
+// What a device is told of without an answer, and false where it can't be read.
+fn moves(course: &mut Course, device: DeviceNo, word: &str) -> bool {
+    match word {
+        "sent" => course.on_sent(device),
+        "breaks" => course.on_break(device),
+        "renewed" => course.on_renewed(device),
+        "kept" => course.on_settled(device, true),
+        "undone" => course.on_settled(device, false),
+        _ => return false,
+    }
+    true
+}
+
+// What the course as a whole is at.
+fn goes_on(course: &mut Course, word: &str, want: &str) -> Option<bool> {
+    match word {
+        "next" => Some(course.next_action() == action_of(want)?),
+        "verdict" => Some(course.verdict() == Some(verdict_of(want)?)),
+        "change" => Some(want.parse::<u32>() == Ok(course.change().get())),
+        "decided" => {
+            course.on_decided(verdict_of(want)?);
+            Some(true)
+        }
+        _ => None,
+    }
+}
+
+// An action: `wait`, `send 1 open`, `decide commit`, or `finish 3` with the mask of the devices that have kept it.
+fn action_of(words: &str) -> Option<NextAction> {
+    if words == "wait" {
+        return Some(NextAction::Wait);
+    }
+    let (word, rest) = words.split_once(" ")?;
+    match word {
+        "decide" => Some(NextAction::Decide(verdict_of(rest)?)),
+        "finish" => Some(NextAction::Finish {
+            kept: DeviceMask(rest.parse::<u32>().ok()?),
+        }),
+        "send" => sent_to(rest),
+        _ => None,
+    }
+}
+
+fn sent_to(words: &str) -> Option<NextAction> {
+    let (device, ask) = words.split_once(" ")?;
+    Some(NextAction::Send {
+        device: device_of(device)?,
+        ask: ask_of(ask)?,
+    })
+}
+
+// Change set 1 over the devices of a mask.
+fn course_of(devices: u32) -> Option<Course> {
+    Some(Course::new(ChangeNo::new(1)?, DeviceMask(devices)))
+}
+
+// Device 1 and then device 2, up to their confirmed commits; then by turns, since the fewest requests come first.
+const COMMITTED: &str = r#"
+1 open => next
+1 lock-running => next
+1 lock-candidate => next
+1 edit => next
+1 validate => next
+1 commit => next
+2 open => next
+2 lock-running => next
+2 lock-candidate => next
+2 edit => next
+2 validate => next
+2 commit => next
+course next => decide commit
+course decided => commit
+1 confirm => next
+2 confirm => next
+1 close => next
+2 close => next
+course next => finish 3
+"#;
+
+#[test]
+fn all_devices_commit(rt: HostRuntime) -> Result<(), Fail> {
+    let mut course = course_of(0b11).ok_or("1")?;
+    assert_eq!(rt; first_wrong(&mut course, COMMITTED), "");
     Ok(())
 }
 
 // A refusal is the cause, whatever breaks after it. Device 2, which was refused, is cancelled too; device 3 was never asked.
+const REFUSED: &str = r#"
+1 open => any
+1 lock-running => any
+1 lock-candidate => any
+1 edit => any
+1 validate => any
+1 commit => any
+2 open => any
+2 sent => ok
+course next => wait
+2 reply => lock-denied
+1 breaks => ok
+course next => decide refused 2 lock-denied
+course decided => refused 2 lock-denied
+course verdict => refused 2 lock-denied
+1 sent => ok
+course next => send 2 cancel
+1 undone => ok
+2 cancel => any
+2 close => any
+course next => finish 0
+"#;
+
 #[test]
 fn the_first_refusal_aborts(rt: HostRuntime) -> Result<(), Fail> {
-    let session = SessionId::new(1).ok_or("1")?;
-    let one = DeviceNo::new(1).ok_or("1")?;
-    let two = DeviceNo::new(2).ok_or("2")?;
-    let mut course = Course::new(ChangeNo::new(1).ok_or("1")?, DeviceMask(0b111));
-    for what in FIRST {
-        ask(&mut course, one, what, session);
-    }
-    ask(&mut course, two, Ask::OpenSession, session);
-    course.on_sent(two);
-    assert_eq!(rt; course.next_action(), NextAction::Wait);
-    course.on_reply(two, &refusal(Tag::LockDenied));
-    course.on_break(one);
-    let verdict = Verdict::Abort(AbortCause::Refused {
-        device: two,
-        tag: Tag::LockDenied,
-    });
-    assert_eq!(rt; course.next_action(), NextAction::Decide(verdict));
-    course.on_decided(verdict);
-    assert_eq!(rt; course.verdict(), Some(verdict));
-    course.on_sent(one);
-    assert_eq!(rt;
-        course.next_action(),
-        NextAction::Send {
-            device: two,
-            ask: Ask::Cancel
-        }
-    );
-    course.on_settled(one, false);
-    ask(&mut course, two, Ask::Cancel, session);
-    ask(&mut course, two, Ask::CloseSession, session);
-    let kept = DeviceMask(0);
-    assert_eq!(rt; course.next_action(), NextAction::Finish { kept });
+    let mut course = course_of(0b111).ok_or("1")?;
+    assert_eq!(rt; first_wrong(&mut course, REFUSED), "");
     Ok(())
 }
 
 // What was lost is found out anew, and without a verdict the change set is aborted.
+const LOST: &str = r#"
+course change => 64
+course next => send 32 resync
+32 resync => any
+32 stage => resync
+32 kept => ok
+course next => finish 2147483648
+"#;
+
 #[test]
 fn lost_memory_resynchronises(rt: HostRuntime) -> Result<(), Fail> {
-    let session = SessionId::new(1).ok_or("1")?;
     let change = ChangeNo::new(64).ok_or("64")?;
-    let device = DeviceNo::new(32).ok_or("32")?;
     let devices = DeviceMask(0x8000_0000);
-    let lost = Course::recovered(change, devices, None);
-    let forgotten = Verdict::Abort(AbortCause::Forgotten);
-    assert_eq!(rt; lost.next_action(), NextAction::Decide(forgotten));
-    let mut course = Course::recovered(change, devices, Some(Verdict::Commit));
-    assert_eq!(rt; course.change(), change);
+    let mut lost = Course::recovered(change, devices, None);
     assert_eq!(rt;
-        course.next_action(),
-        NextAction::Send {
-            device,
-            ask: Ask::Resync
-        }
+        first_wrong(&mut lost, "course next => decide forgotten"),
+        ""
     );
-    ask(&mut course, device, Ask::Resync, session);
-    assert_eq!(rt; course.seat(device).stage, Stage::Resync);
-    course.on_settled(device, true);
-    assert_eq!(rt; course.next_action(), NextAction::Finish { kept: devices });
+    let mut course = Course::recovered(change, devices, verdict_of("commit"));
+    assert_eq!(rt; first_wrong(&mut course, LOST), "");
     Ok(())
 }
 
 // A device that has acknowledged may be renewed, and a renewal that is refused is a lapse.
+const RENEWED: &str = r#"
+1 may-renew => no
+1 open => any
+1 lock-running => any
+1 lock-candidate => any
+1 edit => any
+1 validate => any
+1 commit => any
+1 may-renew => yes
+2 may-renew => no
+1 renewed => ok
+1 may-renew => no
+course next => wait
+1 reply => invalid-value
+course next => decide lapsed 1
+"#;
+
 #[test]
 fn refused_renewals_abort(rt: HostRuntime) -> Result<(), Fail> {
-    let session = SessionId::new(1).ok_or("1")?;
-    let one = DeviceNo::new(1).ok_or("1")?;
-    let two = DeviceNo::new(2).ok_or("2")?;
-    let mut course = Course::new(ChangeNo::new(1).ok_or("1")?, DeviceMask(0b11));
-    assert!(rt; !course.may_renew(one));
-    for what in FIRST {
-        ask(&mut course, one, what, session);
-    }
-    assert!(rt; course.may_renew(one));
-    assert!(rt; !course.may_renew(two));
-    course.on_renewed(one);
-    assert!(rt; !course.may_renew(one));
-    assert_eq!(rt; course.next_action(), NextAction::Wait);
-    course.on_reply(one, &refusal(Tag::InvalidValue));
-    let lapsed = Verdict::Abort(AbortCause::Lapsed { device: one });
-    assert_eq!(rt; course.next_action(), NextAction::Decide(lapsed));
+    let mut course = course_of(0b11).ok_or("1")?;
+    assert_eq!(rt; first_wrong(&mut course, RENEWED), "");
     Ok(())
 }

@@ -44,18 +44,29 @@ fn run<D: Disk>(alloc: Global, disk: &mut D) -> Result<Journal, JournalFault> {
     Ok(journal)
 }
 
+// Whether the whole journal's bytes are read as these entries, which are three.
+fn is_read(alloc: Global, entries: &[Entry]) -> Result<bool, JournalFault> {
+    let read = read_entries(alloc, &WHOLE)?;
+    Ok(read.len() == 3 && read.as_slice() == entries)
+}
+
+// Whether a disk is read so, by a look and where its journal is reopened.
+fn is_found(alloc: Global, disk: &mut MemoryDisk, entries: &[Entry]) -> Result<bool, JournalFault> {
+    let looked = read_disk(alloc, disk)?;
+    if looked.as_slice() != entries {
+        return Ok(false);
+    }
+    let (_, again) = Journal::reopen(alloc, disk)?;
+    Ok(again.as_slice() == entries)
+}
+
 #[test]
 fn a_whole_run_is_written_and_read(rt: HostRuntime) -> Result<(), Fail> {
     let mut disk = MemoryDisk::with_limit(rt.alloc(), 8192, 100)?;
     let journal = run(rt.alloc(), &mut disk)?;
     assert_eq!(rt; disk.bytes(), WHOLE.as_slice());
-    let read = read_entries(rt.alloc(), &WHOLE)?;
-    assert!(rt; read.as_slice() == journal.entries());
-    assert_eq!(rt; read.len(), 3);
-    let looked = read_disk(rt.alloc(), &mut disk)?;
-    assert!(rt; looked.as_slice() == journal.entries());
-    let (_, again) = Journal::reopen(rt.alloc(), &mut disk)?;
-    assert!(rt; again.as_slice() == journal.entries());
+    assert!(rt; is_read(rt.alloc(), journal.entries())?);
+    assert!(rt; is_found(rt.alloc(), &mut disk, journal.entries())?);
     assert_eq!(rt; disk.bytes(), WHOLE.as_slice());
     Ok(())
 }
@@ -119,6 +130,20 @@ fn count(alloc: Global, bytes: &[u8]) -> Result<usize, JournalFault> {
     }
 }
 
+// How the run ends where a disk call fails, and how many entries are read after that.
+fn stopped_at(
+    alloc: Global,
+    call: u64,
+) -> Result<(Option<JournalFault>, Result<usize, JournalFault>), Fail> {
+    let mut disk = MemoryDisk::with_limit(alloc, 8192, 100)?;
+    disk.plan(&[call])?;
+    let stopped = match run(alloc, &mut disk) {
+        Ok(_) => None,
+        Err(fault) => Some(fault),
+    };
+    Ok((stopped, count(alloc, disk.bytes())))
+}
+
 // The run makes 15 disk calls: three to begin, and four for each entry. Each of them fails in turn,
 // and the disk is read after that.
 #[test]
@@ -126,22 +151,12 @@ fn a_run_is_stopped_at_each_call(rt: HostRuntime) -> Result<(), Fail> {
     let read_after = [0, 0, 0, 0, 0, 0, 1, 1, 1, 1, 2, 2, 2, 2, 3];
     for (before, expected) in read_after.iter().enumerate() {
         let call = before as u64 + 1;
-        let mut disk = MemoryDisk::with_limit(rt.alloc(), 8192, 100)?;
-        disk.plan(&[call])?;
-        let stopped = match run(rt.alloc(), &mut disk) {
-            Ok(_) => None,
-            Err(fault) => Some(fault),
-        };
+        let (stopped, read) = stopped_at(rt.alloc(), call)?;
         assert_eq!(rt; stopped, Some(JournalFault::DiskFault), "call {call}");
-        assert_eq!(rt;
-            count(rt.alloc(), disk.bytes()),
-            Ok(*expected),
-            "call {call}"
-        );
+        assert_eq!(rt; read, Ok(*expected), "call {call}");
     }
-    let mut disk = MemoryDisk::with_limit(rt.alloc(), 8192, 100)?;
-    disk.plan(&[16])?;
-    assert!(rt; run(rt.alloc(), &mut disk).is_ok());
+    let (stopped, _) = stopped_at(rt.alloc(), 16)?;
+    assert_eq!(rt; stopped, None);
     Ok(())
 }
 
@@ -237,47 +252,83 @@ fn version_1_goes_on_in_version_2(rt: HostRuntime) -> Result<(), Fail> {
     Ok(())
 }
 
-// One byte of the whole journal is another one: its place, its value, and what is read then.
-#[test]
-fn each_byte_of_a_record_counts(rt: HostRuntime) {
-    let first = Err(JournalFault::Damaged { offset: 0 });
-    let second = Err(JournalFault::Damaged { offset: 16 });
-    let third = Err(JournalFault::Damaged { offset: 32 });
-    let cases: [(&str, usize, u8, Result<usize, JournalFault>); 26] = [
-        ("a closed gate", 0, 0, Ok(0)),
-        ("a gate torn open", 0, 255, Ok(3)),
-        ("no kind", 1, 0, first),
-        ("a kind too high", 1, 4, first),
-        ("a change set far too high", 2, 1, first),
-        ("a change set too high", 5, 65, first),
-        ("no change set", 5, 0, first),
-        ("another change set", 5, 2, second),
-        ("no devices", 9, 0, first),
-        ("fewer devices", 9, 1, third),
-        ("a timeout in version 1", 10, 0, first),
-        ("the version as 1", 10, 1, first),
-        ("a version too high", 10, 3, first),
-        ("another timeout", 11, 1, Ok(3)),
-        ("the last that isn't zero", 15, 1, first),
-        ("a closed gate", 16, 0, Ok(1)),
-        ("a change set that isn't started", 21, 2, second),
-        ("no verdict", 22, 0, second),
-        ("a verdict too high", 22, 6, second),
-        ("a device of a commit", 23, 1, second),
-        ("a tag of a commit", 24, 1, second),
-        ("a byte that isn't zero", 25, 1, second),
-        ("a decision of version 1", 26, 0, Ok(3)),
-        ("a timeout of a decision", 30, 1, second),
-        ("kept devices of others", 41, 4, third),
-        ("an end of version 3", 42, 3, third),
-    ];
-    for (name, place, value, expected) in cases {
-        let mut bytes = WHOLE;
-        if place < 49 {
-            bytes[place] = value;
-        }
-        assert_eq!(rt; count(rt.alloc(), &bytes), expected, "{name}");
+// What stands between a row's name and what is expected of it.
+fn change_in(line: &str) -> Option<&str> {
+    let (_, rest) = line.split_once(": ")?;
+    let (change, _) = rest.split_once(" => ")?;
+    Some(change)
+}
+
+// What a row expects: a number of entries, or the offset at which they are damaged.
+fn expected_in(line: &str) -> Option<Result<usize, JournalFault>> {
+    let (_, expected) = line.split_once(" => ")?;
+    match expected.strip_prefix("damaged at ") {
+        Some(offset) => Some(Err(JournalFault::Damaged {
+            offset: offset.parse::<u64>().ok()?,
+        })),
+        None => Some(Ok(expected.parse::<usize>().ok()?)),
     }
+}
+
+// A number from 0 to 255, and what stands behind it.
+fn byte_in(text: &str) -> Option<(u8, &str)> {
+    let (byte, rest) = text.split_once(" ")?;
+    Some((byte.parse::<u8>().ok()?, rest))
+}
+
+// The whole journal with another byte at a place.
+fn with_byte(change: &str) -> Option<[u8; 49]> {
+    let (place, value) = change.split_once(" ")?;
+    let place = place.parse::<usize>().ok()?;
+    let value = value.parse::<u8>().ok()?;
+    let mut bytes = WHOLE;
+    if place < 49 {
+        bytes[place] = value;
+    }
+    Some(bytes)
+}
+
+// One byte of the whole journal is another one: its place, its value, and what is read then.
+const BYTES: &str = r#"
+a closed gate: 0 0 => 0
+a gate torn open: 0 255 => 3
+no kind: 1 0 => damaged at 0
+a kind too high: 1 4 => damaged at 0
+a change set far too high: 2 1 => damaged at 0
+a change set too high: 5 65 => damaged at 0
+no change set: 5 0 => damaged at 0
+another change set: 5 2 => damaged at 16
+no devices: 9 0 => damaged at 0
+fewer devices: 9 1 => damaged at 32
+a timeout in version 1: 10 0 => damaged at 0
+the version as 1: 10 1 => damaged at 0
+a version too high: 10 3 => damaged at 0
+another timeout: 11 1 => 3
+the last that isn't zero: 15 1 => damaged at 0
+a closed gate: 16 0 => 1
+a change set that isn't started: 21 2 => damaged at 16
+no verdict: 22 0 => damaged at 16
+a verdict too high: 22 6 => damaged at 16
+a device of a commit: 23 1 => damaged at 16
+a tag of a commit: 24 1 => damaged at 16
+a byte that isn't zero: 25 1 => damaged at 16
+a decision of version 1: 26 0 => 3
+a timeout of a decision: 30 1 => damaged at 16
+kept devices of others: 41 4 => damaged at 32
+an end of version 3: 42 3 => damaged at 32
+"#;
+
+#[test]
+fn each_byte_of_a_record_counts(rt: HostRuntime) -> Result<(), Fail> {
+    for line in BYTES.lines().skip(1) {
+        let bytes = with_byte(change_in(line).ok_or("no change")?).ok_or("no byte")?;
+        assert_eq!(rt;
+            Some(count(rt.alloc(), &bytes)),
+            expected_in(line),
+            "{line}"
+        );
+    }
+    Ok(())
 }
 
 // The value 200 at each place: another open gate is open too, any devices may be started beside the two
@@ -304,76 +355,104 @@ fn put_end(bytes: &mut [u8; 49], place: usize, end: &[u8; 6])
     bytes[place..place + 6].copy_from_slice(end);
 }
 
-// The bytes 10 to 15 of each record, as they stand in one of the versions or in none, and what is read.
-#[test]
-fn versions_are_read(rt: HostRuntime) {
-    let one = [0; 6];
-    let two = [2, 0, 0, 0, 0, 0];
-    let timed = [2, 0, 0, 0, 1, 0];
-    let first = Err(JournalFault::Damaged { offset: 0 });
-    let second = Err(JournalFault::Damaged { offset: 16 });
-    let third = Err(JournalFault::Damaged { offset: 32 });
-    let cases: [(&str, [u8; 6], [u8; 6], [u8; 6], Result<usize, JournalFault>); 9] = [
-        ("version 1", one, one, one, Ok(3)),
-        ("version 2", timed, two, two, Ok(3)),
-        ("1, 2, 1", one, two, one, Ok(3)),
-        ("2, 1, 2", timed, one, two, Ok(3)),
-        ("no timeout", two, two, two, first),
-        (
-            "a timeout in version 1",
-            [0, 0, 0, 0, 1, 0],
-            one,
-            one,
-            first,
-        ),
-        (
-            "a byte behind the timeout",
-            [2, 0, 0, 0, 1, 1],
-            two,
-            two,
-            first,
-        ),
-        ("a timeout of a decision", timed, timed, two, second),
-        ("a timeout of an end", timed, one, timed, third),
-    ];
-    for (name, started, decided, ended, expected) in cases {
-        let mut bytes = WHOLE;
-        put_end(&mut bytes, 10, &started);
-        put_end(&mut bytes, 26, &decided);
-        put_end(&mut bytes, 42, &ended);
-        assert_eq!(rt; count(rt.alloc(), &bytes), expected, "{name}");
+// The last six bytes of a record: of version 1, of version 2, with a timeout, with one in version 1, and with a byte behind
+// it.
+fn end_of(word: &str) -> Option<[u8; 6]> {
+    match word {
+        "one" => Some([0; 6]),
+        "two" => Some([2, 0, 0, 0, 0, 0]),
+        "timed" => Some([2, 0, 0, 0, 1, 0]),
+        "untimely" => Some([0, 0, 0, 0, 1, 0]),
+        "longer" => Some([2, 0, 0, 0, 1, 1]),
+        _ => None,
     }
 }
 
-// Bytes 22 to 26, the decision and its version, and what is read then: an abort keeps no device.
+// The whole journal with other ends of its records.
+fn with_ends(change: &str) -> Option<[u8; 49]> {
+    let (started, rest) = change.split_once(" ")?;
+    let (decided, ended) = rest.split_once(" ")?;
+    let started = end_of(started)?;
+    let decided = end_of(decided)?;
+    let ended = end_of(ended)?;
+    let mut bytes = WHOLE;
+    put_end(&mut bytes, 10, &started);
+    put_end(&mut bytes, 26, &decided);
+    put_end(&mut bytes, 42, &ended);
+    Some(bytes)
+}
+
+// The bytes 10 to 15 of each record, as they stand in one of the versions or in none, and what is read.
+const VERSIONS: &str = r#"
+version 1: one one one => 3
+version 2: timed two two => 3
+1, 2, 1: one two one => 3
+2, 1, 2: timed one two => 3
+no timeout: two two two => damaged at 0
+a timeout in version 1: untimely one one => damaged at 0
+a byte behind the timeout: longer two two => damaged at 0
+a timeout of a decision: timed timed two => damaged at 16
+a timeout of an end: timed one timed => damaged at 32
+"#;
+
 #[test]
-fn verdicts_are_read(rt: HostRuntime) {
-    let second = Err(JournalFault::Damaged { offset: 16 });
-    let third = Err(JournalFault::Damaged { offset: 32 });
-    let cases: [(&str, [u8; 5], u8, Result<usize, JournalFault>); 16] = [
-        ("refused", [2, 2, 3, 0, 2], 0, Ok(3)),
-        ("refused, in version 1", [2, 2, 3, 0, 0], 0, Ok(3)),
-        ("refused, and one kept", [2, 2, 3, 0, 2], 1, third),
-        ("refused by another device", [2, 3, 3, 0, 2], 0, second),
-        ("refused by none", [2, 0, 3, 0, 2], 0, second),
-        ("refused by device 33", [2, 33, 3, 0, 2], 0, second),
-        ("no tag", [2, 1, 0, 0, 2], 0, second),
-        ("the greatest tag", [2, 1, 8, 0, 2], 0, Ok(3)),
-        ("a tag too high", [2, 1, 9, 0, 2], 0, second),
-        ("broken", [3, 1, 0, 0, 2], 0, Ok(3)),
-        ("broken, with a tag", [3, 1, 1, 0, 2], 0, second),
-        ("forgotten", [4, 0, 0, 0, 2], 0, Ok(3)),
-        ("lapsed", [5, 2, 0, 0, 2], 0, Ok(3)),
-        ("lapsed, in version 1", [5, 2, 0, 0, 0], 0, second),
-        ("lapsed on another device", [5, 3, 0, 0, 2], 0, second),
-        ("lapsed, with a tag", [5, 2, 1, 0, 2], 0, second),
-    ];
-    for (name, verdict, kept, expected) in cases {
-        let mut bytes = WHOLE;
-        bytes[22..27].copy_from_slice(&verdict);
-        bytes[41] = kept;
-        assert_eq!(rt; count(rt.alloc(), &bytes), expected, "{name}");
+fn versions_are_read(rt: HostRuntime) -> Result<(), Fail> {
+    for line in VERSIONS.lines().skip(1) {
+        let bytes = with_ends(change_in(line).ok_or("no change")?).ok_or("no ends")?;
+        assert_eq!(rt;
+            Some(count(rt.alloc(), &bytes)),
+            expected_in(line),
+            "{line}"
+        );
     }
+    Ok(())
+}
+
+// The whole journal with another decision, and with a byte of kept devices.
+fn with_verdict(change: &str) -> Option<[u8; 49]> {
+    let (kind, rest) = byte_in(change)?;
+    let (device, rest) = byte_in(rest)?;
+    let (tag, rest) = byte_in(rest)?;
+    let (zero, rest) = byte_in(rest)?;
+    let (version, kept) = byte_in(rest)?;
+    let kept = kept.parse::<u8>().ok()?;
+    let mut bytes = WHOLE;
+    bytes[22..27].copy_from_slice(&[kind, device, tag, zero, version]);
+    bytes[41] = kept;
+    Some(bytes)
+}
+
+// Bytes 22 to 26, the decision and its version, then byte 41, and what is read then: an abort keeps no device.
+const VERDICTS: &str = r#"
+refused: 2 2 3 0 2 0 => 3
+refused, in version 1: 2 2 3 0 0 0 => 3
+refused, and one kept: 2 2 3 0 2 1 => damaged at 32
+refused by another device: 2 3 3 0 2 0 => damaged at 16
+refused by none: 2 0 3 0 2 0 => damaged at 16
+refused by device 33: 2 33 3 0 2 0 => damaged at 16
+no tag: 2 1 0 0 2 0 => damaged at 16
+the greatest tag: 2 1 8 0 2 0 => 3
+a tag too high: 2 1 9 0 2 0 => damaged at 16
+broken: 3 1 0 0 2 0 => 3
+broken, with a tag: 3 1 1 0 2 0 => damaged at 16
+forgotten: 4 0 0 0 2 0 => 3
+lapsed: 5 2 0 0 2 0 => 3
+lapsed, in version 1: 5 2 0 0 0 0 => damaged at 16
+lapsed on another device: 5 3 0 0 2 0 => damaged at 16
+lapsed, with a tag: 5 2 1 0 2 0 => damaged at 16
+"#;
+
+#[test]
+fn verdicts_are_read(rt: HostRuntime) -> Result<(), Fail> {
+    for line in VERDICTS.lines().skip(1) {
+        let bytes = with_verdict(change_in(line).ok_or("no change")?).ok_or("no verdict")?;
+        assert_eq!(rt;
+            Some(count(rt.alloc(), &bytes)),
+            expected_in(line),
+            "{line}"
+        );
+    }
+    Ok(())
 }
 
 #[test]

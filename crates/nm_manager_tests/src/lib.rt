@@ -15,3 +15,5 @@ mod recovery;
 mod resync;
 #[cfg(test)]
 mod wire;
+#[cfg(test)]
+mod words;

@@ -44,41 +44,47 @@ fn decided_ones_are_found(rt: HostRuntime) -> Result<(), Fail> {
 }
 
 // Change set 2 over devices 1 and 3 was aborted and is ended; change set 5 over device 1 was only submitted.
-#[test]
-fn each_change_set_has_its_own_words(rt: HostRuntime) -> Result<(), Fail> {
-    let two = ChangeNo::new(2).ok_or("2")?;
-    let five = ChangeNo::new(5).ok_or("5")?;
-    let one = DeviceNo::new(1).ok_or("1")?;
-    let other = DeviceNo::new(2).ok_or("2")?;
-    let third = DeviceNo::new(3).ok_or("3")?;
-    let entries = [
+fn two_of_them(two: ChangeNo, five: ChangeNo, refused: Verdict) -> [Entry; 4] {
+    [
         started(two, 5),
         started(five, 1),
         Entry::Decided {
             change: two,
-            verdict: refused_by(third),
+            verdict: refused,
         },
         Entry::Ended {
             change: two,
             kept: DeviceMask(0),
         },
-    ];
-    for (change, devices, told, kept) in [
-        (
-            two,
-            DeviceMask(5),
-            Some(refused_by(third)),
-            Some(DeviceMask(0)),
-        ),
-        (five, DeviceMask(1), None, None),
-    ] {
-        assert!(rt; is_started(&entries, change));
-        assert!(rt; devices_in(&entries, change) == Some(devices));
-        assert!(rt; verdict_in(&entries, change) == told);
-        assert!(rt; kept_in(&entries, change) == kept);
-        assert!(rt; is_ended_in(&entries, change) == kept.is_some());
-    }
-    for (device, ended) in [(one, 2), (other, 0), (third, 2)] {
+    ]
+}
+
+// Whether this is told of a change set.
+fn is_told(
+    entries: &[Entry],
+    change: ChangeNo,
+    devices: u32,
+    verdict: Option<Verdict>,
+    kept: Option<DeviceMask>,
+) -> bool {
+    is_started(entries, change)
+        && devices_in(entries, change) == Some(DeviceMask(devices))
+        && verdict_in(entries, change) == verdict
+        && kept_in(entries, change) == kept
+        && is_ended_in(entries, change) == kept.is_some()
+}
+
+#[test]
+fn each_change_set_has_its_own_words(rt: HostRuntime) -> Result<(), Fail> {
+    let two = ChangeNo::new(2).ok_or("2")?;
+    let five = ChangeNo::new(5).ok_or("5")?;
+    let third = DeviceNo::new(3).ok_or("3")?;
+    let entries = two_of_them(two, five, refused_by(third));
+    let verdict = Some(refused_by(third));
+    assert!(rt; is_told(&entries, two, 5, verdict, Some(DeviceMask(0))));
+    assert!(rt; is_told(&entries, five, 1, None, None));
+    for (number, ended) in [(1, 2), (2, 0), (3, 2)] {
+        let device = DeviceNo::new(number).ok_or("a device")?;
         assert!(rt; ended_on(&entries, device) == ChangeMask(ended));
     }
     Ok(())

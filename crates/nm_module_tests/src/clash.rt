@@ -1,4 +1,5 @@
 use crate::groupings::{groupings_in, rows_in};
+use crate::tables::{Tells, check};
 use crate::wide::wide_module;
 use nm_base::NoMemory;
 use nm_schema_clash::{Clashes, clashes_of};
@@ -59,15 +60,17 @@ module m { grouping g { choice c { case a { uses h; } } } grouping h { leaf c; }
 module m { container c { choice d { config false; leaf e; } leaf e; } } => duplicate e 5
 "#;
 
+struct TellsFirstClash;
+
+impl Tells for TellsFirstClash {
+    fn tell(&self, alloc: Global, text: &str) -> Result<String, Fail> {
+        told(alloc, text)
+    }
+}
+
 #[test]
 fn finds_clashes(rt: HostRuntime) -> Result<(), Fail> {
-    let alloc = rt.alloc();
-    for row in CLASHES.lines().skip(1) {
-        let (text, expected) = row.split_once(" => ").ok_or("no row")?;
-        let found = told(alloc, text)?;
-        assert_eq!(rt; found.as_str(), expected, "{text}");
-    }
-    Ok(())
+    check(&rt, rt.alloc(), &TellsFirstClash, CLASHES)
 }
 
 #[test]

@@ -1,4 +1,5 @@
 use crate::groupings::{groupings_in, rows_in};
+use crate::tables::{Tells, check};
 use nm_schema_expansion::{Expansion, Instance, expand, first_large};
 use nm_schema_rows::Rows;
 use nm_schema_shape::{argument_at, shape_of};
@@ -10,15 +11,18 @@ use std::test::Fail;
 fn nodes_text(alloc: Global, rows: &Rows, nodes: &[Instance]) -> Result<String, AllocError> {
     let mut text = String::new(alloc);
     for node in nodes {
-        let name = argument_at(rows, node.row);
-        let owner = node.owner;
-        let piece = match node.parent {
-            None => format!(in alloc; " m{owner}/{name}")?,
-            Some(parent) => format!(in alloc; " {parent}/{name}")?,
-        };
+        let piece = node_text(alloc, rows, node)?;
         text.push_str(piece.as_str())?;
     }
     Ok(text)
+}
+
+fn node_text(alloc: Global, rows: &Rows, node: &Instance) -> Result<String, AllocError> {
+    let name = argument_at(rows, node.row);
+    match node.parent {
+        None => format!(in alloc; " m{}/{name}", node.owner),
+        Some(parent) => format!(in alloc; " {parent}/{name}"),
+    }
 }
 
 // Which modules are expanded.
@@ -44,70 +48,30 @@ fn tree(alloc: Global, texts: &[&str]) -> Result<String, Fail> {
 }
 
 // Modules' texts; the nodes of their tree, level by level (RFC 7950 sections 7.13 and 7.21.1).
-const TREES: [(&[&str], &str); 7] = [
-    (
-        &[
-            "module m { leaf a; container b { leaf c; } }",
-            "module n { leaf d; }",
-        ],
-        " m0/a m0/b m1/d 1/c",
-    ),
-    (
-        &["module m { grouping g { leaf a; } leaf b; uses g; container c { uses g; } }"],
-        " m0/b m0/a m0/c 2/a",
-    ),
-    (
-        &[
-            "module m { grouping g { container c { uses h; } } grouping h { uses i; leaf b; } grouping i { leaf a; } uses g; leaf z; }",
-            "module n { import m { prefix m; } list t { uses m:g; } }",
-        ],
-        " m0/c m0/z m1/t 0/a 0/b 2/c 5/a 5/b",
-    ),
-    (
-        &[
-            "module m { leaf a { config false; } container b { config false; leaf c; } leaf-list d { config true; } }",
-        ],
-        " m0/d",
-    ),
-    (
-        &[
-            "module m { grouping g { leaf a; leaf b { config false; } } uses g; container c { uses g; } }",
-        ],
-        " m0/a m0/c 1/a",
-    ),
-    (
-        &["module m { leaf a; container b { leaf c; } uses nowhere; }"],
-        "",
-    ),
-    (
-        &["module m { leaf a; grouping g { leaf b; uses g; } container c { uses g; } }"],
-        "",
-    ),
-];
+const TREES: &str = r#"
+module m { leaf a; container b { leaf c; } } & module n { leaf d; } =>  m0/a m0/b m1/d 1/c
+module m { grouping g { leaf a; } leaf b; uses g; container c { uses g; } } =>  m0/b m0/a m0/c 2/a
+module m { grouping g { container c { uses h; } } grouping h { uses i; leaf b; } grouping i { leaf a; } uses g; leaf z; } & module n { import m { prefix m; } list t { uses m:g; } } =>  m0/c m0/z m1/t 0/a 0/b 2/c 5/a 5/b
+module m { leaf a { config false; } container b { config false; leaf c; } leaf-list d { config true; } } =>  m0/d
+module m { grouping g { leaf a; leaf b { config false; } } uses g; container c { uses g; } } =>  m0/a m0/c 1/a
+module m { leaf a; container b { leaf c; } uses nowhere; } => 
+module m { leaf a; grouping g { leaf b; uses g; } container c { uses g; } } => 
+"#;
+
+struct TellsTrees;
+
+impl Tells for TellsTrees {
+    fn tell(&self, alloc: Global, text: &str) -> Result<String, Fail> {
+        match text.split_once(" & ") {
+            None => tree(alloc, &[text]),
+            Some((one, other)) => tree(alloc, &[one, other]),
+        }
+    }
+}
 
 #[test]
 fn expands_modules(rt: HostRuntime) -> Result<(), Fail> {
-    let alloc = rt.alloc();
-    for (texts, expected) in &TREES {
-        let found = tree(alloc, texts)?;
-        assert_eq!(rt; found.as_str(), *expected, "{:?}", texts);
-    }
-    Ok(())
-}
-
-// The texts of the chosen modules.
-fn chosen_of<'a>(
-    alloc: Global,
-    texts: &'a [String],
-    chosen: &[usize],
-) -> Result<Vec<&'a str>, AllocError> {
-    let mut some = Vec::new(alloc);
-    for number in chosen {
-        if let Some(text) = texts.get(*number) {
-            some.push(text.as_str())?;
-        }
-    }
-    Ok(some)
+    check(&rt, rt.alloc(), &TellsTrees, TREES)
 }
 
 // How many nodes these modules have, the first that is too large, and which are expanded.
@@ -169,60 +133,78 @@ fn chain(alloc: Global, count: usize, around: &[&str], last: &str) -> Result<Str
     format!(in alloc; "module m {{ uses g0;{groupings} grouping g{count} {{ {last} }} }}")
 }
 
-const SMALL: usize = 0;
+// A module, by a word.
+fn large_text(alloc: Global, word: &str) -> Result<String, AllocError> {
+    match word {
+        "small" => String::from_str(alloc, "module n { leaf a; }"),
+        "astray" => String::from_str(alloc, "module o { grouping g { uses g; } uses g; }"),
+        "most" => hundreds(alloc, ""),
+        "many" => hundreds(alloc, " leaf z;"),
+        _ => chained(alloc, word),
+    }
+}
 
-const ASTRAY: usize = 1;
-
-const MOST: usize = 2;
-
-const MANY: usize = 3;
-
-const DEEPEST: usize = 4;
-
-const DEEP: usize = 5;
-
-const DOUBLED: usize = 6;
-
-const EMPTY: usize = 7;
-
-fn large_texts(alloc: Global) -> Result<Vec<String>, AllocError> {
+// A module of groupings in one another, by a word.
+fn chained(alloc: Global, word: &str) -> Result<String, AllocError> {
     let nested = [" container c {", " }"];
+    match word {
+        "deepest" => chain(alloc, 64, &nested, "leaf z;"),
+        "deep" => chain(alloc, 65, &nested, "leaf z;"),
+        "doubled" => doubled(alloc),
+        _ => chain(alloc, 30, &["", "", ""], ""),
+    }
+}
+
+fn doubled(alloc: Global) -> Result<String, AllocError> {
     let twice = [" container a {", " } container b {", " }"];
-    let mut texts = Vec::new(alloc);
-    texts.push(String::from_str(alloc, "module n { leaf a; }")?)?;
-    texts.push(String::from_str(alloc, "module o { grouping g { uses g; } uses g; }")?)?;
-    texts.push(hundreds(alloc, "")?)?;
-    texts.push(hundreds(alloc, " leaf z;")?)?;
-    texts.push(chain(alloc, 64, &nested, "leaf z;")?)?;
-    texts.push(chain(alloc, 65, &nested, "leaf z;")?)?;
-    texts.push(chain(alloc, 30, &twice, "leaf z;")?)?;
-    texts.push(chain(alloc, 30, &["", "", ""], "")?)?;
-    Ok(texts)
+    chain(alloc, 30, &twice, "leaf z;")
 }
 
 // Modules; how many nodes, the first that is too large, and which are expanded (this project's own limits: 20,000 nodes, 64 above one).
-const SIZES: [(&[usize], &str); 9] = [
-    (&[SMALL, ASTRAY, SMALL], "2 None +-+"),
-    (&[MOST, SMALL], "20000 Some(1) +-"),
-    (&[MANY, SMALL], "0 Some(0) --"),
-    (&[SMALL, MOST, SMALL], "1 Some(1) +--"),
-    (&[DEEPEST], "65 None +"),
-    (&[SMALL, DEEP, SMALL], "1 Some(1) +--"),
-    (&[DOUBLED, SMALL], "0 Some(0) --"),
-    (&[EMPTY, SMALL], "1 None ++"),
-    (&[], "0 None "),
-];
+const SIZES: &str = r#"
+small astray small => 2 None +-+
+most small => 20000 Some(1) +-
+many small => 0 Some(0) --
+small most small => 1 Some(1) +--
+deepest => 65 None +
+small deep small => 1 Some(1) +--
+doubled small => 0 Some(0) --
+empty small => 1 None ++
+ => 0 None 
+"#;
+
+// The texts of the modules that words name.
+fn large_texts(alloc: Global, words: &str) -> Result<Vec<String>, AllocError> {
+    let mut texts = Vec::new(alloc);
+    for word in words.split(' ') {
+        if word != "" {
+            texts.push(large_text(alloc, word)?)?;
+        }
+    }
+    Ok(texts)
+}
+
+fn all_texts<'a>(alloc: Global, texts: &'a [String]) -> Result<Vec<&'a str>, AllocError> {
+    let mut all = Vec::new(alloc);
+    for text in texts {
+        all.push(text.as_str())?;
+    }
+    Ok(all)
+}
+
+struct Limits;
+
+impl Tells for Limits {
+    fn tell(&self, alloc: Global, text: &str) -> Result<String, Fail> {
+        let texts = large_texts(alloc, text)?;
+        let all = all_texts(alloc, &texts)?;
+        sizes(alloc, &all)
+    }
+}
 
 #[test]
 fn keeps_to_limits(rt: HostRuntime) -> Result<(), Fail> {
-    let alloc = rt.alloc();
-    let texts = large_texts(alloc)?;
-    for (numbers, expected) in &SIZES {
-        let chosen = chosen_of(alloc, &texts, numbers)?;
-        let found = sizes(alloc, &chosen)?;
-        assert_eq!(rt; found.as_str(), *expected, "{:?}", numbers);
-    }
-    Ok(())
+    check(&rt, rt.alloc(), &Limits, SIZES)
 }
 
 // What is asked of a tree; what is found.
@@ -242,45 +224,59 @@ fn found<'a>(
 }
 
 // What is asked of a tree: whether at its top, where, and a name; what is found.
-const FOUND: [(bool, usize, &str, &str); 11] = [
-    (true, 0, "a", "[0, 1] Some(1)"),
-    (true, 1, "a", "[2, 3] Some(2)"),
-    (true, 1, "c", "[2, 3] None"),
-    (true, 2, "a", "[] None"),
-    (false, 0, "a", "[4, 5, 6] Some(4)"),
-    (false, 0, "b", "[4, 5, 6] Some(5)"),
-    (false, 0, "c", "[4, 5, 6] None"),
-    (false, 1, "a", "[] None"),
-    (false, 3, "b", "[7] Some(7)"),
-    (false, 6, "b", "[8] Some(8)"),
-    (false, 9, "a", "[] None"),
-];
+const FOUND: &str = r#"
+top 0 a => [0, 1] Some(1)
+top 1 a => [2, 3] Some(2)
+top 1 c => [2, 3] None
+top 2 a => [] None
+child 0 a => [4, 5, 6] Some(4)
+child 0 b => [4, 5, 6] Some(5)
+child 0 c => [4, 5, 6] None
+child 1 a => [] None
+child 3 b => [7] Some(7)
+child 6 b => [8] Some(8)
+child 9 a => [] None
+"#;
+
+fn is_found<'a>(alloc: Global, expansion: &Expansion<'a>, row: &'a str) -> Result<bool, Fail> {
+    let (asked, expected) = row.split_once(" => ").ok_or("no row")?;
+    let (place, rest) = asked.split_once(" ").ok_or("no place")?;
+    let (at, name) = rest.split_once(" ").ok_or("no name")?;
+    let at = at.parse::<usize>()?;
+    let told = found(alloc, expansion, place == "top", at, name)?;
+    Ok(told.as_str() == expected)
+}
 
 fn check_found<'a>(
     rt: &impl Abort,
     alloc: Global,
     expansion: &Expansion<'a>,
-    rows: &'a [(bool, usize, &'a str, &'a str)],
+    rows: &'a str,
 ) -> Result<(), Fail> {
-    for (is_top, at, name, expected) in rows {
-        let told = found(alloc, expansion, *is_top, *at, name)?;
-        assert_eq!(rt; told.as_str(), *expected, "{is_top} {at} {name}");
+    for row in rows.lines().skip(1) {
+        assert!(rt; is_found(alloc, expansion, row)?, "{row}");
     }
+    Ok(())
+}
+
+const TWO: [&str; 2] = [
+    "module m { grouping g { leaf a; leaf b; } container c { uses g; container a { leaf b; } } leaf a; }",
+    "module n { leaf a; list l { leaf b; } }",
+];
+
+#[test]
+fn numbers_nodes(rt: HostRuntime) -> Result<(), Fail> {
+    let nodes = tree(rt.alloc(), &TWO)?;
+    assert_eq!(rt; nodes.as_str(), " m0/c m0/a m1/a m1/l 0/a 0/b 0/a 3/b 6/b");
     Ok(())
 }
 
 #[test]
 fn finds_nodes(rt: HostRuntime) -> Result<(), Fail> {
     let alloc = rt.alloc();
-    let texts = [
-        "module m { grouping g { leaf a; leaf b; } container c { uses g; container a { leaf b; } } leaf a; }",
-        "module n { leaf a; list l { leaf b; } }",
-    ];
-    let rows = rows_in(alloc, &texts)?;
+    let rows = rows_in(alloc, &TWO)?;
     let groupings = groupings_in(alloc, &rows)?;
     let shape = shape_of(alloc, &rows, &groupings)?;
     let expansion = expand(alloc, &shape)?;
-    let nodes = nodes_text(alloc, &rows, expansion.nodes())?;
-    assert_eq!(rt; nodes.as_str(), " m0/c m0/a m1/a m1/l 0/a 0/b 0/a 3/b 6/b");
-    check_found(&rt, alloc, &expansion, &FOUND)
+    check_found(&rt, alloc, &expansion, FOUND)
 }

@@ -1,4 +1,6 @@
+use crate::flaws::flaw_parts;
 use crate::groupings::rows_in;
+use crate::tables::{Tells, check};
 use nm_base::{Label, NoMemory};
 use nm_schema_rows::{
     Flaw, Row, Rows, Word, grammar_flaw, is_builtin, is_identifier, is_reference, name_of,
@@ -6,7 +8,6 @@ use nm_schema_rows::{
 };
 use nm_yang::Statement;
 use std::alloc::{AllocError, Global};
-use std::process::Abort;
 use std::test::Fail;
 
 fn kind_name(word: Word) -> &'static str {
@@ -57,146 +58,157 @@ Leaf => unknown
  => unknown
 "#;
 
+struct TellsKeywords;
+
+impl Tells for TellsKeywords {
+    fn tell(&self, alloc: Global, text: &str) -> Result<String, Fail> {
+        Ok(String::from_str(alloc, kind_name(word_of(text)))?)
+    }
+}
+
 #[test]
 fn knows_keywords(rt: HostRuntime) -> Result<(), Fail> {
-    for row in KEYWORDS.lines().skip(1) {
-        let (keyword, expected) = row.split_once(" => ").ok_or("no row")?;
-        assert_eq!(rt; kind_name(word_of(keyword)), expected, "{keyword}");
-    }
-    assert_eq!(rt; Word::Leaf.same(Word::Leaf), true);
-    assert_eq!(rt; Word::Leaf.same(Word::LeafList), false);
-    Ok(())
+    assert!(rt; Word::Leaf.same(Word::Leaf) && !Word::Leaf.same(Word::LeafList));
+    check(&rt, rt.alloc(), &TellsKeywords, KEYWORDS)
 }
 
 // RFC 7950 sections 6.2, 6.5 and 4.2.4: whether it is an identifier, a reference, a built-in type.
-const NAMES: [(&str, bool, bool, bool); 16] = [
-    ("a", true, true, false),
-    ("_a-b.9", true, true, false),
-    ("A", true, true, false),
-    ("9a", false, false, false),
-    ("-a", false, false, false),
-    (".a", false, false, false),
-    ("a b", false, false, false),
-    ("", false, false, false),
-    ("p:a", false, true, false),
-    ("p:", false, false, false),
-    (":a", false, false, false),
-    ("p:a:b", false, false, false),
-    ("9:a", false, false, false),
-    ("int8", true, true, true),
-    ("instance-identifier", true, true, true),
-    ("p:int8", false, true, false),
-];
+const NAMES: &str = r#"
+a => true true false
+_a-b.9 => true true false
+A => true true false
+9a => false false false
+-a => false false false
+.a => false false false
+a b => false false false
+ => false false false
+p:a => false true false
+p: => false false false
+:a => false false false
+p:a:b => false false false
+9:a => false false false
+int8 => true true true
+instance-identifier => true true true
+p:int8 => false true false
+"#;
+
+struct TellsNames;
+
+impl Tells for TellsNames {
+    fn tell(&self, alloc: Global, text: &str) -> Result<String, Fail> {
+        let (identifier, reference) = (is_identifier(text), is_reference(text));
+        Ok(format!(in alloc; "{identifier} {reference} {}", is_builtin(text))?)
+    }
+}
 
 #[test]
 fn knows_names(rt: HostRuntime) -> Result<(), Fail> {
-    for (text, identifier, reference, builtin) in &NAMES {
-        assert_eq!(rt; is_identifier(text), *identifier, "{text}");
-        assert_eq!(rt; is_reference(text), *reference, "{text}");
-        assert_eq!(rt; is_builtin(text), *builtin, "{text}");
-    }
-    Ok(())
+    check(&rt, rt.alloc(), &TellsNames, NAMES)
 }
 
-// RFC 7950 section 6.5: a prefix ends before the first colon.
-const PARTS: [(&str, &str, &str); 4] = [
-    ("p:a", "p", "a"),
-    ("a", "none", "a"),
-    (":a", "", "a"),
-    ("p:a:b", "p", "a:b"),
-];
+// RFC 7950 section 6.5: a prefix ends before the first colon. The prefix, and the name.
+const PARTS: &str = r#"
+p:a => p a
+a => none a
+:a =>  a
+p:a:b => p a:b
+"#;
+
+struct TellsParts;
+
+impl Tells for TellsParts {
+    fn tell(&self, alloc: Global, text: &str) -> Result<String, Fail> {
+        let prefix = prefix_of(text).unwrap_or("none");
+        Ok(format!(in alloc; "{prefix} {}", name_of(text))?)
+    }
+}
 
 #[test]
 fn parts_names(rt: HostRuntime) -> Result<(), Fail> {
-    for (text, prefix, name) in &PARTS {
-        assert_eq!(rt; prefix_of(text).unwrap_or("none"), *prefix, "{text}");
-        assert_eq!(rt; name_of(text), *name, "{text}");
-    }
-    Ok(())
+    check(&rt, rt.alloc(), &TellsParts, PARTS)
 }
 
 // A row as its module, its number, its parent, its keyword and its place.
-fn show_row(alloc: Global, out: &mut String, at: usize, row: &Row) -> Result<(), AllocError> {
-    let text = match row.parent {
-        None => format!(in alloc; "{}:{} - {} {};", row.module, at, row.keyword, row.place)?,
-        Some(parent) => format!(in alloc;
-            "{}:{} {} {} {};",
-            row.module, at, parent, row.keyword, row.place
-        )?,
-    };
-    out.push_str(text.as_str())
+fn row_text(alloc: Global, at: usize, row: &Row) -> Result<String, AllocError> {
+    let (module, keyword, place) = (row.module, &row.keyword, row.place);
+    match row.parent {
+        None => format!(in alloc; "{module}:{at} - {keyword} {place};"),
+        Some(parent) => format!(in alloc; "{module}:{at} {parent} {keyword} {place};"),
+    }
+}
+
+fn show_row(alloc: Global, out: &mut String, rows: &Rows, at: usize) -> Result<(), AllocError> {
+    match rows.row(at) {
+        None => Ok(()),
+        Some(row) => {
+            let text = row_text(alloc, at, row)?;
+            out.push_str(text.as_str())
+        }
+    }
 }
 
 fn shown(alloc: Global, rows: &Rows) -> Result<String, AllocError> {
     let mut out = String::new(alloc);
     for at in 0..rows.len() {
-        if let Some(row) = rows.row(at) {
-            show_row(alloc, &mut out, at, row)?;
-        }
+        show_row(alloc, &mut out, rows, at)?;
     }
     Ok(out)
 }
 
 // Worked out by hand: skipped statements and what is below them have no rows, nor has what is below unknown ones.
-const ROWS: [(&str, &str, &str); 4] = [
-    ("module a;", "module b;", "0:0 - module 0;1:1 - module 0;"),
-    (
-        "module a { prefix a; leaf x { type int8; } }",
-        "module b { description d; uses g; }",
-        "0:0 - module 0;0:1 0 prefix 11;0:2 0 leaf 21;0:3 2 type 30;1:4 - module 0;1:5 4 uses 26;",
-    ),
-    (
-        "module a { rpc r { leaf x; } x:y { leaf z; } leaf l; }",
-        "module b { foo { leaf x; } must { leaf y; } leaf l; }",
-        "0:0 - module 0;0:1 0 leaf 45;1:2 - module 0;1:3 2 foo 11;1:4 2 must 27;1:5 2 leaf 44;",
-    ),
-    (
-        "module a { list l { leaf x { type t { range r; } } key x; } }",
-        "module b;",
-        "0:0 - module 0;0:1 0 list 11;0:2 1 leaf 20;0:3 2 type 29;0:4 3 range 38;0:5 1 key 51;1:6 - module 0;",
-    ),
-];
+const ROWS: &str = r#"
+module a; & module b; => 0:0 - module 0;1:1 - module 0;
+module a { prefix a; leaf x { type int8; } } & module b { description d; uses g; } => 0:0 - module 0;0:1 0 prefix 11;0:2 0 leaf 21;0:3 2 type 30;1:4 - module 0;1:5 4 uses 26;
+module a { rpc r { leaf x; } x:y { leaf z; } leaf l; } & module b { foo { leaf x; } must { leaf y; } leaf l; } => 0:0 - module 0;0:1 0 leaf 45;1:2 - module 0;1:3 2 foo 11;1:4 2 must 27;1:5 2 leaf 44;
+module a { list l { leaf x { type t { range r; } } key x; } } & module b; => 0:0 - module 0;0:1 0 list 11;0:2 1 leaf 20;0:3 2 type 29;0:4 3 range 38;0:5 1 key 51;1:6 - module 0;
+"#;
+
+struct Making;
+
+impl Tells for Making {
+    fn tell(&self, alloc: Global, text: &str) -> Result<String, Fail> {
+        let (one, other) = text.split_once(" & ").ok_or("no module")?;
+        let rows = rows_in(alloc, &[one, other])?;
+        Ok(shown(alloc, &rows)?)
+    }
+}
 
 #[test]
 fn makes_rows(rt: HostRuntime) -> Result<(), Fail> {
-    let alloc = rt.alloc();
-    for (one, other, expected) in &ROWS {
-        let rows = rows_in(alloc, &[*one, *other])?;
-        let found = shown(alloc, &rows)?;
-        assert_eq!(rt; found.as_str(), *expected, "{one} {other}");
-    }
-    Ok(())
+    check(&rt, rt.alloc(), &Making, ROWS)
 }
 
-fn check_rows(rt: &impl Abort, rows: &Rows) {
-    assert_eq!(rt; rows.is_empty(), false);
-    assert_eq!(rt; rows.len(), 5);
-    assert_eq!(rt; rows.roots(), [0].as_slice());
-    assert_eq!(rt; rows.below(0), [1, 2, 4].as_slice());
-    assert_eq!(rt; rows.below(5), [].as_slice());
-    assert_eq!(rt; rows.first_below(0, Word::Leaf), Some(2));
-    assert_eq!(rt; rows.first_below(0, Word::Type), None);
-    assert_eq!(rt; rows.first_in(Some(2), Word::Type), Some(3));
-    assert_eq!(rt; rows.first_in(None, Word::Module), Some(0));
+fn places_text(alloc: Global, rows: &Rows) -> Result<String, AllocError> {
+    format!(in alloc;
+        "{:?} {:?} {:?}",
+        rows.roots(),
+        rows.below(0),
+        rows.below(5)
+    )
+}
+
+fn finds_first(rows: &Rows) -> bool {
+    rows.first_below(0, Word::Leaf) == Some(2)
+        && rows.first_below(0, Word::Type) == None
+        && rows.first_in(Some(2), Word::Type) == Some(3)
+        && rows.first_in(None, Word::Module) == Some(0)
 }
 
 #[test]
 fn finds_rows(rt: HostRuntime) -> Result<(), Fail> {
     let text = "module a { prefix a; leaf x { type t; } leaf y; }";
     let rows = rows_in(rt.alloc(), &[text])?;
-    check_rows(&rt, &rows);
+    assert!(rt; !rows.is_empty() && rows.len() == 5 && finds_first(&rows));
+    assert_eq!(rt;
+        places_text(rt.alloc(), &rows)?.as_str(),
+        "[0] [1, 2, 4] []"
+    );
     Ok(())
 }
 
 fn flaw_text(alloc: Global, flaw: &Flaw, place: u32) -> Result<String, AllocError> {
-    match flaw {
-        Flaw::Unsupported(name) => format!(in alloc; "unsupported {name} {place}"),
-        Flaw::Unknown(name) => format!(in alloc; "unknown {name} {place}"),
-        Flaw::Duplicate(name) => format!(in alloc; "duplicate {name} {place}"),
-        Flaw::BadReference(name) => format!(in alloc; "bad-reference {name} {place}"),
-        Flaw::BadArgument(name) => format!(in alloc; "bad-argument {name} {place}"),
-        Flaw::Cycle(name) => format!(in alloc; "cycle {name} {place}"),
-    }
+    let (word, name) = flaw_parts(flaw);
+    format!(in alloc; "{word} {name} {place}")
 }
 
 // The first flaw in a module as its kind, its name and its place behind so many bytes.
@@ -311,76 +323,76 @@ prefix q; => duplicate prefix 0
 module n { namespace n; prefix n; } => unknown module 0
 "#;
 
+struct TellsWithin;
+
+impl Tells for TellsWithin {
+    fn tell(&self, alloc: Global, text: &str) -> Result<String, Fail> {
+        let whole = format!(in alloc; "module m{{namespace n;prefix m;{text}}}")?;
+        flaw_in(alloc, whole.as_str(), 30)
+    }
+}
+
 #[test]
 fn finds_flaws_within_modules(rt: HostRuntime) -> Result<(), Fail> {
-    let alloc = rt.alloc();
-    let start = "module m{namespace n;prefix m;";
-    for row in WITHIN.lines().skip(1) {
-        let (text, expected) = row.split_once(" => ").ok_or("no row")?;
-        let whole = format!(in alloc; "{start}{text}}}")?;
-        let found = flaw_in(alloc, whole.as_str(), 30)?;
-        assert_eq!(rt; found.as_str(), expected, "{text}");
-    }
-    Ok(())
+    check(&rt, rt.alloc(), &TellsWithin, WITHIN)
 }
 
 // RFC 7950 section 7.1.1: what a module holds.
-const MODULES: [(&str, &str); 9] = [
-    ("module m;", "bad-argument namespace 0"),
-    ("module m{namespace n;}", "bad-argument prefix 0"),
-    ("module m{prefix n;}", "bad-argument namespace 0"),
-    ("module m{namespace n;prefix p;}", "none"),
-    (
-        "module m{namespace \"\";prefix p;}",
-        "bad-argument namespace 9",
-    ),
-    ("module 9{namespace n;prefix p;}", "bad-argument module 0"),
-    ("module m{yang-version 1.1;namespace n;prefix p;}", "none"),
-    (
-        "module m{yang-version 2;namespace n;prefix p;}",
-        "bad-argument yang-version 9",
-    ),
-    (
-        "module m{belongs-to n;namespace n;prefix p;}",
-        "unsupported belongs-to 9",
-    ),
-];
+const MODULES: &str = r#"
+module m; => bad-argument namespace 0
+module m{namespace n;} => bad-argument prefix 0
+module m{prefix n;} => bad-argument namespace 0
+module m{namespace n;prefix p;} => none
+module m{namespace "";prefix p;} => bad-argument namespace 9
+module 9{namespace n;prefix p;} => bad-argument module 0
+module m{yang-version 1.1;namespace n;prefix p;} => none
+module m{yang-version 2;namespace n;prefix p;} => bad-argument yang-version 9
+module m{belongs-to n;namespace n;prefix p;} => unsupported belongs-to 9
+"#;
+
+struct TellsModules;
+
+impl Tells for TellsModules {
+    fn tell(&self, alloc: Global, text: &str) -> Result<String, Fail> {
+        flaw_in(alloc, text, 0)
+    }
+}
 
 #[test]
 fn finds_flaws_of_modules(rt: HostRuntime) -> Result<(), Fail> {
-    let alloc = rt.alloc();
-    for (text, expected) in &MODULES {
-        let found = flaw_in(alloc, text, 0)?;
-        assert_eq!(rt; found.as_str(), *expected, "{text}");
-    }
-    Ok(())
+    check(&rt, rt.alloc(), &TellsModules, MODULES)
 }
 
 // RFC 7950 section 5.1: the outermost statement is a module.
-const OUTERMOST: [(&str, &str); 4] = [
-    ("leaf", "unknown leaf 7"),
-    ("organization", "unknown organization 7"),
-    ("submodule", "unsupported submodule 7"),
-    ("x:module", "unknown x:module 7"),
-];
+const OUTERMOST: &str = r#"
+leaf => unknown leaf 7
+organization => unknown organization 7
+submodule => unsupported submodule 7
+x:module => unknown x:module 7
+"#;
 
-// The first flaw of a statement without an argument, at place 7.
-fn flaw_of(alloc: Global, keyword: &str) -> Result<String, Fail> {
-    let statement = Statement {
+// A statement without an argument, at place 7.
+fn bare(alloc: Global, keyword: &str) -> Result<Statement, NoMemory> {
+    Ok(Statement {
         keyword: Label::new(alloc, keyword)?,
         argument: None,
         place: 7,
         below: Vec::new(alloc),
-    };
-    let rows = rows_of(alloc, &[statement])?;
-    Ok(first_flaw(alloc, &rows, 0)?)
+    })
+}
+
+// The first flaw of such a statement.
+struct TellsOutermost;
+
+impl Tells for TellsOutermost {
+    fn tell(&self, alloc: Global, text: &str) -> Result<String, Fail> {
+        let statement = bare(alloc, text)?;
+        let rows = rows_of(alloc, &[statement])?;
+        Ok(first_flaw(alloc, &rows, 0)?)
+    }
 }
 
 #[test]
 fn finds_flaws_outermost(rt: HostRuntime) -> Result<(), Fail> {
-    for (keyword, expected) in &OUTERMOST {
-        let found = flaw_of(rt.alloc(), keyword)?;
-        assert_eq!(rt; found.as_str(), *expected, "{keyword}");
-    }
-    Ok(())
+    check(&rt, rt.alloc(), &TellsOutermost, OUTERMOST)
 }

@@ -1,9 +1,10 @@
 ghost use Rattle.std.specs.Prelude.{◌≡◌};
 
 use crate::groupings::{groupings_of, rows_in};
+use crate::tables::{Tells, check, check_parted};
 use nm_base::NoMemory;
 use nm_schema_keys::{
-    Keys, Uniques, flawed_uniques, key_flaw, key_leafs, keys_of, unique_flaw, uniques_of,
+    Keys, Unique, Uniques, flawed_uniques, key_flaw, key_leafs, keys_of, unique_flaw, uniques_of,
 };
 use nm_schema_names::RowNames;
 use nm_schema_rows::{Flaw, Rows, Word};
@@ -73,14 +74,20 @@ fn uniques_text(alloc: Global, uniques: &Option<Uniques>) -> Result<String, Allo
     };
     let mut text = String::new(alloc);
     for unique in uniques.as_slice() {
-        text.push_str("(")?;
-        for way in unique.ways() {
-            let way = format!(in alloc; "{:?}", way.as_slice())?;
-            text.push_str(way.as_str())?;
-        }
-        text.push_str(")")?;
+        let ways = ways_text(alloc, unique)?;
+        text.push_str(ways.as_str())?;
     }
     Ok(text)
+}
+
+// The ways to the leafs that are unique together.
+fn ways_text(alloc: Global, unique: &Unique) -> Result<String, AllocError> {
+    let mut text = String::new(alloc);
+    for way in unique.ways() {
+        let way = format!(in alloc; "{:?}", way.as_slice())?;
+        text.push_str(way.as_str())?;
+    }
+    format!(in alloc; "({text})")
 }
 
 // The first flaw of some rows, the keys of the first list, and what is unique in it.
@@ -148,22 +155,21 @@ module m { prefix p; grouping g { container c { leaf d; } } list l { unique "c/d
 "#;
 
 // A list whose key is parted by a line break.
-const IN_LINES: (&str, &str) = (
-    "module m { prefix p; list l { key \"  b\n\ta \"; leaf a; leaf b; } }",
-    "none; [5, 4]; ",
-);
+const IN_LINES: &str =
+    "module m { prefix p; list l { key \"  b\n\ta \"; leaf a; leaf b; } } => none; [5, 4]; ";
+
+struct TellsLists;
+
+impl Tells for TellsLists {
+    fn tell(&self, alloc: Global, text: &str) -> Result<String, Fail> {
+        told_of(alloc, text)
+    }
+}
 
 #[test]
 fn reads_lists(rt: HostRuntime) -> Result<(), Fail> {
-    let alloc = rt.alloc();
-    for row in LISTS.lines().skip(1) {
-        let (text, expected) = row.split_once(" => ").ok_or("no row")?;
-        let found = told_of(alloc, text)?;
-        assert_eq!(rt; found.as_str(), expected, "{text}");
-    }
-    let (text, expected) = IN_LINES;
-    assert_eq!(rt; told_of(alloc, text)?.as_str(), expected, "{text}");
-    Ok(())
+    check(&rt, rt.alloc(), &TellsLists, LISTS)?;
+    check_parted(&rt, rt.alloc(), &TellsLists, IN_LINES)
 }
 
 // For each row whether it is a key.
@@ -183,11 +189,9 @@ fn keys_in(alloc: Global, text: &str) -> Result<Vec<bool>, Fail> {
 fn marks_keys(rt: HostRuntime) -> Result<(), Fail> {
     let text =
         "module m { prefix p; grouping g { leaf a; leaf b; } list l { key a; uses g; leaf c; } list k { key c; leaf c; } }";
-    let expected = [
-        false, false, false, true, false, false, false, false, false, false, false, true,
-    ];
     let marks = keys_in(rt.alloc(), text)?;
-    assert_eq!(rt; marks.as_slice(), expected.as_slice());
+    let found = marked(rt.alloc(), &marks)?;
+    assert!(rt; marks.len() == 12 && found.as_str() == "[3, 11]");
     Ok(())
 }
 
@@ -221,27 +225,21 @@ fn flawed_in(alloc: Global, text: &str) -> Result<String, Fail> {
 }
 
 // A module's text, and the rows of its `unique` statements that have a flaw (RFC 7950 section 7.8.3).
-const FLAWED: [(&str, &str); 3] = [
-    (
-        "module m { prefix p; list l { unique a; unique b; leaf a; list k { unique \"c/d\"; unique \"c/e c/d\"; unique \"\"; container c { leaf d; } } unique \"p:a\"; unique \"x:a\"; } container c { unique b; } }",
-        "[4, 8, 9, 13]",
-    ),
-    (
-        "module m { prefix p; list l { unique a; unique \"c/d\"; unique \"c/d\"; leaf a { config false; } container c { config false; leaf d; } } list k { config false; unique a; leaf a; } }",
-        "[3, 4, 5]",
-    ),
-    (
-        "module m { prefix p; grouping g { container c { leaf d; } } list l { unique \"c/d\"; uses g; unique \"c/c\"; } list k { uses g; unique \"d/c\"; unique \"c/d\"; } list n { unique x; uses nowhere; } }",
-        "[8, 11]",
-    ),
-];
+const FLAWED: &str = r#"
+module m { prefix p; list l { unique a; unique b; leaf a; list k { unique "c/d"; unique "c/e c/d"; unique ""; container c { leaf d; } } unique "p:a"; unique "x:a"; } container c { unique b; } } => [4, 8, 9, 13]
+module m { prefix p; list l { unique a; unique "c/d"; unique "c/d"; leaf a { config false; } container c { config false; leaf d; } } list k { config false; unique a; leaf a; } } => [3, 4, 5]
+module m { prefix p; grouping g { container c { leaf d; } } list l { unique "c/d"; uses g; unique "c/c"; } list k { uses g; unique "d/c"; unique "c/d"; } list n { unique x; uses nowhere; } } => [8, 11]
+"#;
+
+struct TellsFlawMarks;
+
+impl Tells for TellsFlawMarks {
+    fn tell(&self, alloc: Global, text: &str) -> Result<String, Fail> {
+        flawed_in(alloc, text)
+    }
+}
 
 #[test]
 fn marks_flaws(rt: HostRuntime) -> Result<(), Fail> {
-    let alloc = rt.alloc();
-    for (text, expected) in &FLAWED {
-        let found = flawed_in(alloc, text)?;
-        assert_eq!(rt; found.as_str(), *expected, "{text}");
-    }
-    Ok(())
+    check(&rt, rt.alloc(), &TellsFlawMarks, FLAWED)
 }

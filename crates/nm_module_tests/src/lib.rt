@@ -10,6 +10,8 @@ mod clash;
 #[cfg(test)]
 mod expansion;
 #[cfg(test)]
+mod flaws;
+#[cfg(test)]
 mod grammar;
 #[cfg(test)]
 mod groupings;
@@ -19,6 +21,8 @@ mod keys;
 mod names;
 #[cfg(test)]
 mod shape;
+#[cfg(test)]
+mod tables;
 #[cfg(test)]
 mod wide;
 #[cfg(test)]

@@ -1,20 +1,15 @@
+use crate::flaws::flaw_parts;
 use crate::groupings::rows_in;
+use crate::tables::{Tells, check};
 use nm_base::NoMemory;
 use nm_schema_names::{RowNames, is_marker};
-use nm_schema_rows::{Flaw, Word};
+use nm_schema_rows::{Flaw, Rows, Word};
 use std::alloc::{AllocError, Global};
-use std::process::Abort;
 use std::test::Fail;
 
 fn flaw_text(alloc: Global, flaw: &Flaw, owner: usize, place: u32) -> Result<String, AllocError> {
-    match flaw {
-        Flaw::Unsupported(name) => format!(in alloc; "unsupported {name} {owner}:{place}"),
-        Flaw::Unknown(name) => format!(in alloc; "unknown {name} {owner}:{place}"),
-        Flaw::Duplicate(name) => format!(in alloc; "duplicate {name} {owner}:{place}"),
-        Flaw::BadReference(name) => format!(in alloc; "bad-reference {name} {owner}:{place}"),
-        Flaw::BadArgument(name) => format!(in alloc; "bad-argument {name} {owner}:{place}"),
-        Flaw::Cycle(name) => format!(in alloc; "cycle {name} {owner}:{place}"),
-    }
+    let (word, name) = flaw_parts(flaw);
+    format!(in alloc; "{word} {name} {owner}:{place}")
 }
 
 // The first flaw of two modules as its kind, its name, its module and its place.
@@ -33,155 +28,147 @@ fn first_flaw(alloc: Global, names: &RowNames<'_>) -> Result<String, AllocError>
     String::from_str(alloc, "none")
 }
 
-fn flaw_in(alloc: Global, texts: &[&str]) -> Result<String, Fail> {
-    let rows = rows_in(alloc, texts)?;
-    let names = RowNames::new(alloc, &rows)?;
-    Ok(first_flaw(alloc, &names)?)
+// The rows of two modules.
+fn rows_of_two(alloc: Global, text: &str) -> Result<Rows, Fail> {
+    let (one, other) = text.split_once(" & ").ok_or("no module")?;
+    rows_in(alloc, &[one, other])
+}
+
+struct TellsFirstFlaw;
+
+impl Tells for TellsFirstFlaw {
+    fn tell(&self, alloc: Global, text: &str) -> Result<String, Fail> {
+        let rows = rows_of_two(alloc, text)?;
+        let names = RowNames::new(alloc, &rows)?;
+        Ok(first_flaw(alloc, &names)?)
+    }
 }
 
 // RFC 7950 sections 5.1, 5.5, 6.2.1, 7.1.4, 7.1.5 and 7.3: names that are there twice or lead nowhere.
 const FLAWS: &str = r#"
-module a { prefix a; import b { prefix b; } } => module b { prefix b; import a { prefix a; } } => none
-module a { prefix a; import a { prefix x; } } => module b; => none
-module a; => module a; => duplicate a 1:0
-module netm-marker; => module b; => duplicate netm-marker 0:0
-module a { import c { prefix c; } } => module b; => unknown c 0:11
-module a { import netm-marker { prefix nm; } } => module netm-marker; => unknown netm-marker 0:11
-module a { prefix a; import b { prefix a; } } => module b; => duplicate a 0:32
-module a { import b { prefix p; } import b { prefix p; } } => module b; => duplicate p 0:45
-module a { prefix p; } => module b { prefix p; } => none
-module a { typedef t { type int8; } typedef t { type int8; } } => module b; => duplicate t 0:36
-module a { typedef t { type int8; } grouping t; } => module b { grouping t; } => none
-module a { grouping g; grouping g; } => module b; => duplicate g 0:23
-module a { typedef t { type int8; } container c { typedef t { type t; } } } => module b; => none
-module a { leaf x { type t; } } => module b { typedef t { type int8; } } => bad-reference t 0:20
-module a { leaf x { type int8; } } => module b { leaf x { type union; } } => none
-module a { prefix p; leaf x { type p:int8; } } => module b; => bad-reference p:int8 0:30
-module a { uses g; } => module b { grouping g; } => bad-reference g 0:11
-module a { typedef g { type int8; } uses g; } => module b; => bad-reference g 0:36
-module a { uses p:g; grouping g; } => module b; => bad-reference p:g 0:11
-module a { import b { prefix p; } uses p:g; } => module b { grouping g; } => none
-module a { import b { prefix p; } uses p:g; grouping g; } => module b; => bad-reference p:g 0:34
-module a { import b { prefix p; } uses p:g; } => module b { container c { grouping g; } } => bad-reference p:g 0:34
-module a { import b { prefix p; } } => module b { uses p:g; grouping g; } => bad-reference p:g 1:11
-module a { prefix p; uses p:g; grouping g; } => module b; => none
-module a { prefix p; container c { grouping g; uses p:g; } } => module b; => none
-module a { container c { grouping g; } uses g; } => module b; => bad-reference g 0:39
-module { uses; } => module { type; } => none
+module a { prefix a; import b { prefix b; } } & module b { prefix b; import a { prefix a; } } => none
+module a { prefix a; import a { prefix x; } } & module b; => none
+module a; & module a; => duplicate a 1:0
+module netm-marker; & module b; => duplicate netm-marker 0:0
+module a { import c { prefix c; } } & module b; => unknown c 0:11
+module a { import netm-marker { prefix nm; } } & module netm-marker; => unknown netm-marker 0:11
+module a { prefix a; import b { prefix a; } } & module b; => duplicate a 0:32
+module a { import b { prefix p; } import b { prefix p; } } & module b; => duplicate p 0:45
+module a { prefix p; } & module b { prefix p; } => none
+module a { typedef t { type int8; } typedef t { type int8; } } & module b; => duplicate t 0:36
+module a { typedef t { type int8; } grouping t; } & module b { grouping t; } => none
+module a { grouping g; grouping g; } & module b; => duplicate g 0:23
+module a { typedef t { type int8; } container c { typedef t { type t; } } } & module b; => none
+module a { leaf x { type t; } } & module b { typedef t { type int8; } } => bad-reference t 0:20
+module a { leaf x { type int8; } } & module b { leaf x { type union; } } => none
+module a { prefix p; leaf x { type p:int8; } } & module b; => bad-reference p:int8 0:30
+module a { uses g; } & module b { grouping g; } => bad-reference g 0:11
+module a { typedef g { type int8; } uses g; } & module b; => bad-reference g 0:36
+module a { uses p:g; grouping g; } & module b; => bad-reference p:g 0:11
+module a { import b { prefix p; } uses p:g; } & module b { grouping g; } => none
+module a { import b { prefix p; } uses p:g; grouping g; } & module b; => bad-reference p:g 0:34
+module a { import b { prefix p; } uses p:g; } & module b { container c { grouping g; } } => bad-reference p:g 0:34
+module a { import b { prefix p; } } & module b { uses p:g; grouping g; } => bad-reference p:g 1:11
+module a { prefix p; uses p:g; grouping g; } & module b; => none
+module a { prefix p; container c { grouping g; uses p:g; } } & module b; => none
+module a { container c { grouping g; } uses g; } & module b; => bad-reference g 0:39
+module { uses; } & module { type; } => none
 "#;
 
 #[test]
 fn finds_flaws(rt: HostRuntime) -> Result<(), Fail> {
-    let alloc = rt.alloc();
-    for row in FLAWS.lines().skip(1) {
-        let (one, rest) = row.split_once(" => ").ok_or("no row")?;
-        let (other, expected) = rest.split_once(" => ").ok_or("no row")?;
-        let found = flaw_in(alloc, &[one, other])?;
-        assert_eq!(rt; found.as_str(), expected, "{one} {other}");
-    }
-    Ok(())
+    check(&rt, rt.alloc(), &TellsFirstFlaw, FLAWS)
 }
 
 // RFC 7950 section 5.5, rows counted by hand: a row, and what it leads to.
-const LEADS: [(&str, &str, usize, Option<usize>); 7] = [
-    (
-        "module a { typedef t { type int8; } list c { typedef t { type int8; } leaf x { type t; } } }",
-        "module b;",
-        7,
-        Some(4),
-    ),
-    (
-        "module a { container c { leaf x { type t; } } typedef t { type int8; } }",
-        "module b;",
-        3,
-        Some(4),
-    ),
-    (
-        "module a { grouping g; grouping g; uses g; }",
-        "module b;",
-        3,
-        Some(1),
-    ),
-    (
-        "module a { prefix p; container c { grouping g; uses p:g; } grouping g; }",
-        "module b;",
-        4,
-        Some(3),
-    ),
-    (
-        "module a { import b { prefix p; } grouping g; uses p:g; }",
-        "module b { grouping g; }",
-        4,
-        Some(6),
-    ),
-    (
-        "module a { import a { prefix x; } list c { grouping g; uses x:g; } grouping g; }",
-        "module b;",
-        5,
-        Some(6),
-    ),
-    ("module a { leaf x { type int8; } }", "module b;", 2, None),
-];
+const LEADS: &str = r#"
+7 module a { typedef t { type int8; } list c { typedef t { type int8; } leaf x { type t; } } } & module b; => Some(4)
+3 module a { container c { leaf x { type t; } } typedef t { type int8; } } & module b; => Some(4)
+3 module a { grouping g; grouping g; uses g; } & module b; => Some(1)
+4 module a { prefix p; container c { grouping g; uses p:g; } grouping g; } & module b; => Some(3)
+4 module a { import b { prefix p; } grouping g; uses p:g; } & module b { grouping g; } => Some(6)
+5 module a { import a { prefix x; } list c { grouping g; uses x:g; } grouping g; } & module b; => Some(6)
+2 module a { leaf x { type int8; } } & module b; => None
+"#;
 
-fn led(alloc: Global, texts: &[&str], at: usize) -> Result<Option<usize>, Fail> {
-    let rows = rows_in(alloc, texts)?;
-    let names = RowNames::new(alloc, &rows)?;
-    Ok(names.leads_to(at))
+// In each row the number of a row, and two modules.
+struct Leading;
+
+impl Tells for Leading {
+    fn tell(&self, alloc: Global, text: &str) -> Result<String, Fail> {
+        let (at, modules) = text.split_once(" ").ok_or("no number")?;
+        let at = at.parse::<usize>()?;
+        let rows = rows_of_two(alloc, modules)?;
+        let names = RowNames::new(alloc, &rows)?;
+        Ok(format!(in alloc; "{:?}", names.leads_to(at))?)
+    }
 }
 
 #[test]
 fn leads(rt: HostRuntime) -> Result<(), Fail> {
-    for (one, other, at, expected) in &LEADS {
-        let found = led(rt.alloc(), &[*one, *other], *at)?;
-        assert_eq!(rt; found, *expected, "{one} {other}");
-    }
-    Ok(())
+    check(&rt, rt.alloc(), &Leading, LEADS)
 }
 
-const TWO: [&str; 2] = [
-    "module a { prefix p; import b { prefix q; } leaf x { type t; } leaf x; }",
-    "module b { grouping g { leaf x; } }",
-];
+const TWO: &str =
+    "module a { prefix p; import b { prefix q; } leaf x { type t; } leaf x; } & module b { grouping g { leaf x; } }";
 
-fn check_names(rt: &impl Abort, names: &RowNames<'_>) {
-    assert_eq!(rt; names.named(Some(0), Word::Leaf, "x"), Some(4));
-    assert_eq!(rt; names.named(Some(7), Word::Leaf, "x"), None);
-    assert_eq!(rt; names.named_in(Some(8), Word::Leaf, "x"), Some(9));
-    assert_eq!(rt; names.named_in(None, Word::Module, "a"), None);
-    assert_eq!(rt; names.named_within(1, Word::Leaf, "x"), Some(9));
-    assert_eq!(rt; names.named_within(1, Word::Prefix, "p"), None);
-    assert_eq!(rt; names.definition(9, Word::Grouping, "g"), Some(8));
-    assert_eq!(rt; names.definition(4, Word::Grouping, "q:g"), Some(8));
+fn finds_leafs(names: &RowNames<'_>) -> bool {
+    names.named(Some(0), Word::Leaf, "x") == Some(4)
+        && names.named(Some(7), Word::Leaf, "x") == None
+        && names.named_in(Some(8), Word::Leaf, "x") == Some(9)
+        && names.named_in(None, Word::Module, "a") == None
+}
+
+fn finds_within(names: &RowNames<'_>) -> bool {
+    names.named_within(1, Word::Leaf, "x") == Some(9)
+        && names.named_within(1, Word::Prefix, "p") == None
+        && names.definition(9, Word::Grouping, "g") == Some(8)
+        && names.definition(4, Word::Grouping, "q:g") == Some(8)
 }
 
 #[test]
 fn finds_names(rt: HostRuntime) -> Result<(), Fail> {
-    let rows = rows_in(rt.alloc(), &TWO)?;
+    let rows = rows_of_two(rt.alloc(), TWO)?;
     let names = RowNames::new(rt.alloc(), &rows)?;
-    check_names(&rt, &names);
+    assert!(rt; finds_leafs(&names) && finds_within(&names));
     Ok(())
 }
 
-fn check_modules(rt: &impl Abort, names: &RowNames<'_>) {
-    assert_eq!(rt; names.top(1), Some(7));
-    assert_eq!(rt; names.top(2), None);
-    assert_eq!(rt; names.parent_of(9), Some(8));
-    assert_eq!(rt; names.module_named("b"), Some(7));
-    assert_eq!(rt; names.module_named("netm-marker"), None);
-    assert_eq!(rt; names.is_own(0, "p"), true);
-    assert_eq!(rt; names.is_own(0, "q"), false);
-    assert_eq!(rt; names.prefix_leads(0, "p"), Some(0));
-    assert_eq!(rt; names.prefix_leads(0, "q"), Some(7));
-    assert_eq!(rt; names.prefix_leads(1, "q"), None);
-    assert_eq!(rt; is_marker("netm-marker"), true);
+fn finds_tops(names: &RowNames<'_>) -> bool {
+    names.top(1) == Some(7)
+        && names.top(2) == None
+        && names.parent_of(9) == Some(8)
+        && names.module_named("b") == Some(7)
+        && names.module_named("netm-marker") == None
+}
+
+fn finds_prefixes(names: &RowNames<'_>) -> bool {
+    names.is_own(0, "p")
+        && !names.is_own(0, "q")
+        && names.prefix_leads(0, "p") == Some(0)
+        && names.prefix_leads(0, "q") == Some(7)
+        && names.prefix_leads(1, "q") == None
 }
 
 #[test]
 fn finds_modules(rt: HostRuntime) -> Result<(), Fail> {
-    let rows = rows_in(rt.alloc(), &TWO)?;
+    let rows = rows_of_two(rt.alloc(), TWO)?;
     let names = RowNames::new(rt.alloc(), &rows)?;
-    check_modules(&rt, &names);
+    assert!(rt; finds_tops(&names) && finds_prefixes(&names) && is_marker("netm-marker"));
     Ok(())
+}
+
+fn put_next(alloc: Global, out: &mut String, next: usize) -> Result<(), AllocError> {
+    let text = format!(in alloc; " {next}")?;
+    out.push_str(text.as_str())
+}
+
+fn nexts_text(alloc: Global, row: &Vec<usize>) -> Result<String, AllocError> {
+    let mut out = String::new(alloc);
+    for next in row {
+        put_next(alloc, &mut out, *next)?;
+    }
+    Ok(out)
 }
 
 fn show_row(
@@ -190,13 +177,9 @@ fn show_row(
     at: usize,
     row: &Vec<usize>,
 ) -> Result<(), AllocError> {
-    let head = format!(in alloc; "{at}:")?;
-    out.push_str(head.as_str())?;
-    for next in row {
-        let text = format!(in alloc; " {next}")?;
-        out.push_str(text.as_str())?;
-    }
-    out.push_str(";")
+    let nexts = nexts_text(alloc, row)?;
+    let text = format!(in alloc; "{at}:{nexts};")?;
+    out.push_str(text.as_str())
 }
 
 fn shown(alloc: Global, graph: &Vec<Vec<usize>>) -> Result<String, AllocError> {
@@ -208,31 +191,23 @@ fn shown(alloc: Global, graph: &Vec<Vec<usize>>) -> Result<String, AllocError> {
 }
 
 // Worked out by hand: what each row leads to.
-const GRAPHS: [(&str, &str, &str); 2] = [
-    (
-        "module a { typedef t { type int8; } grouping g { leaf x { type t; } grouping h; } list l { key k; uses g; } }",
-        "module b;",
-        "0: 7;1: 2;2:;3: 4;4: 5;5: 1;6:;7: 9;8:;9: 3;10:;",
-    ),
-    (
-        "module a { import b { prefix b; } leaf-list x { type b:t; } container y { uses b:g; uses z; } }",
-        "module b { typedef t { type t; } grouping g { uses g; } }",
-        "0: 3 5;1:;2:;3: 4;4: 9;5: 6 7;6: 11;7:;8:;9: 10;10: 9;11: 12;12: 11;",
-    ),
-];
+const GRAPHS: &str = r#"
+module a { typedef t { type int8; } grouping g { leaf x { type t; } grouping h; } list l { key k; uses g; } } & module b; => 0: 7;1: 2;2:;3: 4;4: 5;5: 1;6:;7: 9;8:;9: 3;10:;
+module a { import b { prefix b; } leaf-list x { type b:t; } container y { uses b:g; uses z; } } & module b { typedef t { type t; } grouping g { uses g; } } => 0: 3 5;1:;2:;3: 4;4: 9;5: 6 7;6: 11;7:;8:;9: 10;10: 9;11: 12;12: 11;
+"#;
 
-fn graph_in(alloc: Global, texts: &[&str]) -> Result<String, Fail> {
-    let rows = rows_in(alloc, texts)?;
-    let names = RowNames::new(alloc, &rows)?;
-    let graph = names.successors(alloc)?;
-    Ok(shown(alloc, &graph)?)
+struct TellsGraphs;
+
+impl Tells for TellsGraphs {
+    fn tell(&self, alloc: Global, text: &str) -> Result<String, Fail> {
+        let rows = rows_of_two(alloc, text)?;
+        let names = RowNames::new(alloc, &rows)?;
+        let graph = names.successors(alloc)?;
+        Ok(shown(alloc, &graph)?)
+    }
 }
 
 #[test]
 fn makes_graphs(rt: HostRuntime) -> Result<(), Fail> {
-    for (one, other, expected) in &GRAPHS {
-        let found = graph_in(rt.alloc(), &[*one, *other])?;
-        assert_eq!(rt; found.as_str(), *expected, "{one} {other}");
-    }
-    Ok(())
+    check(&rt, rt.alloc(), &TellsGraphs, GRAPHS)
 }

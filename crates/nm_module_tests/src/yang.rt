@@ -1,6 +1,6 @@
+use crate::tables::{Tells, check, check_parted};
 use nm_yang::{Statement, YangFault, YangKind, read_module, write_module};
 use std::alloc::{AllocError, Global};
-use std::process::Abort;
 use std::test::Fail;
 
 fn kind_name(kind: YangKind) -> &'static str {
@@ -19,15 +19,18 @@ fn kind_name(kind: YangKind) -> &'static str {
     }
 }
 
+fn head(alloc: Global, statement: &Statement) -> Result<String, AllocError> {
+    let (place, keyword) = (statement.place, &statement.keyword);
+    match &statement.argument {
+        None => format!(in alloc; "{place} {keyword}"),
+        Some(argument) => format!(in alloc; "{place} {keyword}=[{argument}]"),
+    }
+}
+
 // A statement as `place keyword`, `=` and the argument between `[` and `]`, and what is within it in parentheses.
 fn show(alloc: Global, out: &mut String, statement: &Statement) -> Result<(), AllocError> {
-    let head = format!(in alloc; "{} {}", statement.place, statement.keyword)?;
+    let head = head(alloc, statement)?;
     out.push_str(head.as_str())?;
-    if let Some(argument) = &statement.argument {
-        out.push_str("=[")?;
-        out.push_str(argument.as_str())?;
-        out.push_str("]")?;
-    }
     for child in &statement.below {
         out.push_str("(")?;
         show(alloc, out, child)?;
@@ -48,22 +51,12 @@ fn outcome(alloc: Global, text: &[u8]) -> Result<String, AllocError> {
     }
 }
 
-fn check(rt: &impl Abort, alloc: Global, table: &[(&str, &str)]) -> Result<(), Fail> {
-    for (text, expected) in table {
-        let found = outcome(alloc, text.as_bytes())?;
-        assert_eq!(rt; found.as_str(), *expected, "{text}");
-    }
-    Ok(())
-}
+struct TellsOutcome;
 
-// The same of a table that has a row in each line after the first, parted by ` => `.
-fn check_lines(rt: &impl Abort, alloc: Global, table: &str) -> Result<(), Fail> {
-    for row in table.lines().skip(1) {
-        let (text, expected) = row.split_once(" => ").ok_or("no row")?;
-        let found = outcome(alloc, text.as_bytes())?;
-        assert_eq!(rt; found.as_str(), expected, "{text}");
+impl Tells for TellsOutcome {
+    fn tell(&self, alloc: Global, text: &str) -> Result<String, Fail> {
+        Ok(outcome(alloc, text.as_bytes())?)
     }
-    Ok(())
 }
 
 // White space and comments: worked out by hand from RFC 7950 section 6.
@@ -95,14 +88,12 @@ module m { / } => bad-keyword 11
 module m { */ } => bad-keyword 11
 "#;
 
-// The rows with line breaks that a line can't hold.
-const BLANKS_IN_LINES: [(&str, &str); 5] = [
-    ("\t\r\nmodule\tm\r\n;\n", "3 module=[m]"),
-    ("// c\nmodule m;", "5 module=[m]"),
-    ("module//c\nm//c\n;//c", "0 module=[m]"),
-    ("// /*\nmodule m;", "6 module=[m]"),
-    (" \n", "not-module 0"),
-];
+// The rows with line breaks that a line can't hold, parted by `§`.
+const BLANKS_IN_LINES: &str = "\t\r\nmodule\tm\r\n;\n => 3 module=[m]\
+§// c\nmodule m; => 5 module=[m]\
+§module//c\nm//c\n;//c => 0 module=[m]\
+§// /*\nmodule m; => 6 module=[m]\
+§ \n => not-module 0";
 
 // Keywords: worked out by hand from RFC 7950 section 6.
 const KEYWORDS: &str = r#"
@@ -179,8 +170,8 @@ module m { a }; } => bad-token 13
 module m { a / => unclosed-brace 9
 "#;
 
-// The rows with line breaks that a line can't hold.
-const WORDS_IN_LINES: [(&str, &str); 1] = [("module m { a b//c\n; }", "0 module=[m](11 a=[b])")];
+// The rows with line breaks that a line can't hold, parted by `§`.
+const WORDS_IN_LINES: &str = "module m { a b//c\n; } => 0 module=[m](11 a=[b])";
 
 // Quoted arguments: worked out by hand from RFC 7950 section 6.
 const QUOTES: &str = r#"
@@ -210,14 +201,9 @@ module m { a "b\ => unclosed-quote 13
 module m { a "b\" => unclosed-quote 13
 "#;
 
-// The rows with line breaks that a line can't hold.
-const QUOTES_IN_LINES: [(&str, &str); 2] = [
-    ("module m { a 'b\n  c'; }", "0 module=[m](11 a=[b\n  c])"),
-    (
-        "module m { a 'b' /*x*/ + //y\n 'c'; }",
-        "0 module=[m](11 a=[bc])",
-    ),
-];
+// The rows with line breaks that a line can't hold, parted by `§`.
+const QUOTES_IN_LINES: &str = "module m { a 'b\n  c'; } => 0 module=[m](11 a=[b\n  c])\
+§module m { a 'b' /*x*/ + //y\n 'c'; } => 0 module=[m](11 a=[bc])";
 
 // Escapes in both versions: worked out by hand from RFC 7950 section 6.
 const ESCAPES: &str = r#"
@@ -233,93 +219,47 @@ module m { a "\q"; $ yang-version 1.1; } => bad-keyword 19
 module m { a "\q"; yang-version 1.1; $ } => bad-escape 14
 "#;
 
-// The rows with line breaks that a line can't hold.
-const ESCAPES_IN_LINES: [(&str, &str); 3] = [
-    (
-        r#"module m { description 'a' + "b\n" + 'c'; }"#,
-        "0 module=[m](11 description=[ab\nc])",
-    ),
-    (
-        r#"module m { a "\n\t\"\\"; }"#,
-        "0 module=[m](11 a=[\n\t\"\\])",
-    ),
-    (
-        r#"module m { yang-version 1.1; a "\n\\"; }"#,
-        "0 module=[m](11 yang-version=[1.1])(29 a=[\n\\])",
-    ),
-];
+// The rows with line breaks that a line can't hold, parted by `§`.
+const ESCAPES_IN_LINES: &str =
+    "module m { description 'a' + \"b\\n\" + 'c'; } => 0 module=[m](11 description=[ab\nc])\
+§module m { a \"\\n\\t\\\"\\\\\"; } => 0 module=[m](11 a=[\n\t\"\\])\
+§module m { yang-version 1.1; a \"\\n\\\\\"; } => 0 module=[m](11 yang-version=[1.1])(29 a=[\n\\])";
 
 // Line breaks between double quotes: worked out by hand from RFC 7950 section 6.
-const LINES: [(&str, &str); 21] = [
-    ("module m { a \"b  \n c\"; }", "0 module=[m](11 a=[b\nc])"),
-    ("module m { a \"b\r\n c\"; }", "0 module=[m](11 a=[b\nc])"),
-    ("module m { a \"b\rc\"; }", "0 module=[m](11 a=[b\rc])"),
-    ("module m {\na \"b\n   c\"; }", "0 module=[m](11 a=[b\nc])"),
-    (
-        "module m {\na \"b\n    c\"; }",
-        "0 module=[m](11 a=[b\n c])",
-    ),
-    ("module m {\na \"b\n  c\"; }", "0 module=[m](11 a=[b\nc])"),
-    ("module m {\na \"b\n\tc\"; }", "0 module=[m](11 a=[b\nc])"),
-    ("module m {\na \"b\n\t c\"; }", "0 module=[m](11 a=[b\n c])"),
-    ("module m {\na \"b\n  \tc\"; }", "0 module=[m](11 a=[b\nc])"),
-    (
-        "module m {\na \"b\n   \tc\"; }",
-        "0 module=[m](11 a=[b\n\tc])",
-    ),
-    (
-        "module m {\n\ta \"b\n            c\"; }",
-        "0 module=[m](12 a=[b\n c])",
-    ),
-    (
-        "module m {\n/*é*/a \"b\n         c\"; }",
-        "0 module=[m](17 a=[b\n c])",
-    ),
-    (
-        "module m {\na \"b\n \t \n c\"; }",
-        "0 module=[m](11 a=[b\n\nc])",
-    ),
-    ("module m {\na \"\n\n\"; }", "0 module=[m](11 a=[\n\n])"),
-    ("module m { a \"b  \"; }", "0 module=[m](11 a=[b  ])"),
-    (
-        "module m {\na \"b\\t\nc\"; }",
-        "0 module=[m](11 a=[b\t\nc])",
-    ),
-    (
-        "module m {\na \"b\\n   c\"; }",
-        "0 module=[m](11 a=[b\n   c])",
-    ),
-    (
-        "module m {\na 'x' + \"b\n          c\"; }",
-        "0 module=[m](11 a=[xb\n c])",
-    ),
-    (
-        "module m {\na \"b\n c\n  d\n    e\"; }",
-        "0 module=[m](11 a=[b\nc\nd\n e])",
-    ),
-    (
-        "module m {\n     a \"first line\n          second line\"; }",
-        "0 module=[m](16 a=[first line\n  second line])",
-    ),
-    ("module m { a \"\\ \n b\"; }", "0 module=[m](11 a=[\\\nb])"),
-];
+const LINES: &str = "module m { a \"b  \n c\"; } => 0 module=[m](11 a=[b\nc])\
+§module m { a \"b\r\n c\"; } => 0 module=[m](11 a=[b\nc])\
+§module m { a \"b\rc\"; } => 0 module=[m](11 a=[b\rc])\
+§module m {\na \"b\n   c\"; } => 0 module=[m](11 a=[b\nc])\
+§module m {\na \"b\n    c\"; } => 0 module=[m](11 a=[b\n c])\
+§module m {\na \"b\n  c\"; } => 0 module=[m](11 a=[b\nc])\
+§module m {\na \"b\n\tc\"; } => 0 module=[m](11 a=[b\nc])\
+§module m {\na \"b\n\t c\"; } => 0 module=[m](11 a=[b\n c])\
+§module m {\na \"b\n  \tc\"; } => 0 module=[m](11 a=[b\nc])\
+§module m {\na \"b\n   \tc\"; } => 0 module=[m](11 a=[b\n\tc])\
+§module m {\n\ta \"b\n            c\"; } => 0 module=[m](12 a=[b\n c])\
+§module m {\n/*é*/a \"b\n         c\"; } => 0 module=[m](17 a=[b\n c])\
+§module m {\na \"b\n \t \n c\"; } => 0 module=[m](11 a=[b\n\nc])\
+§module m {\na \"\n\n\"; } => 0 module=[m](11 a=[\n\n])\
+§module m { a \"b  \"; } => 0 module=[m](11 a=[b  ])\
+§module m {\na \"b\\t\nc\"; } => 0 module=[m](11 a=[b\t\nc])\
+§module m {\na \"b\\n   c\"; } => 0 module=[m](11 a=[b\n   c])\
+§module m {\na 'x' + \"b\n          c\"; } => 0 module=[m](11 a=[xb\n c])\
+§module m {\na \"b\n c\n  d\n    e\"; } => 0 module=[m](11 a=[b\nc\nd\n e])\
+§module m {\n     a \"first line\n          second line\"; } => 0 module=[m](16 a=[first line\n  second line])\
+§module m { a \"\\ \n b\"; } => 0 module=[m](11 a=[\\\nb])";
 
 // Statements within statements: worked out by hand from RFC 7950 section 6.
-const STATEMENTS: [(&str, &str); 10] = [
-    (
-        "module m { a { b { c; } d; } e; }",
-        "0 module=[m](11 a(15 b(19 c))(24 d))(29 e)",
-    ),
-    ("module m { a {", "unclosed-brace 13"),
-    ("module m { a { }", "unclosed-brace 9"),
-    ("module m {", "unclosed-brace 9"),
-    ("module m { } x", "trailing 13"),
-    ("module m; module n;", "trailing 10"),
-    ("module m;;", "trailing 9"),
-    ("module m { } }", "trailing 13"),
-    ("module m; /x", "trailing 10"),
-    ("module m { a b\nc; }", "bad-token 15"),
-];
+const STATEMENTS: &str =
+    "module m { a { b { c; } d; } e; } => 0 module=[m](11 a(15 b(19 c))(24 d))(29 e)\
+§module m { a { => unclosed-brace 13\
+§module m { a { } => unclosed-brace 9\
+§module m { => unclosed-brace 9\
+§module m { } x => trailing 13\
+§module m; module n; => trailing 10\
+§module m;; => trailing 9\
+§module m { } } => trailing 13\
+§module m; /x => trailing 10\
+§module m { a b\nc; } => bad-token 15";
 
 // Bytes that are no UTF-8, met where they stand.
 const BYTES: [(&[u8], &str); 7] = [
@@ -333,32 +273,48 @@ const BYTES: [(&[u8], &str); 7] = [
 ];
 
 // A text, and what is written of its statement.
-const WRITTEN: [(&str, &str); 4] = [
-    ("module m;", "module \"m\";"),
-    (
-        "module m { description 'a' + \"b\\n\" + 'c'; }",
-        "module \"m\" { description \"ab\\nc\"; }",
-    ),
-    (
-        "module m { a '\t\\\"'; b { c; } }",
-        "module \"m\" { a \"\\t\\\\\\\"\"; b { c; } }",
-    ),
-    ("module { x:y +; }", "module { x:y \"+\"; }"),
-];
+const WRITTEN: &str = "module m; => module \"m\";\
+§module m { description 'a' + \"b\\n\" + 'c'; } => module \"m\" { description \"ab\\nc\"; }\
+§module m { a '\t\\\"'; b { c; } } => module \"m\" { a \"\\t\\\\\\\"\"; b { c; } }\
+§module { x:y +; } => module { x:y \"+\"; }";
 
 #[test]
-fn reads_texts(rt: HostRuntime) -> Result<(), Fail> {
-    check_lines(&rt, rt.alloc(), BLANKS)?;
-    check(&rt, rt.alloc(), &BLANKS_IN_LINES)?;
-    check_lines(&rt, rt.alloc(), KEYWORDS)?;
-    check_lines(&rt, rt.alloc(), WORDS)?;
-    check(&rt, rt.alloc(), &WORDS_IN_LINES)?;
-    check_lines(&rt, rt.alloc(), QUOTES)?;
-    check(&rt, rt.alloc(), &QUOTES_IN_LINES)?;
-    check_lines(&rt, rt.alloc(), ESCAPES)?;
-    check(&rt, rt.alloc(), &ESCAPES_IN_LINES)?;
-    check(&rt, rt.alloc(), &LINES)?;
-    check(&rt, rt.alloc(), &STATEMENTS)
+fn reads_blanks(rt: HostRuntime) -> Result<(), Fail> {
+    check(&rt, rt.alloc(), &TellsOutcome, BLANKS)?;
+    check_parted(&rt, rt.alloc(), &TellsOutcome, BLANKS_IN_LINES)
+}
+
+#[test]
+fn reads_keywords(rt: HostRuntime) -> Result<(), Fail> {
+    check(&rt, rt.alloc(), &TellsOutcome, KEYWORDS)
+}
+
+#[test]
+fn reads_words(rt: HostRuntime) -> Result<(), Fail> {
+    check(&rt, rt.alloc(), &TellsOutcome, WORDS)?;
+    check_parted(&rt, rt.alloc(), &TellsOutcome, WORDS_IN_LINES)
+}
+
+#[test]
+fn reads_quotes(rt: HostRuntime) -> Result<(), Fail> {
+    check(&rt, rt.alloc(), &TellsOutcome, QUOTES)?;
+    check_parted(&rt, rt.alloc(), &TellsOutcome, QUOTES_IN_LINES)
+}
+
+#[test]
+fn reads_escapes(rt: HostRuntime) -> Result<(), Fail> {
+    check(&rt, rt.alloc(), &TellsOutcome, ESCAPES)?;
+    check_parted(&rt, rt.alloc(), &TellsOutcome, ESCAPES_IN_LINES)
+}
+
+#[test]
+fn reads_lines(rt: HostRuntime) -> Result<(), Fail> {
+    check_parted(&rt, rt.alloc(), &TellsOutcome, LINES)
+}
+
+#[test]
+fn reads_statements(rt: HostRuntime) -> Result<(), Fail> {
+    check_parted(&rt, rt.alloc(), &TellsOutcome, STATEMENTS)
 }
 
 #[test]
@@ -370,14 +326,22 @@ fn reads_bytes(rt: HostRuntime) -> Result<(), Fail> {
     Ok(())
 }
 
+struct Writing;
+
+impl Tells for Writing {
+    fn tell(&self, alloc: Global, text: &str) -> Result<String, Fail> {
+        let statement = read_module(alloc, text.as_bytes())?;
+        let written = write_module(alloc, &statement)?;
+        match str::from_utf8(written.as_slice()) {
+            Ok(text) => Ok(String::from_str(alloc, text)?),
+            Err(_) => Err(Fail::new("no text")),
+        }
+    }
+}
+
 #[test]
 fn writes(rt: HostRuntime) -> Result<(), Fail> {
-    for (text, expected) in &WRITTEN {
-        let statement = read_module(rt.alloc(), text.as_bytes())?;
-        let written = write_module(rt.alloc(), &statement)?;
-        assert_eq!(rt; written.as_slice(), expected.as_bytes(), "{text}");
-    }
-    Ok(())
+    check_parted(&rt, rt.alloc(), &Writing, WRITTEN)
 }
 
 // `module m {` and so many times `x:a {`.
@@ -389,15 +353,24 @@ fn nested(alloc: Global, count: usize) -> Result<String, AllocError> {
     Ok(text)
 }
 
+// What is told of so many.
+struct Nesting;
+
+impl Tells for Nesting {
+    fn tell(&self, alloc: Global, text: &str) -> Result<String, Fail> {
+        let nested = nested(alloc, text.parse::<usize>()?)?;
+        Ok(outcome(alloc, nested.as_bytes())?)
+    }
+}
+
+const DEPTHS: &str = r#"
+63 => unclosed-brace 324
+64 => too-deep 329
+"#;
+
 #[test]
 fn limits_depth(rt: HostRuntime) -> Result<(), Fail> {
-    let deepest = nested(rt.alloc(), 63)?;
-    let found = outcome(rt.alloc(), deepest.as_bytes())?;
-    assert_eq!(rt; found.as_str(), "unclosed-brace 324");
-    let deeper = nested(rt.alloc(), 64)?;
-    let found = outcome(rt.alloc(), deeper.as_bytes())?;
-    assert_eq!(rt; found.as_str(), "too-deep 329");
-    Ok(())
+    check(&rt, rt.alloc(), &Nesting, DEPTHS)
 }
 
 // A text filled up to a length, and then more.
@@ -416,42 +389,47 @@ fn padded(
     Ok(out)
 }
 
+// In each row a length, what fills, and a text and more, which `...` parts.
+struct Filling;
+
+impl Tells for Filling {
+    fn tell(&self, alloc: Global, text: &str) -> Result<String, Fail> {
+        let (length, rest) = text.split_once("|").ok_or("no length")?;
+        let (filling, rest) = rest.split_once("|").ok_or("no filling")?;
+        let (start, more) = rest.split_once("...").ok_or("no more")?;
+        let whole = padded(alloc, start, filling, length.parse::<usize>()?, more)?;
+        Ok(outcome(alloc, whole.as_bytes())?)
+    }
+}
+
+const LENGTHS: &str = r#"
+262144| |module m;... => 0 module=[m]
+262145| |module m;... => too-long 262144
+262142| |module m;...// => 0 module=[m]
+262143| |module m;...// => too-long 262144
+262142| |module m; /*...*/ => 0 module=[m]
+262143| |module m; /*...*/ => too-long 262144
+262144| |module m { a '... => unclosed-quote 13
+262145| |module m { a '... => too-long 262144
+262145| |module m { $... => bad-keyword 11
+"#;
+
 #[test]
 fn limits_length(rt: HostRuntime) -> Result<(), Fail> {
-    let table = [
-        ("module m;", 262144, "", "0 module=[m]"),
-        ("module m;", 262145, "", "too-long 262144"),
-        ("module m;", 262142, "//", "0 module=[m]"),
-        ("module m;", 262143, "//", "too-long 262144"),
-        ("module m; /*", 262142, "*/", "0 module=[m]"),
-        ("module m; /*", 262143, "*/", "too-long 262144"),
-        ("module m { a '", 262144, "", "unclosed-quote 13"),
-        ("module m { a '", 262145, "", "too-long 262144"),
-        ("module m { $", 262145, "", "bad-keyword 11"),
-    ];
-    for (text, length, more, expected) in &table {
-        let whole = padded(rt.alloc(), text, " ", *length, more)?;
-        let found = outcome(rt.alloc(), whole.as_bytes())?;
-        assert_eq!(rt; found.as_str(), *expected, "{text}");
-    }
-    Ok(())
+    check(&rt, rt.alloc(), &Filling, LENGTHS)
 }
 
 // Words that the limit cuts within a character, or behind one.
+const CUT: &str = r#"
+262142|a|module ...é => not-module 0
+262142|a|module ...é; => too-long 262144
+262143|a|module ...é => too-long 262144
+262141|a|module ...😀 => too-long 262144
+"#;
+
 #[test]
 fn limits_word(rt: HostRuntime) -> Result<(), Fail> {
-    let table = [
-        (262142, "\u{e9}", "not-module 0"),
-        (262142, "\u{e9};", "too-long 262144"),
-        (262143, "\u{e9}", "too-long 262144"),
-        (262141, "\u{1f600}", "too-long 262144"),
-    ];
-    for (length, more, expected) in &table {
-        let whole = padded(rt.alloc(), "module ", "a", *length, more)?;
-        let found = outcome(rt.alloc(), whole.as_bytes())?;
-        assert_eq!(rt; found.as_str(), *expected, "{more}");
-    }
-    Ok(())
+    check(&rt, rt.alloc(), &Filling, CUT)
 }
 
 // Keywords that come again, that take the place of one another (`list` and `length` do), and that are too long to be remembered.

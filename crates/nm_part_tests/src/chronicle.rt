@@ -10,7 +10,7 @@ use std::sync::ledger::Blank;
 use std::test::Fail;
 
 // What a board says of change set 1, which has devices 1 and 2.
-#[derive(Drop)]
+#[derive(Clone, Copy)]
 struct Seen {
     first: u8,
     second: u8,
@@ -21,11 +21,13 @@ struct Seen {
 }
 
 impl Seen {
-    fn of<N: RunPlans>(chronicle: &Chronicle<N>, change: ChangeNo) -> Result<Seen, Fail> {
-        let line = chronicle.board().line(change).ok_or("no line")?;
-        Ok(Seen {
-            first: line.phase(DeviceNo::new(1).ok_or("1")?),
-            second: line.phase(DeviceNo::new(2).ok_or("2")?),
+    fn of<N: RunPlans>(chronicle: &Chronicle<N>) -> Option<Seen> {
+        let first = DeviceNo::new(1)?;
+        let second = DeviceNo::new(2)?;
+        let line = chronicle.board().line(ChangeNo::new(1)?)?;
+        Some(Seen {
+            first: line.phase(first),
+            second: line.phase(second),
             asked: line.asked(),
             acked: line.acked(),
             verdict: line.verdict(),
@@ -68,20 +70,54 @@ fn acknowledge<N: RunPlans>(
     Ok(())
 }
 
-// A verdict is decided.
+// Commit is decided.
 fn decide<N: RunPlans>(
     chronicle: &mut Chronicle<N>,
     slot: &mut SlotShares<N>,
     book: &mut BookShare<N>,
     change: ChangeNo,
-    verdict: Verdict,
 ) -> Result<(), Fail> {
     if slot.verdict().is_some() {
         return Err("decided before")?;
     }
     chronicle.room()?;
-    chronicle.decided(change, verdict, slot, book);
+    chronicle.decided(change, Verdict::Commit, slot, book);
     Ok(())
+}
+
+// The beginning of a run over devices 1 and 2 and change set 1.
+#[derive(Drop)]
+struct Begun<N: RunPlans> {
+    chronicle: Chronicle<N>,
+    slot: SlotShares<N>,
+    book: BookShare<N>,
+    first: CellShare<N>,
+    second: CellShare<N>,
+}
+
+fn begin<N: RunPlans>(alloc: Global, blank: Blank, changes: &[ChangePlan]) -> Result<Begun<N>, Fail>
+    requires name { blank.name ≡ N.name }
+    requires parts { blank.parts ≡ N.parts }
+    requires one_each { blank.parts ≡ length changes.now + 2 + 1 }
+    requires changes { changes.now ≡ N.changes }
+    requires devices { 2 ≡ N.devices }
+{
+    let (chronicle, shares) = Chronicle::<N>::reserve(alloc, blank, changes, 2)?;
+    let Shares {
+        mut slots,
+        mut cells,
+        book,
+    } = shares;
+    let slot = slots.pop().ok_or("a slot")?;
+    let second = cells.pop().ok_or("a share")?;
+    let first = cells.pop().ok_or("a share")?;
+    Ok(Begun {
+        chronicle,
+        slot,
+        book,
+        first,
+        second,
+    })
 }
 
 // Both devices acknowledge, Commit is decided, one confirms, and a restart undoes the other.
@@ -95,28 +131,20 @@ fn commit<N: RunPlans>(alloc: Global, blank: Blank, changes: &[ChangePlan]) -> R
     let change = ChangeNo::new(1).ok_or("1")?;
     let one = DeviceNo::new(1).ok_or("1")?;
     let two = DeviceNo::new(2).ok_or("2")?;
-    let (mut chronicle, shares) = Chronicle::<N>::reserve(alloc, blank, changes, 2)?;
-    let Shares {
-        mut slots,
-        mut cells,
+    let Begun {
+        mut chronicle,
+        mut slot,
         mut book,
-    } = shares;
-    let mut slot = slots.pop().ok_or("a slot")?;
-    let mut second = cells.pop().ok_or("a share")?;
-    let mut first = cells.pop().ok_or("a share")?;
+        mut first,
+        mut second,
+    } = begin::<N>(alloc, blank, changes)?;
     acknowledge(&mut chronicle, &mut slot, &mut first, change, one)?;
     acknowledge(&mut chronicle, &mut slot, &mut second, change, two)?;
-    decide(
-        &mut chronicle,
-        &mut slot,
-        &mut book,
-        change,
-        Verdict::Commit,
-    )?;
+    decide(&mut chronicle, &mut slot, &mut book, change)?;
     chronicle.room()?;
     chronicle.confirmed(change, one, &mut first);
     chronicle.undone(change, two, &mut second);
-    Seen::of(&chronicle, change)
+    Ok(Seen::of(&chronicle).ok_or("no line")?)
 }
 
 // Commit is decided while no device acknowledged, which is a stray; then an Abort can't be, and a cancel finds nothing.
@@ -129,25 +157,18 @@ fn stray<N: RunPlans>(alloc: Global, blank: Blank, changes: &[ChangePlan]) -> Re
 {
     let change = ChangeNo::new(1).ok_or("1")?;
     let one = DeviceNo::new(1).ok_or("1")?;
-    let (mut chronicle, shares) = Chronicle::<N>::reserve(alloc, blank, changes, 2)?;
-    let Shares {
-        mut slots,
-        mut cells,
+    let Begun {
+        mut chronicle,
+        mut slot,
         mut book,
-    } = shares;
-    let mut slot = slots.pop().ok_or("a slot")?;
-    let mut first = cells.pop().ok_or("a share")?;
-    decide(
-        &mut chronicle,
-        &mut slot,
-        &mut book,
-        change,
-        Verdict::Commit,
-    )?;
+        mut first,
+        second: _second,
+    } = begin::<N>(alloc, blank, changes)?;
+    decide(&mut chronicle, &mut slot, &mut book, change)?;
     chronicle.room()?;
     chronicle.cancelled(change, one, &mut first);
     chronicle.applied(change, one, &mut first);
-    Seen::of(&chronicle, change)
+    Ok(Seen::of(&chronicle).ok_or("no line")?)
 }
 
 // The board of a run over change set 1.

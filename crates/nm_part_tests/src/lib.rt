@@ -16,6 +16,8 @@ mod pending;
 #[cfg(test)]
 mod phases;
 #[cfg(test)]
+mod script;
+#[cfg(test)]
 mod sessions;
 #[cfg(test)]
 mod standing;

@@ -1,63 +1,123 @@
+use crate::script::{is_answer, number_after, parts_of, session_of};
 use nm_base::SessionId;
 use nm_locks::*;
 use nm_proto::Store;
-use std::test::Fail;
+
+// The first line of a script that isn't so, and an empty text where all are.
+fn first_wrong(script: &str) -> &str {
+    let mut locks = GlobalLocks::new();
+    for line in script.lines() {
+        if is_so(&mut locks, line) != Some(true) {
+            return line;
+        }
+    }
+    ""
+}
+
+// Whether a line is so, and None where it can't be read. An empty one is.
+fn is_so(locks: &mut GlobalLocks, line: &str) -> Option<bool> {
+    if line.is_empty() {
+        return Some(true);
+    }
+    let (actor, words, want) = parts_of(line)?;
+    if actor == "all" {
+        return is_seen(locks, words, want);
+    }
+    acts(locks, session_of(actor)?, words, want)
+}
+
+fn store_of(word: &str) -> Option<Store> {
+    match word {
+        "running" => Some(Store::Running),
+        "candidate" => Some(Store::Candidate),
+        _ => None,
+    }
+}
+
+// What a session does.
+fn acts(locks: &mut GlobalLocks, session: SessionId, words: &str, want: &str) -> Option<bool> {
+    if words == "ends" {
+        locks.drop_session(session);
+        return Some(want == "ok");
+    }
+    let (word, store) = words.split_once(" ")?;
+    let store = store_of(store)?;
+    match word {
+        "takes" => Some(is_taken(locks.take(store, session), want)),
+        "gives" => Some(is_answer(locks.give_back(store, session), want)),
+        "owns" => Some(is_answer(locks.is_owned_by(store, session), want)),
+        "lacks" => Some(is_answer(locks.is_owned_by_other(store, session), want)),
+        _ => None,
+    }
+}
+
+// Whether a lock was taken, or who has it.
+fn is_taken(taken: Result<(), SessionId>, want: &str) -> bool {
+    match taken {
+        Ok(()) => want == "ok",
+        Err(holder) => number_after("held by ", want) == Some(holder.get()),
+    }
+}
+
+// The owner of a datastore's lock, and the end of all locks.
+fn is_seen(locks: &mut GlobalLocks, words: &str, want: &str) -> Option<bool> {
+    if words == "clear" {
+        locks.clear();
+        return Some(want == "ok");
+    }
+    match locks.owner(store_of(words)?) {
+        Some(owner) => Some(want.parse::<u32>() == Ok(owner.get())),
+        None => Some(want == "free"),
+    }
+}
 
 // RFC 6241 section 7.5: a lock that anybody holds is denied with its holder, the asker included, and the two
 // datastores have locks of their own.
+const TAKEN: &str = r#"
+1 takes running => ok
+4294967295 takes running => held by 1
+1 takes running => held by 1
+4294967295 takes candidate => ok
+1 takes candidate => held by 4294967295
+all running => 1
+all candidate => 4294967295
+"#;
+
 #[test]
-fn locks_are_taken_once(rt: HostRuntime) -> Result<(), Fail> {
-    let alice = SessionId::new(1).ok_or("1")?;
-    let bob = SessionId::new(4294967295).ok_or("4294967295")?;
-    let mut locks = GlobalLocks::new();
-    for (store, session, want) in [
-        (Store::Running, alice, Ok(())),
-        (Store::Running, bob, Err(alice)),
-        (Store::Running, alice, Err(alice)),
-        (Store::Candidate, bob, Ok(())),
-        (Store::Candidate, alice, Err(bob)),
-    ] {
-        assert_eq!(rt; locks.take(store, session), want);
-    }
-    assert_eq!(rt; locks.owner(Store::Running), Some(alice));
-    assert_eq!(rt; locks.owner(Store::Candidate), Some(bob));
-    Ok(())
+fn locks_are_taken_once(rt: HostRuntime) {
+    assert_eq!(rt; first_wrong(TAKEN), "");
 }
 
 // RFC 6241 section 7.6: only the owner gives a lock back.
+const GIVEN: &str = r#"
+1 takes running => ok
+2 gives running => no
+1 gives candidate => no
+1 gives running => yes
+1 gives running => no
+2 takes running => ok
+"#;
+
 #[test]
-fn only_owners_give_back(rt: HostRuntime) -> Result<(), Fail> {
-    let alice = SessionId::new(1).ok_or("1")?;
-    let bob = SessionId::new(2).ok_or("2")?;
-    let mut locks = GlobalLocks::new();
-    assert_eq!(rt; locks.take(Store::Running, alice), Ok(()));
-    for (store, session, want) in [
-        (Store::Running, bob, false),
-        (Store::Candidate, alice, false),
-        (Store::Running, alice, true),
-        (Store::Running, alice, false),
-    ] {
-        assert_eq!(rt; locks.give_back(store, session), want);
-    }
-    assert_eq!(rt; locks.take(Store::Running, bob), Ok(()));
-    Ok(())
+fn only_owners_give_back(rt: HostRuntime) {
+    assert_eq!(rt; first_wrong(GIVEN), "");
 }
 
 // A session's end frees its locks and no others, and a restart frees all.
+const ENDED: &str = r#"
+1 takes running => ok
+2 takes candidate => ok
+1 owns running => yes
+1 lacks candidate => yes
+2 lacks candidate => no
+2 ends => ok
+all running => 1
+all candidate => free
+all clear => ok
+all running => free
+"#;
+
 #[test]
-fn locks_end_with_their_sessions(rt: HostRuntime) -> Result<(), Fail> {
-    let alice = SessionId::new(1).ok_or("1")?;
-    let bob = SessionId::new(2).ok_or("2")?;
-    let mut locks = GlobalLocks::new();
-    assert_eq!(rt; locks.take(Store::Running, alice), Ok(()));
-    assert_eq!(rt; locks.take(Store::Candidate, bob), Ok(()));
-    assert!(rt; locks.is_owned_by(Store::Running, alice));
-    assert!(rt; locks.is_owned_by_other(Store::Candidate, alice));
-    assert!(rt; !locks.is_owned_by_other(Store::Candidate, bob));
-    locks.drop_session(bob);
-    assert_eq!(rt; locks.owner(Store::Running), Some(alice));
-    assert_eq!(rt; locks.owner(Store::Candidate), None);
-    locks.clear();
-    assert_eq!(rt; locks.owner(Store::Running), None);
-    Ok(())
+fn locks_end_with_their_sessions(rt: HostRuntime) {
+    assert_eq!(rt; first_wrong(ENDED), "");
 }

@@ -1,3 +1,4 @@
+use crate::script::{is_answer, session_of};
 use nm_base::{Label, SessionId};
 use nm_sessions::*;
 use std::alloc::Global;
@@ -9,57 +10,110 @@ fn enter(sessions: &mut Sessions, alloc: Global, user: &str) -> Result<SessionId
     sessions.enter(Label::new(alloc, user)?)
 }
 
-fn is_full(answer: Result<SessionId, EnterFault>) -> bool {
-    match answer {
-        Err(EnterFault::Full) => true,
+// Whether the session that is opened for a user has this number, or none is left.
+fn enters(sessions: &mut Sessions, alloc: Global, user: &str, want: &str) -> bool {
+    match enter(sessions, alloc, user) {
+        Ok(session) => want.parse::<u32>() == Ok(session.get()),
+        Err(EnterFault::Full) => want == "full",
         Err(EnterFault::NoMemory) => false,
-        Ok(_) => false,
     }
+}
+
+// The first line of a script that isn't so, and an empty text where all are.
+fn first_wrong<'a>(sessions: &mut Sessions, alloc: Global, script: &'a str) -> &'a str {
+    for line in script.lines() {
+        if is_so(sessions, alloc, line) != Some(true) {
+            return line;
+        }
+    }
+    ""
+}
+
+// Whether a line is so: what is done, and what comes of it. None where it can't be read. An empty one is so.
+fn is_so(sessions: &mut Sessions, alloc: Global, line: &str) -> Option<bool> {
+    if line.is_empty() {
+        return Some(true);
+    }
+    let (words, want) = line.split_once(" => ")?;
+    let (word, rest) = words.split_once(" ")?;
+    match word {
+        "enter" => Some(enters(sessions, alloc, rest, want)),
+        "leave" => Some(is_answer(sessions.leave(session_of(rest)?), want)),
+        "open" => Some(is_answer(sessions.is_open(session_of(rest)?), want)),
+        "user" => Some(is_user(sessions, session_of(rest)?, want)),
+        "all" => all(sessions, rest, want),
+        _ => None,
+    }
+}
+
+// Whether the user of a session is told so.
+fn is_user(sessions: &Sessions, session: SessionId, want: &str) -> bool {
+    match sessions.user_of(session) {
+        Some(user) => user.as_str() == want,
+        None => want == "nobody",
+    }
+}
+
+// How many sessions there are, and the end of all.
+fn all(sessions: &mut Sessions, word: &str, want: &str) -> Option<bool> {
+    match word {
+        "count" => Some(want.parse::<usize>() == Ok(sessions.count())),
+        "clear" => {
+            sessions.clear();
+            Some(want == "ok")
+        }
+        _ => None,
+    }
+}
+
+// Opens 64 sessions, which are numbered from 1.
+fn fill(sessions: &mut Sessions, alloc: Global) -> Result<bool, EnterFault> {
+    for number in 1..65 {
+        let session = enter(sessions, alloc, "alice")?;
+        if session.get() != number {
+            return Ok(false);
+        }
+    }
+    Ok(true)
 }
 
 // 64 sessions may be open at once. The end of session 1 makes room for session 65, and not for session 1 again.
+const FILLED: &str = r#"
+enter bob => full
+leave 1 => yes
+leave 1 => no
+enter bob => 65
+open 1 => no
+all count => 64
+"#;
+
 #[test]
 fn ids_are_never_used_again(rt: HostRuntime) -> Result<(), Fail> {
     let mut sessions = Sessions::new(rt.alloc());
-    for number in 1..65 {
-        let session = enter(&mut sessions, rt.alloc(), "alice")?;
-        assert_eq!(rt; session.get(), number);
-    }
-    assert!(rt; is_full(enter(&mut sessions, rt.alloc(), "bob")));
-    let first = SessionId::new(1).ok_or("1")?;
-    assert!(rt; sessions.leave(first));
-    assert!(rt; !sessions.leave(first));
-    let session = enter(&mut sessions, rt.alloc(), "bob")?;
-    assert_eq!(rt; session.get(), 65);
-    assert!(rt; !sessions.is_open(first));
-    assert_eq!(rt; sessions.count(), 64);
+    assert!(rt; fill(&mut sessions, rt.alloc())?);
+    assert_eq!(rt; first_wrong(&mut sessions, rt.alloc(), FILLED), "");
     Ok(())
-}
-
-// The user of a session, as text.
-fn user_text(sessions: &Sessions, number: u32) -> Option<&str> {
-    match SessionId::new(number) {
-        Some(session) => sessions.user_of(session).map(Label::as_str),
-        None => None,
-    }
 }
 
 // One user may have several sessions, and the end of one leaves the others.
+const USERS: &str = r#"
+enter alice => 1
+enter bob => 2
+enter alice => 3
+leave 2 => yes
+user 1 => alice
+user 2 => nobody
+user 3 => alice
+user 4 => nobody
+all clear => ok
+user 1 => nobody
+enter bob => 4
+"#;
+
 #[test]
-fn sessions_have_their_users(rt: HostRuntime) -> Result<(), Fail> {
+fn sessions_have_their_users(rt: HostRuntime) {
     let mut sessions = Sessions::new(rt.alloc());
-    for user in ["alice", "bob", "alice"] {
-        enter(&mut sessions, rt.alloc(), user)?;
-    }
-    assert!(rt; sessions.leave(SessionId::new(2).ok_or("2")?));
-    for (number, want) in [(1, Some("alice")), (2, None), (3, Some("alice")), (4, None)] {
-        assert_eq!(rt; user_text(&sessions, number), want, "session {number}");
-    }
-    sessions.clear();
-    assert_eq!(rt; user_text(&sessions, 1), None);
-    let next = enter(&mut sessions, rt.alloc(), "bob")?;
-    assert_eq!(rt; next.get(), 4);
-    Ok(())
+    assert_eq!(rt; first_wrong(&mut sessions, rt.alloc(), USERS), "");
 }
 
 // Sessions can be shared with a thread, sent to it and sent back.

@@ -1,3 +1,4 @@
+use crate::script::is_answer;
 use nm_base::NoMemory;
 use nm_proto::{Content, DefaultOperation, FlatConfig, FlatContent, FlatEdit, NumberMap};
 use nm_stores::*;
@@ -11,11 +12,16 @@ fn config_of(alloc: Global, value: u64) -> Result<FlatConfig, NoMemory> {
     Ok(FlatConfig::new(alloc, cells))
 }
 
+// An edit of one cell.
+fn edit_of(alloc: Global, key: u32, value: Option<u64>) -> Result<FlatEdit, NoMemory> {
+    let mut changes = NumberMap::new(alloc);
+    changes.insert(key, value)?;
+    Ok(FlatEdit { changes })
+}
+
 // Edits cell 7 of candidate.
 fn set(stores: &mut Stores<FlatContent>, alloc: Global, value: u64) -> Result<(), Fail> {
-    let mut changes = NumberMap::new(alloc);
-    changes.insert(7, Some(value))?;
-    let edit = FlatEdit { changes };
+    let edit = edit_of(alloc, 7, Some(value))?;
     stores.edit(
         &FlatContent::new(alloc),
         &edit,
@@ -25,65 +31,165 @@ fn set(stores: &mut Stores<FlatContent>, alloc: Global, value: u64) -> Result<()
     Ok(())
 }
 
-// The value of cell 7 in running and in candidate.
-fn values(stores: &Stores<FlatContent>) -> (Option<u64>, Option<u64>) {
-    (
-        stores.running().cells().get(7),
-        stores.candidate().cells().get(7),
-    )
+// Whether an edit that takes away the cell 8, which isn't there, is refused.
+fn is_refused(stores: &mut Stores<FlatContent>, alloc: Global) -> Result<bool, Fail> {
+    let edit = edit_of(alloc, 8, None)?;
+    let answer = stores.edit(
+        &FlatContent::new(alloc),
+        &edit,
+        DefaultOperation::Nothing,
+        None,
+    );
+    Ok(answer.is_err())
+}
+
+// The first line of a script that isn't so, and an empty text where all are. Cell 7 is 1 at first.
+fn first_wrong(alloc: Global, script: &str) -> Result<&str, Fail> {
+    let mut stores = Stores::new(config_of(alloc, 1)?);
+    for line in script.lines() {
+        if !is_so(alloc, &mut stores, line)? {
+            return Ok(line);
+        }
+    }
+    Ok("")
+}
+
+// Whether a line is so: what is done, and what comes of it. An empty one is.
+fn is_so(alloc: Global, stores: &mut Stores<FlatContent>, line: &str) -> Result<bool, Fail> {
+    if line.is_empty() {
+        return Ok(true);
+    }
+    let (words, want) = line.split_once(" => ").ok_or("no line")?;
+    match words {
+        "modified" => Ok(is_answer(stores.modified(), want)),
+        "refused" => Ok(is_answer(is_refused(stores, alloc)?, want)),
+        "running" => Ok(is_value(stores.running(), want)),
+        "candidate" => Ok(is_value(stores.candidate(), want)),
+        "commit" => Ok(is_before(&stores.commit_move(), want)),
+        _ => is_changed(alloc, stores, words, want),
+    }
+}
+
+// Whether cell 7 of a configuration has this value.
+fn is_value(config: &FlatConfig, want: &str) -> bool {
+    match config.cells().get(7) {
+        Some(value) => want.parse::<u64>() == Ok(value),
+        None => false,
+    }
+}
+
+fn is_before(before: &Option<FlatConfig>, want: &str) -> bool {
+    match before {
+        Some(before) => is_value(before, want),
+        None => want == "nothing",
+    }
+}
+
+// What has no answer.
+fn is_changed(
+    alloc: Global,
+    stores: &mut Stores<FlatContent>,
+    words: &str,
+    want: &str,
+) -> Result<bool, Fail> {
+    if want != "ok" {
+        return Ok(false);
+    }
+    match words {
+        "discard" => {
+            stores.discard();
+            Ok(true)
+        }
+        "restore" => {
+            stores.restore(None);
+            Ok(true)
+        }
+        _ => is_put(alloc, stores, words),
+    }
+}
+
+// What is set in candidate, or comes back to running.
+fn is_put(alloc: Global, stores: &mut Stores<FlatContent>, words: &str) -> Result<bool, Fail> {
+    let (word, value) = words.split_once(" ").ok_or("no word")?;
+    let value = value.parse::<u64>()?;
+    match word {
+        "set" => {
+            set(stores, alloc, value)?;
+            Ok(true)
+        }
+        "restore" => {
+            stores.restore(Some(config_of(alloc, value)?));
+            Ok(true)
+        }
+        _ => Ok(false),
+    }
 }
 
 // RFC 6241 section 8.3: an edit changes candidate alone, and a commit makes it running.
+const COMMITTED: &str = r#"
+running => 1
+candidate => 1
+commit => nothing
+set 5 => ok
+modified => yes
+running => 1
+candidate => 5
+commit => 1
+modified => no
+running => 5
+candidate => 5
+"#;
+
 #[test]
 fn candidates_are_committed(rt: HostRuntime) -> Result<(), Fail> {
-    let mut stores = Stores::new(config_of(rt.alloc(), 1)?);
-    assert_eq!(rt; values(&stores), (Some(1), Some(1)));
-    assert!(rt; stores.commit_move().is_none());
-    set(&mut stores, rt.alloc(), 5)?;
-    assert!(rt; stores.modified());
-    assert_eq!(rt; values(&stores), (Some(1), Some(5)));
-    let before = stores.commit_move().ok_or("unmodified")?;
-    assert_eq!(rt; before.cells().get(7), Some(1));
-    assert!(rt; !stores.modified());
-    assert_eq!(rt; values(&stores), (Some(5), Some(5)));
+    assert_eq!(rt; first_wrong(rt.alloc(), COMMITTED)?, "");
     Ok(())
 }
 
+const DISCARDED: &str = r#"
+set 5 => ok
+discard => ok
+modified => no
+running => 1
+candidate => 1
+"#;
+
 #[test]
 fn candidates_are_discarded(rt: HostRuntime) -> Result<(), Fail> {
-    let mut stores = Stores::new(config_of(rt.alloc(), 1)?);
-    set(&mut stores, rt.alloc(), 5)?;
-    stores.discard();
-    assert!(rt; !stores.modified());
-    assert_eq!(rt; values(&stores), (Some(1), Some(1)));
+    assert_eq!(rt; first_wrong(rt.alloc(), DISCARDED)?, "");
     Ok(())
 }
 
 // An undoing leaves a modified candidate alone, and an unmodified one follows running.
+const RESTORED: &str = r#"
+restore => ok
+running => 1
+candidate => 1
+restore 2 => ok
+running => 2
+candidate => 2
+set 5 => ok
+restore 3 => ok
+running => 3
+candidate => 5
+"#;
+
 #[test]
 fn running_is_restored(rt: HostRuntime) -> Result<(), Fail> {
-    let mut stores = Stores::new(config_of(rt.alloc(), 1)?);
-    stores.restore(None);
-    assert_eq!(rt; values(&stores), (Some(1), Some(1)));
-    stores.restore(Some(config_of(rt.alloc(), 2)?));
-    assert_eq!(rt; values(&stores), (Some(2), Some(2)));
-    set(&mut stores, rt.alloc(), 5)?;
-    stores.restore(Some(config_of(rt.alloc(), 3)?));
-    assert_eq!(rt; values(&stores), (Some(3), Some(5)));
+    assert_eq!(rt; first_wrong(rt.alloc(), RESTORED)?, "");
     Ok(())
 }
 
 // An edit that is refused leaves candidate as it was.
+const REFUSED: &str = r#"
+set 5 => ok
+refused => yes
+running => 1
+candidate => 5
+"#;
+
 #[test]
 fn refusals_change_nothing(rt: HostRuntime) -> Result<(), Fail> {
-    let content = FlatContent::new(rt.alloc());
-    let mut stores = Stores::new(config_of(rt.alloc(), 1)?);
-    set(&mut stores, rt.alloc(), 5)?;
-    let mut changes = NumberMap::new(rt.alloc());
-    changes.insert(8, None)?;
-    let edit = FlatEdit { changes };
-    let answer = stores.edit(&content, &edit, DefaultOperation::Nothing, None);
-    assert!(rt; answer.is_err());
-    assert_eq!(rt; values(&stores), (Some(1), Some(5)));
+    assert_eq!(rt; first_wrong(rt.alloc(), REFUSED)?, "");
     Ok(())
 }

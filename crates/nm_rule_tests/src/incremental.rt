@@ -1,6 +1,6 @@
 //! What is told of a configuration by what was touched of a valid one.
 
-ghost use Rattle.std.specs.Prelude.{◌≡◌, ◌<◌, IfOk, IfSome, true};
+ghost use Rattle.std.specs.Prelude.{◌≡◌, ◌<◌, IfOk, true};
 ghost use Rattle.std.specs.List.{list_any};
 ghost use Rattle.std.specs.FinMap.{keys};
 ghost use Rattle.nm_path.specs.Sound.{IsSound};
@@ -9,6 +9,8 @@ ghost use Rattle.nm_rules.specs.Violation.{IsValid};
 ghost use Rattle.nm_reads.specs.Reaches.{Covers};
 ghost use Rattle.nm_rule_tests.specs.Elsewhere as spec;
 
+use crate::check_told::answer_text;
+use crate::sample::{expect, schema_of};
 use nm_base::{NoMemory, Steps};
 use nm_check::check_rows;
 use nm_check::laws::told_rightly;
@@ -18,10 +20,8 @@ use nm_json::read_config;
 use nm_path::read_path;
 use nm_proto::CheckFault;
 use nm_rules::laws::configs_stand;
-use nm_schema::build;
 use nm_tree::Schema;
 use nm_types::Path;
-use nm_yang::read_module;
 use std::alloc::Global;
 use std::marker::Brand;
 use std::sync::ledger::{Blank, Ledger};
@@ -31,30 +31,15 @@ use std::test::Fail;
 const MODULE: &str =
     "module em { yang-version 1.1; namespace \"urn:em\"; prefix em; leaf big { type int64; } leaf main { type leafref { path \"../srv/id\"; } } container opt { presence it; leaf weight { type uint8; default 5; } } leaf heavy { type leafref { path \"../opt/weight\"; } } list srv { key id; unique port; leaf id { type uint8; } leaf port { type uint16; default 80; } container tls { leaf cert { type uint8; } choice how { mandatory true; leaf ip { type boolean; } case vpn { leaf on { type boolean; } leaf off { type boolean; } } } } } container box { presence it; leaf must { type uint8; mandatory true; } leaf-list few { type uint8; min-elements 1; } leaf-list many { type uint8; max-elements 1; } } choice way { case east { leaf here { type uint8; } leaf there { type uint8; mandatory true; } leaf-list some { type uint8; min-elements 2; } } leaf west { type uint8; } } }";
 
-// The schema of a module, and None where it isn't read.
-fn schema_of(alloc: Global, module: &str) -> Result<Option<Schema>, NoMemory>
-    ensures { IfOk result (λ found. IfSome found (λ schema. IsSound schema.nodes)) }
-{
-    let mut modules = Vec::new(alloc);
-    match read_module(alloc, module.as_bytes()) {
-        Ok(module) => modules.push(module)?,
-        Err(_) => return Ok(None),
-    }
-    match build(alloc, &modules) {
-        Ok(schema) => Ok(Some(schema)),
-        Err(_) => Ok(None),
-    }
-}
-
-// The configuration of a JSON text, and None where it isn't read.
-fn config_of(alloc: Global, schema: &Schema, text: &str) -> Result<Option<Config>, NoMemory>
+// The configuration of a JSON text.
+fn config_of(alloc: Global, schema: &Schema, text: &str) -> Result<Config, Fail>
     requires { IsSound schema.now.nodes }
-    ensures { IfOk result (λ found. IfSome found (StandsIn schema.now)) }
+    ensures { IfOk result (StandsIn schema.now) }
 {
     configs_stand();
     match read_config(alloc, schema, text.as_bytes()) {
-        Ok(config) => Ok(Some(config)),
-        Err(_) => Ok(None),
+        Ok(config) => Ok(config),
+        Err(_) => Err(Fail::new("no configuration")),
     }
 }
 
@@ -137,14 +122,16 @@ const TOLD: &str = r#"
 {"em:west":1} => {"em:west":2} => /em:west => valid
 "#;
 
-// The path of a text, and the top where none is read.
-fn path_of(alloc: Global, schema: &Schema, text: &str) -> Path {
+// The path of a text alone, and the top where none is read.
+fn paths_of(alloc: Global, schema: &Schema, text: &str) -> Result<Vec<Path>, NoMemory> {
+    let mut paths = Vec::new(alloc);
     match read_path(alloc, schema, text) {
-        Ok(path) => path,
-        Err(_) => Path {
+        Ok(path) => paths.push(path)?,
+        Err(_) => paths.push(Path {
             steps: Vec::new(alloc),
-        },
+        })?,
     }
+    Ok(paths)
 }
 
 // What is told by a check of what was touched.
@@ -170,41 +157,59 @@ fn told_by<L: Ledger>(
     check_touched(alloc, schema, base, next, touched, &mut steps)
 }
 
-fn answer_text(alloc: Global, answer: Result<(), CheckFault>) -> Result<String, NoMemory> {
-    match answer {
-        Ok(()) => Ok(String::from_str(alloc, "valid")?),
-        Err(fault) => Ok(format!(in alloc; "{fault}")?),
+// What is told by a check of what was touched, where its premises hold.
+fn told_of(
+    alloc: Global,
+    schema: &Schema,
+    base: &Config,
+    next: &Config,
+    touched: &[Path],
+) -> Result<String, NoMemory>
+    requires sound { IsSound schema.now.nodes }
+    requires base { StandsIn schema.now base.now }
+    requires next { StandsIn schema.now next.now }
+{
+    if !is_valid(alloc, schema, base) || !is_covered(base, next, touched) {
+        return Ok(String::from_str(alloc, "the premises don't hold")?);
     }
+    let answer = told_by::<Brand>(alloc, schema, base, next, touched, Blank::new(1));
+    answer_text(alloc, answer)
 }
 
-// What is told by a check of what was touched, and by a whole one.
-fn told_of(
+// Whether the check of what was touched tells what is expected, and a whole check too.
+fn both_tell(
+    alloc: Global,
+    schema: &Schema,
+    base: &Config,
+    next: &Config,
+    touched: &[Path],
+    expected: &str,
+) -> Result<(), Fail>
+    requires sound { IsSound schema.now.nodes }
+    requires base { StandsIn schema.now base.now }
+    requires next { StandsIn schema.now next.now }
+{
+    let told = told_of(alloc, schema, base, next, touched)?;
+    expect("what was touched", told.as_str(), expected)?;
+    let told = answer_text(alloc, check_rows(alloc, schema, next))?;
+    expect("the whole", told.as_str(), expected)
+}
+
+// The same of texts.
+fn is_told(
     alloc: Global,
     schema: &Schema,
     base: &str,
     next: &str,
     touched: &str,
-) -> Result<String, NoMemory>
+    expected: &str,
+) -> Result<(), Fail>
     requires { IsSound schema.now.nodes }
 {
-    let Some(base) = config_of(alloc, schema, base)? else {
-        return Ok(String::from_str(alloc, "base isn't read")?);
-    };
-    let Some(next) = config_of(alloc, schema, next)? else {
-        return Ok(String::from_str(alloc, "next isn't read")?);
-    };
-    let mut all = Vec::new(alloc);
-    all.push(path_of(alloc, schema, touched))?;
-    if !is_valid(alloc, schema, &base) || !is_covered(&base, &next, &all) {
-        return Ok(String::from_str(alloc, "the premises don't hold")?);
-    }
-    let answer = told_by::<Brand>(alloc, schema, &base, &next, &all, Blank::new(1));
-    let text = answer_text(alloc, answer)?;
-    let whole = answer_text(alloc, check_rows(alloc, schema, &next))?;
-    if text.as_str() != whole.as_str() {
-        return Ok(format!(in alloc; "{text}, but {whole} by a whole check")?);
-    }
-    Ok(text)
+    let base = config_of(alloc, schema, base)?;
+    let next = config_of(alloc, schema, next)?;
+    let touched = paths_of(alloc, schema, touched)?;
+    both_tell(alloc, schema, &base, &next, &touched, expected)
 }
 
 // The base, the next one, the path and what is expected of a line.
@@ -218,13 +223,10 @@ fn case_of(line: &str) -> Option<(&str, &str, &str, &str)> {
 #[test]
 fn what_is_touched_is_checked(rt: HostRuntime) -> Result<(), Fail> {
     let alloc = rt.alloc();
-    let Some(schema) = schema_of(alloc, MODULE)? else {
-        return Err(Fail::new("the module isn't read"));
-    };
+    let schema = schema_of(alloc, MODULE)?;
     for line in TOLD.lines().skip(1) {
         let (base, next, touched, expected) = case_of(line).ok_or("no case")?;
-        let told = told_of(alloc, &schema, base, next, touched)?;
-        assert_eq!(rt; told.as_str(), expected, "{line}");
+        is_told(alloc, &schema, base, next, touched, expected)?;
     }
     Ok(())
 }
@@ -233,35 +235,52 @@ fn what_is_touched_is_checked(rt: HostRuntime) -> Result<(), Fail> {
 const SERVERS: &str =
     "module ey { yang-version 1.1; namespace \"urn:ey\"; prefix ey; leaf big { type int64; } list srv { key id; unique port; leaf id { type uint8; } leaf port { type uint16; default 22; } } }";
 
+// A server but the first.
+fn server(alloc: Global, id: u32, second: u32) -> Result<String, NoMemory> {
+    let port = if id == 2 {
+        second
+    } else {
+        id.saturating_add(1000)
+    };
+    Ok(format!(in alloc; ",{{\"id\":{id},\"port\":{port}}}")?)
+}
+
 // A value of the leaf, and 200 servers, each with a port of its own but the second, which has this one.
 fn servers(alloc: Global, big: u32, second: u32) -> Result<String, NoMemory> {
     let mut text = format!(in alloc;
         "{{\"ey:big\":\"{big}\",\"ey:srv\":[{{\"id\":1,\"port\":1001}}"
     )?;
     for id in 2..201u32 {
-        let port = if id == 2 { second } else { 1000 + id };
-        text.push_str(format!(in alloc; ",{{\"id\":{id},\"port\":{port}}}")?.as_str())?;
+        text.push_str(server(alloc, id, second)?.as_str())?;
     }
     text.push_str("]}")?;
     Ok(text)
 }
 
+// Whether this is told where one row of a valid configuration changes so that the leaf and the second port are these.
+fn row_is_told(
+    alloc: Global,
+    big: u32,
+    second: u32,
+    touched: &str,
+    expected: &str,
+) -> Result<(), Fail> {
+    let schema = schema_of(alloc, SERVERS)?;
+    let base = servers(alloc, 1, 1002)?;
+    let next = servers(alloc, big, second)?;
+    is_told(
+        alloc,
+        &schema,
+        base.as_str(),
+        next.as_str(),
+        touched,
+        expected,
+    )
+}
+
 #[test]
 fn one_row_of_many_is_checked(rt: HostRuntime) -> Result<(), Fail> {
-    let alloc = rt.alloc();
-    let Some(schema) = schema_of(alloc, SERVERS)? else {
-        return Err(Fail::new("the module isn't read"));
-    };
-    let base = servers(alloc, 1, 1002)?;
-    let other = servers(alloc, 2, 1002)?;
-    let told = told_of(alloc, &schema, base.as_str(), other.as_str(), "/ey:big")?;
-    assert_eq!(rt; told.as_str(), "valid");
-    let repeated = servers(alloc, 1, 1001)?;
-    let port = "/ey:srv[id='2']/port";
-    let told = told_of(alloc, &schema, base.as_str(), repeated.as_str(), port)?;
-    assert_eq!(rt;
-        told.as_str(),
-        "not valid with operation-failed at /ey:srv[id='2']"
-    );
-    Ok(())
+    row_is_told(rt.alloc(), 2, 1002, "/ey:big", "valid")?;
+    let refused = "not valid with operation-failed at /ey:srv[id='2']";
+    row_is_told(rt.alloc(), 1, 1001, "/ey:srv[id='2']/port", refused)
 }

@@ -10,9 +10,13 @@ mod check_told;
 #[cfg(test)]
 mod incremental;
 #[cfg(test)]
+mod least;
+#[cfg(test)]
 mod reached;
 #[cfg(test)]
 mod rule_at;
+#[cfg(test)]
+mod sample;
 #[cfg(test)]
 mod unique;
 #[cfg(test)]

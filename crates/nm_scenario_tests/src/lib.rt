@@ -15,3 +15,5 @@ mod reading;
 mod refusals;
 #[cfg(test)]
 mod scenario;
+#[cfg(test)]
+mod table;

@@ -1,33 +1,17 @@
-use nm_base::NoMemory;
+use crate::table::{fault_text, parsed};
 use nm_proto::Listed;
 use nm_scenario_parts::reader::{fault_at, missing, seen_from_outside};
 use nm_scenario_parts::words::{is_word, item_count, natural_in};
-use nm_scenario_parts::{Cause, Fault, ReadError, ScenarioKind, Step, write_place};
-use serde_json::Value;
+use nm_scenario_parts::{Cause, Fault, ReadError, ScenarioKind, Step};
 use std::alloc::Global;
 use std::test::Fail;
-
-// A fault as `bad-value /changes/0`; the place of the whole is `/`.
-fn fault_text(alloc: Global, fault: &Fault) -> Result<Vec<u8>, NoMemory> {
-    let mut text = Vec::from_slice(alloc, fault.cause.kind.word().as_bytes())?;
-    text.push(b' ')?;
-    write_place(alloc, &mut text, fault.place.as_slice())?;
-    Ok(text)
-}
 
 // The first fault, or `read`.
 fn told(alloc: Global, read: Result<(), ReadError>) -> Result<Vec<u8>, Fail> {
     match read {
         Ok(()) => Ok(Vec::from_slice(alloc, b"read")?),
-        Err(ReadError::Bad(fault)) => Ok(fault_text(alloc, &fault)?),
+        Err(ReadError::Bad(fault)) => fault_text(alloc, &fault),
         Err(ReadError::NoMemory) => Err(Fail::new("memory ran out")),
-    }
-}
-
-fn parsed(alloc: Global, text: &str) -> Result<Value, Fail> {
-    match Value::from_slice(alloc, text.as_bytes()) {
-        Ok(value) => Ok(value),
-        Err(_) => Err(Fail::new("no JSON")),
     }
 }
 

@@ -1,52 +1,40 @@
-use nm_base::NoMemory;
+use crate::table::{Teller, first_wrong};
 use nm_refusals::*;
-use nm_scenario::{ReadError, Scenario, ScenarioKind};
+use nm_scenario::ReadError;
 use std::alloc::Global;
 use std::test::Fail;
 
-// The kind of the fault that was met and how many steps its place has, or None where there is none.
-fn met(answer: Result<Scenario, ReadError>) -> Result<Option<(ScenarioKind, usize)>, NoMemory> {
-    match answer {
-        Ok(_) => Ok(None),
-        Err(ReadError::Bad(fault)) => Ok(Some((fault.cause.kind, fault.place.len()))),
-        Err(ReadError::NoMemory) => Err(NoMemory),
-    }
-}
+// The kind of the fault that was met and how many steps its place has, or `read` where there is none.
+struct Whole;
 
-fn told(alloc: Global, text: &str) -> Result<Option<(ScenarioKind, usize)>, NoMemory> {
-    met(read_scenario(alloc, text.as_bytes()))
+impl Teller for Whole {
+    fn told(&self, alloc: Global, text: &str) -> Result<Vec<u8>, Fail> {
+        match read_scenario(alloc, text.as_bytes()) {
+            Ok(_) => Ok(Vec::from_slice(alloc, b"read")?),
+            Err(ReadError::Bad(fault)) => {
+                let steps = fault.place.len();
+                Ok(format!(in alloc; "{} {steps}", fault.cause.kind.word())?.into_bytes())
+            }
+            Err(ReadError::NoMemory) => Err(Fail::new("memory ran out")),
+        }
+    }
 }
 
 // The examples of docs/FORMATS.md, "Faults".
+static FAULTS: &str = r#"
+{"netm":1,"contents":"flat","devices":[{"running":{}}]} => read
+{ => not-json 0
+{} => missing 1
+{"netm":2} => bad-value 1
+{"netm":1,"contents":"flat","devices":[{"running":{},"x":1}]} => unknown 3
+{"netm":1,"contents":"flat","devices":[{"running":{"07":1}}]} => content 3
+{"netm":1,"contents":"yang","modules":["x"]} => yang 2
+{"netm":1,"contents":"yang","devices":[{"running":{}}],"changes":[{"edits":[{"device":1,"edit":{"a:b":1}}]}]} => content 5
+"#;
+
 #[test]
 fn faults_are_told(rt: HostRuntime) -> Result<(), Fail> {
-    for (text, want) in [
-        (
-            r#"{"netm":1,"contents":"flat","devices":[{"running":{}}]}"#,
-            None,
-        ),
-        ("{", Some((ScenarioKind::NotJson, 0))),
-        ("{}", Some((ScenarioKind::Missing, 1))),
-        (r#"{"netm":2}"#, Some((ScenarioKind::BadValue, 1))),
-        (
-            r#"{"netm":1,"contents":"flat","devices":[{"running":{},"x":1}]}"#,
-            Some((ScenarioKind::Unknown, 3)),
-        ),
-        (
-            r#"{"netm":1,"contents":"flat","devices":[{"running":{"07":1}}]}"#,
-            Some((ScenarioKind::Content, 3)),
-        ),
-        (
-            r#"{"netm":1,"contents":"yang","modules":["x"]}"#,
-            Some((ScenarioKind::Yang, 2)),
-        ),
-        (
-            r#"{"netm":1,"contents":"yang","devices":[{"running":{}}],"changes":[{"edits":[{"device":1,"edit":{"a:b":1}}]}]}"#,
-            Some((ScenarioKind::Content, 5)),
-        ),
-    ] {
-        assert_eq!(rt; told(rt.alloc(), text)?, want, "{text}");
-    }
+    assert_eq!(rt; first_wrong(rt.alloc(), &Whole, FAULTS)?, None);
     Ok(())
 }
 

@@ -122,112 +122,139 @@ fn body_compared(alloc: Global, body: &str, kind: &str) -> Result<(String, Strin
     compared(alloc, &[text.as_str()], kind)
 }
 
+// Whether the first fault of a module with the body of a row `BODY => FAULT` is that fault.
+fn is_judged(alloc: Global, row: &str) -> Result<bool, Fail> {
+    let (body, kind) = row.split_once(" => ").ok_or("no row")?;
+    let (found, expected) = body_compared(alloc, body, kind)?;
+    Ok(found == expected)
+}
+
+// The first row of a table, which stands in the lines after the first, that isn't so; none where all are so.
+fn first_wrong(alloc: Global, table: &'static str) -> Result<Option<&'static str>, Fail> {
+    let mut wrong = Some("a table without rows");
+    for row in table.lines().skip(1) {
+        wrong = None;
+        if !is_judged(alloc, row)? {
+            return Ok(Some(row));
+        }
+    }
+    Ok(wrong)
+}
+
 #[test]
 fn statements_are_judged(rt: HostRuntime) -> Result<(), Fail> {
-    for row in STATEMENTS.lines().skip(1) {
-        let (body, kind) = row.split_once(" => ").ok_or("no row")?;
-        let (found, expected) = body_compared(rt.alloc(), body, kind)?;
-        assert_eq!(rt; found.as_str(), expected.as_str(), "{body}");
-    }
+    assert_eq!(rt; first_wrong(rt.alloc(), STATEMENTS)?, None);
     Ok(())
 }
 
 #[test]
 fn choices_are_judged(rt: HostRuntime) -> Result<(), Fail> {
-    for (body, kind) in CHOICES {
-        let (found, expected) = body_compared(rt.alloc(), body, kind)?;
-        assert_eq!(rt; found.as_str(), expected.as_str(), "{body}");
-    }
+    assert_eq!(rt; first_wrong(rt.alloc(), CHOICES)?, None);
     Ok(())
 }
 
 #[test]
 fn types_are_judged(rt: HostRuntime) -> Result<(), Fail> {
-    for row in TYPES.lines().skip(1) {
-        let (body, kind) = row.split_once(" => ").ok_or("no row")?;
-        let (found, expected) = body_compared(rt.alloc(), body, kind)?;
-        assert_eq!(rt; found.as_str(), expected.as_str(), "{body}");
-    }
+    assert_eq!(rt; first_wrong(rt.alloc(), TYPES)?, None);
     Ok(())
 }
 
 #[test]
 fn leafrefs_are_judged(rt: HostRuntime) -> Result<(), Fail> {
-    for row in LEAFREFS.lines().skip(1) {
-        let (body, kind) = row.split_once(" => ").ok_or("no row")?;
-        let (found, expected) = body_compared(rt.alloc(), body, kind)?;
-        assert_eq!(rt; found.as_str(), expected.as_str(), "{body}");
-    }
+    assert_eq!(rt; first_wrong(rt.alloc(), LEAFREFS)?, None);
     Ok(())
+}
+
+// Whether two modules are judged so: `FIRST => SECOND => FAULT`.
+fn are_judged(alloc: Global, row: &str) -> Result<bool, Fail> {
+    let (first, rest) = row.split_once(" => ").ok_or("no row")?;
+    let (second, kind) = rest.split_once(" => ").ok_or("no row")?;
+    let (found, expected) = compared(alloc, &[first, second], kind)?;
+    Ok(found == expected)
 }
 
 #[test]
 fn modules_are_judged(rt: HostRuntime) -> Result<(), Fail> {
     for row in MODULES.lines().skip(1) {
-        let (first, rest) = row.split_once(" => ").ok_or("no row")?;
-        let (second, kind) = rest.split_once(" => ").ok_or("no row")?;
-        let (found, expected) = compared(rt.alloc(), &[first, second], kind)?;
-        assert_eq!(rt; found.as_str(), expected.as_str(), "{first} {second}");
+        assert!(rt; are_judged(rt.alloc(), row)?, "{row}");
     }
     Ok(())
 }
 
-// A module in which each grouping has what `level` gives around a use of the one before, so many times.
-fn grown(
-    alloc: Global,
-    name: &str,
-    levels: usize,
-    twice: bool,
-    end: &str,
-) -> Result<String, AllocError> {
+// A grouping that has a container, or two, around a use of the one before.
+fn grouping(alloc: Global, level: usize, twice: bool) -> Result<String, AllocError> {
+    let next = level.saturating_add(1);
+    if twice {
+        return format!(in alloc;
+            " grouping g{next} {{ container a {{ uses g{level}; }} container b {{ uses g{level}; }} }}"
+        );
+    }
+    format!(in alloc; " grouping g{next} {{ container a {{ uses g{level}; }} }}")
+}
+
+// A module in which each grouping has a container, or two, around a use of the one before, so many times.
+fn grown(alloc: Global, start: &str, levels: usize, twice: bool) -> Result<String, AllocError> {
     let mut text = format!(in alloc;
-        "module {name} {{ namespace u; prefix p; grouping g0 {{ leaf a {{ type int8; }} }}"
+        "{start} {{ namespace u; prefix p; grouping g0 {{ leaf a {{ type int8; }} }}"
     )?;
     for level in 0..levels {
-        let next = level.saturating_add(1);
-        let half = format!(in alloc; " container a {{ uses g{level}; }}")?;
-        let other = format!(in alloc; " container b {{ uses g{level}; }}")?;
-        let more = if twice { other.as_str() } else { "" };
-        let grouping = format!(in alloc; " grouping g{next} {{{half}{more} }}")?;
-        text.push_str(grouping.as_str())?;
+        text.push_str(grouping(alloc, level, twice)?.as_str())?;
     }
-    let end = format!(in alloc; " uses g{levels}; {end} }}")?;
-    text.push_str(end.as_str())?;
     Ok(text)
 }
+
+// Whether two modules are judged so, of which the first is grown and the second given.
+fn is_grown_judged(
+    alloc: Global,
+    start: &str,
+    levels: usize,
+    twice: bool,
+    row: &str,
+) -> Result<bool, Fail> {
+    let (end, rest) = row.split_once(" => ").ok_or("no row")?;
+    let (second, kind) = rest.split_once(" => ").ok_or("no row")?;
+    let text = grown(alloc, start, levels, twice)?;
+    let first = format!(in alloc; "{text} uses g{levels};{end} }}")?;
+    let (found, expected) = compared(alloc, &[first.as_str(), second], kind)?;
+    Ok(found == expected)
+}
+
+const FINE: &str = " => module c { namespace u; prefix c; } => fine";
+
+const TINY: &str = " => module c { namespace u; prefix c; leaf x; } => too-large";
 
 // Modules that are too large: 3 * 2 ^ n - 2 nodes where n groupings double, and n nodes above the innermost one where they don't.
 #[test]
 fn large_modules_are_told(rt: HostRuntime) -> Result<(), Fail> {
     let alloc = rt.alloc();
-    let small = grown(alloc, "a", 12, true, "")?;
-    let other = grown(alloc, "b", 12, true, "")?;
-    let large = grown(alloc, "a", 13, true, "")?;
-    let huge = grown(alloc, "a", 40, true, "")?;
-    let deep = grown(alloc, "a", 64, false, "")?;
-    let deeper = grown(alloc, "a", 65, false, "")?;
-    let flawed = grown(alloc, "a", 13, true, "@leaf b;")?;
-    let first = format!(in alloc; "@{large}")?;
-    let second = format!(in alloc; "@{other}")?;
-    let most = format!(in alloc; "@{huge}")?;
-    let deepest = format!(in alloc; "@{deeper}")?;
-    let tiny = "module c { namespace u; prefix c; leaf x; }";
-    let cases: &[(&str, &str, &str)] = &[
-        (
-            small.as_str(),
-            "module c { namespace u; prefix c; }",
-            "fine",
-        ),
-        (small.as_str(), second.as_str(), "too-large"),
-        (first.as_str(), tiny, "too-large"),
-        (most.as_str(), tiny, "too-large"),
-        (deep.as_str(), "module c { namespace u; prefix c; }", "fine"),
-        (deepest.as_str(), tiny, "too-large"),
-        (flawed.as_str(), tiny, "bad-argument type"),
-    ];
-    for (one, two, kind) in cases {
-        let (found, expected) = compared(alloc, &[*one, *two], kind)?;
-        assert_eq!(rt; found.as_str(), expected.as_str(), "{kind}");
-    }
+    assert!(rt; is_grown_judged(alloc, "module a", 12, true, FINE)?);
+    assert!(rt; is_grown_judged(alloc, "@module a", 13, true, TINY)?);
+    assert!(rt; is_grown_judged(alloc, "@module a", 40, true, TINY)?);
+    assert!(rt; is_grown_judged(alloc, "module a", 64, false, FINE)?);
+    assert!(rt; is_grown_judged(alloc, "@module a", 65, false, TINY)?);
+    Ok(())
+}
+
+// A flaw is told though the module is too large.
+#[test]
+fn flaws_of_large_modules_are_told(rt: HostRuntime) -> Result<(), Fail> {
+    let row = " @leaf b; => module c { namespace u; prefix c; leaf x; } => bad-argument type";
+    assert!(rt; is_grown_judged(rt.alloc(), "module a", 13, true, row)?);
+    Ok(())
+}
+
+// Whether two modules that are not too large each are so together.
+fn are_too_large(alloc: Global, levels: usize) -> Result<bool, Fail> {
+    let first = grown(alloc, "module a", levels, true)?;
+    let second = grown(alloc, "@module b", levels, true)?;
+    let first = format!(in alloc; "{first} uses g{levels}; }}")?;
+    let second = format!(in alloc; "{second} uses g{levels}; }}")?;
+    let (found, expected) = compared(alloc, &[first.as_str(), second.as_str()], "too-large")?;
+    Ok(found == expected)
+}
+
+#[test]
+fn modules_are_too_large_together(rt: HostRuntime) -> Result<(), Fail> {
+    assert!(rt; are_too_large(rt.alloc(), 12)?);
     Ok(())
 }

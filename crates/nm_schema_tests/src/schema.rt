@@ -230,69 +230,42 @@ fn samples(rt: HostRuntime) -> Result<(), Fail> {
     Ok(())
 }
 
+// Whether a text is what a line tells, in which `|` stands for each end of a line.
+fn is_text(text: &str, line: &str) -> bool {
+    text.len() == line.len()
+        && text.as_bytes().iter().zip(line.as_bytes()).all(|(byte, other)| *byte == *other
+            || *byte == b'\n' && *other == b'|')
+}
+
+// Whether a module m of the body of a row `BODY => COUNT NODES` has so many nodes, which are these.
+fn has_nodes(alloc: Global, row: &str) -> Result<bool, Fail> {
+    let (body, rest) = row.split_once(" => ").ok_or("no row")?;
+    let (count, nodes) = rest.split_once(' ').ok_or("no count")?;
+    let text = format!(in alloc; "module m {{ namespace \"urn:m\"; prefix m; {body} }}")?;
+    let expected = with_marker(alloc, nodes, count.parse::<usize>()?)?;
+    let found = built(alloc, &[text.as_str()])?;
+    Ok(is_text(found.as_str(), expected.as_str()))
+}
+
 // The bodies of modules m, with the nodes that they have by RFC 7950 sections 7.5 to 7.8.
+static NODES: &str = r#"
+ => 0 
+container c { presence "there"; } container d; => 2 0 - container m:c presence|1 - container m:d|
+leaf a { type boolean; mandatory true; } leaf b { type empty; mandatory false; } => 2 0 - leaf m:a boolean mandatory|1 - leaf m:b empty|
+typedef t { type int8; default 7; } leaf a { type t; } leaf b { type t; default 8; } => 2 0 - leaf m:a integer -128..127 default 7|1 - leaf m:b integer -128..127 default 8|
+leaf-list a { type decimal64 { fraction-digits 2; } min-elements 1; max-elements 4; } leaf-list b { type string; max-elements unbounded; } => 2 0 - leaf-list m:a decimal 2 min 1 max 4|1 - leaf-list m:b string|
+list l { key "b a"; leaf a { type uint8; default 3; mandatory true; } leaf b { type uint8; } } => 3 0 - list m:l key 2 1|1 0 leaf m:a integer 0..255|2 0 leaf m:b integer 0..255|
+list l { key k; min-elements 2; unique "c/x c/y"; leaf k { type string; } container c { leaf y { type string; } leaf x { type string; } } } => 5 0 - list m:l key 1 unique 4 3 min 2|1 0 leaf m:k string|2 0 container m:c|3 2 leaf m:y string|4 2 leaf m:x string|
+leaf a { type string; } leaf s { type string; config false; } leaf b { type enumeration { enum x; enum y; } default y; } => 2 0 - leaf m:a string|1 - leaf m:b enumeration of 2 default y|
+leaf a { type leafref { path "/b"; } } leaf b { type leafref { path "../c"; } } leaf c { type int8; } => 3 0 - leaf m:a integer -128..127 to 1 up 1|1 - leaf m:b integer -128..127 to 2 up 1|2 - leaf m:c integer -128..127|
+leaf-list a { type leafref { path "/m:c/m:d"; } max-elements 3; } container c { leaf d { type bits { bit x; bit y; } } } => 3 0 - leaf-list m:a bits of 2 to 2 up 1 max 3|1 - container m:c|2 1 leaf m:d bits of 2|
+grouping g { leaf a { type string; } } container c { uses g; } container d { uses g; } => 4 0 - container m:c|1 - container m:d|2 0 leaf m:a string|3 1 leaf m:a string|
+"#;
+
 #[test]
 fn nodes(rt: HostRuntime) -> Result<(), Fail> {
-    let alloc = rt.alloc();
-    for (body, expected, count) in [
-        ("", "", 0),
-        (
-            "container c { presence \"there\"; } container d;",
-            "0 - container m:c presence\n1 - container m:d\n",
-            2,
-        ),
-        (
-            "leaf a { type boolean; mandatory true; } leaf b { type empty; mandatory false; }",
-            "0 - leaf m:a boolean mandatory\n1 - leaf m:b empty\n",
-            2,
-        ),
-        (
-            "typedef t { type int8; default 7; } leaf a { type t; } leaf b { type t; default 8; }",
-            "0 - leaf m:a integer -128..127 default 7\n1 - leaf m:b integer -128..127 default 8\n",
-            2,
-        ),
-        (
-            "leaf-list a { type decimal64 { fraction-digits 2; } min-elements 1; max-elements 4; } leaf-list b { type string; max-elements unbounded; }",
-            "0 - leaf-list m:a decimal 2 min 1 max 4\n1 - leaf-list m:b string\n",
-            2,
-        ),
-        (
-            "list l { key \"b a\"; leaf a { type uint8; default 3; mandatory true; } leaf b { type uint8; } }",
-            "0 - list m:l key 2 1\n1 0 leaf m:a integer 0..255\n2 0 leaf m:b integer 0..255\n",
-            3,
-        ),
-        (
-            "list l { key k; min-elements 2; unique \"c/x c/y\"; leaf k { type string; } container c { leaf y { type string; } leaf x { type string; } } }",
-            "0 - list m:l key 1 unique 4 3 min 2\n1 0 leaf m:k string\n2 0 container m:c\n3 2 leaf m:y string\n4 2 leaf m:x string\n",
-            5,
-        ),
-        (
-            "leaf a { type string; } leaf s { type string; config false; } leaf b { type enumeration { enum x; enum y; } default y; }",
-            "0 - leaf m:a string\n1 - leaf m:b enumeration of 2 default y\n",
-            2,
-        ),
-        (
-            "leaf a { type leafref { path \"/b\"; } } leaf b { type leafref { path \"../c\"; } } leaf c { type int8; }",
-            "0 - leaf m:a integer -128..127 to 1 up 1\n1 - leaf m:b integer -128..127 to 2 up 1\n2 - leaf m:c integer -128..127\n",
-            3,
-        ),
-        (
-            "leaf-list a { type leafref { path \"/m:c/m:d\"; } max-elements 3; } container c { leaf d { type bits { bit x; bit y; } } }",
-            "0 - leaf-list m:a bits of 2 to 2 up 1 max 3\n1 - container m:c\n2 1 leaf m:d bits of 2\n",
-            3,
-        ),
-        (
-            "grouping g { leaf a { type string; } } container c { uses g; } container d { uses g; }",
-            "0 - container m:c\n1 - container m:d\n2 0 leaf m:a string\n3 1 leaf m:a string\n",
-            4,
-        ),
-    ]
-    .as_slice()
-    {
-        let text = format!(in alloc; "module m {{ namespace \"urn:m\"; prefix m; {body} }}")?;
-        let found = built(alloc, &[text.as_str()])?;
-        let expected = with_marker(alloc, expected, *count)?;
-        assert_eq!(rt; found.as_str(), expected.as_str(), "{body}");
+    for row in NODES.lines().skip(1) {
+        assert!(rt; has_nodes(rt.alloc(), row)?, "{row}");
     }
     Ok(())
 }
@@ -304,9 +277,8 @@ fn spot_text(alloc: Global, number: Option<usize>) -> Result<String, AllocError>
     }
 }
 
-// The choices: each with the node and the case that it stands in; the cases, each with its choice; and the case of each node.
-fn choices_text(alloc: Global, schema: &Schema) -> Result<String, AllocError> {
-    let mut text = String::new(alloc);
+// The choices, each with the node and the case that it stands in.
+fn write_choices(alloc: Global, text: &mut String, schema: &Schema) -> Result<(), AllocError> {
     for choice in schema.choices() {
         let (owner, name) = (&choice.module, &choice.name);
         let parent = spot_text(alloc, choice.parent)?;
@@ -314,54 +286,60 @@ fn choices_text(alloc: Global, schema: &Schema) -> Result<String, AllocError> {
         let must = if choice.mandatory { " mandatory" } else { "" };
         text.push_str(format!(in alloc; "{owner}:{name} {parent} {case}{must}; ")?.as_str())?;
     }
-    text.push_str("|")?;
+    text.push_str("|")
+}
+
+// The cases, each with its choice.
+fn write_cases(alloc: Global, text: &mut String, schema: &Schema) -> Result<(), AllocError> {
     for case in schema.cases() {
         let (choice, name) = (case.choice, &case.name);
         text.push_str(format!(in alloc; " {name} {choice};")?.as_str())?;
     }
-    text.push_str(" |")?;
+    text.push_str(" |")
+}
+
+// The case of each node.
+fn write_spots(alloc: Global, text: &mut String, schema: &Schema) -> Result<(), AllocError> {
     for number in 0..schema.len() {
         let spot = spot_text(alloc, schema.case_in(number))?;
         text.push_str(format!(in alloc; " {spot}")?.as_str())?;
     }
+    Ok(())
+}
+
+fn choices_text(alloc: Global, schema: &Schema) -> Result<String, AllocError> {
+    let mut text = String::new(alloc);
+    write_choices(alloc, &mut text, schema)?;
+    write_cases(alloc, &mut text, schema)?;
+    write_spots(alloc, &mut text, schema)?;
     Ok(text)
 }
 
 // The body of a module m, and its choices, its cases and the case of each node, those of the marker module last (RFC 7950 sections
 // 7.9, 7.13 and 7.21.1).
-const CHOICES: [(&str, &str); 5] = [
-    ("leaf a { type string; }", "| | - - - -"),
-    (
-        "container addr { choice how { mandatory true; case fixed { leaf ip { type string; } leaf len { type uint8; default 24; } } leaf dhcp { type empty; } } }",
-        "m:how 0 - mandatory; | fixed 0; dhcp 0; | - 0 0 1 - - -",
-    ),
-    (
-        "choice c { leaf a { type string; } } container d { choice e { choice f { leaf g { type string; } } } } uses h; grouping h { choice i { mandatory false; leaf j { type string; } } }",
-        "m:c - -; m:i - -; m:e 1 -; m:f 1 2; | a 0; j 1; f 2; g 3; | 0 - 1 3 - - -",
-    ),
-    (
-        "choice c { config false; mandatory true; leaf a { type string; } } container d { choice e { mandatory true; leaf f { type string; config false; } } }",
-        "m:e 0 - mandatory; | | - - - -",
-    ),
-    (
-        "grouping g { choice c { case d { leaf a { type string; } uses h; } case e; } } grouping h { choice i { leaf-list j { type string; } list k { key l; leaf l { type string; } } } } container x { uses g; } container y { leaf z { type string; } uses g; }",
-        "m:c 0 -; m:i 0 0; m:c 1 -; m:i 1 4; | d 0; j 1; k 1; e 0; d 2; j 3; k 3; e 2; | - - 0 1 2 - 4 5 6 - - - - -",
-    ),
-];
+static CHOICES: &str = r#"
+leaf a { type string; } => | | - - - -
+container addr { choice how { mandatory true; case fixed { leaf ip { type string; } leaf len { type uint8; default 24; } } leaf dhcp { type empty; } } } => m:how 0 - mandatory; | fixed 0; dhcp 0; | - 0 0 1 - - -
+choice c { leaf a { type string; } } container d { choice e { choice f { leaf g { type string; } } } } uses h; grouping h { choice i { mandatory false; leaf j { type string; } } } => m:c - -; m:i - -; m:e 1 -; m:f 1 2; | a 0; j 1; f 2; g 3; | 0 - 1 3 - - -
+choice c { config false; mandatory true; leaf a { type string; } } container d { choice e { mandatory true; leaf f { type string; config false; } } } => m:e 0 - mandatory; | | - - - -
+grouping g { choice c { case d { leaf a { type string; } uses h; } case e; } } grouping h { choice i { leaf-list j { type string; } list k { key l; leaf l { type string; } } } } container x { uses g; } container y { leaf z { type string; } uses g; } => m:c 0 -; m:i 0 0; m:c 1 -; m:i 1 4; | d 0; j 1; k 1; e 0; d 2; j 3; k 3; e 2; | - - 0 1 2 - 4 5 6 - - - - -
+"#;
+
+// Whether a row of that table is so.
+fn has_choices(alloc: Global, row: &str) -> Result<bool, Fail> {
+    let (body, expected) = row.split_once(" => ").ok_or("no row")?;
+    let text = format!(in alloc; "module m {{ namespace \"urn:m\"; prefix m; {body} }}")?;
+    let modules = [read_module(alloc, text.as_str().as_bytes())?];
+    match build(alloc, &modules) {
+        Ok(schema) => Ok(choices_text(alloc, &schema)?.as_str() == expected),
+        Err(_) => Ok(false),
+    }
+}
 
 #[test]
 fn choices(rt: HostRuntime) -> Result<(), Fail> {
-    let alloc = rt.alloc();
-    for (body, expected) in &CHOICES {
-        let text = format!(in alloc; "module m {{ namespace \"urn:m\"; prefix m; {body} }}")?;
-        let modules = [read_module(alloc, text.as_str().as_bytes())?];
-        match build(alloc, &modules) {
-            Ok(schema) => {
-                let found = choices_text(alloc, &schema)?;
-                assert_eq!(rt; found.as_str(), *expected, "{body}");
-            }
-            Err(_) => assert!(rt; false, "{body}"),
-        }
+    for row in CHOICES.lines().skip(1) {
+        assert!(rt; has_choices(rt.alloc(), row)?, "{row}");
     }
     Ok(())
 }
@@ -382,56 +360,60 @@ fn of_the_using_module(rt: HostRuntime) -> Result<(), Fail> {
     Ok(())
 }
 
+// Whether a module is refused so.
+fn is_refused(alloc: Global, text: &str, expected: &str) -> Result<bool, Fail> {
+    Ok(built(alloc, &[text])?.as_str() == expected)
+}
+
 #[test]
 fn faults(rt: HostRuntime) -> Result<(), Fail> {
-    let alloc = rt.alloc();
-    for (text, expected) in [
-        (
-            "module m { namespace \"u\"; prefix m; leaf a { type union { type string; } } }",
-            "unsupported union at 0 45",
-        ),
-        (
-            "module m { namespace \"u\"; prefix m; list l { leaf a { type string; } } }",
-            "bad-argument key at 0 36",
-        ),
-        (
-            "module m { namespace \"u\"; prefix m; leaf a { type nowhere; } }",
-            "bad-reference nowhere at 0 45",
-        ),
-    ]
-    .as_slice()
-    {
-        let found = built(alloc, &[*text])?;
-        assert_eq!(rt; found.as_str(), *expected, "{text}");
-    }
+    let text = "module m { namespace \"u\"; prefix m; leaf a { type union { type string; } } }";
+    assert!(rt; is_refused(rt.alloc(), text, "unsupported union at 0 45")?);
+    let text = "module m { namespace \"u\"; prefix m; list l { leaf a { type string; } } }";
+    assert!(rt; is_refused(rt.alloc(), text, "bad-argument key at 0 36")?);
+    let text = "module m { namespace \"u\"; prefix m; leaf a { type nowhere; } }";
+    assert!(rt; is_refused(rt.alloc(), text, "bad-reference nowhere at 0 45")?);
     Ok(())
+}
+
+// A grouping of 99 leafs.
+fn wide_grouping(alloc: Global) -> Result<String, AllocError> {
+    let mut text = String::from_str(alloc, " grouping g {")?;
+    for number in 0..99 {
+        text.push_str(format!(in alloc; " leaf l{number} {{ type string; }}")?.as_str())?;
+    }
+    text.push_str(" }")?;
+    Ok(text)
+}
+
+// So many containers, each of which uses it.
+fn containers(alloc: Global, count: usize) -> Result<String, AllocError> {
+    let mut text = String::new(alloc);
+    for number in 0..count {
+        text.push_str(format!(in alloc; " container c{number} {{ uses g; }}")?.as_str())?;
+    }
+    Ok(text)
+}
+
+// How many nodes the tree of so many containers has, 0 where there is none.
+fn tree_size(alloc: Global, count: usize) -> Result<usize, Fail> {
+    let text = format!(in alloc;
+        "module m {{ namespace \"u\"; prefix m;{}{} }}",
+        wide_grouping(alloc)?.as_str(),
+        containers(alloc, count)?.as_str()
+    )?;
+    let modules = [read_module(alloc, text.as_bytes())?];
+    match build(alloc, &modules) {
+        Ok(schema) => Ok(schema.len()),
+        Err(_) => Ok(0),
+    }
 }
 
 // Containers of so many leafs each, by a grouping.
 #[test]
 fn large(rt: HostRuntime) -> Result<(), Fail> {
-    let alloc = rt.alloc();
-    for (containers, expected) in [(199, 19_903), (201, 0)].as_slice() {
-        let mut text = String::from_str(
-            alloc,
-            "module m { namespace \"u\"; prefix m; grouping g {",
-        )?;
-        for number in 0..99 {
-            text.push_str(format!(in alloc; " leaf l{number} {{ type string; }}")?.as_str())?;
-        }
-        text.push_str(" }")?;
-        for number in 0..*containers {
-            text.push_str(format!(in alloc; " container c{number} {{ uses g; }}")?.as_str())?;
-        }
-        text.push_str(" }")?;
-        let mut modules = Vec::new(alloc);
-        modules.push(read_module(alloc, text.as_bytes())?)?;
-        let count = match build(alloc, &modules) {
-            Ok(schema) => schema.len(),
-            Err(_) => 0,
-        };
-        assert_eq!(rt; count, *expected, "{containers}");
-    }
+    assert_eq!(rt; tree_size(rt.alloc(), 199)?, 19_903);
+    assert_eq!(rt; tree_size(rt.alloc(), 201)?, 0);
     laws::sound_nodes();
     Ok(())
 }

@@ -1,3 +1,4 @@
+use crate::rows::{Tells, check};
 use nm_base::{Label, NoMemory};
 use nm_schema_derive::{
     BuiltIn, Derived, ListFault, ListFlaw, Listed, NumberForm, Numbering, Restrictions, StepFault,
@@ -36,14 +37,17 @@ fn built_text(alloc: Global, name: &str) -> Result<String, AllocError> {
     }
 }
 
+struct BuiltIns;
+
+impl Tells for BuiltIns {
+    fn tell(&self, alloc: Global, text: &str) -> Result<String, Fail> {
+        Ok(built_text(alloc, text)?)
+    }
+}
+
 #[test]
 fn built_in_types_have_their_names(rt: HostRuntime) -> Result<(), Fail> {
-    for row in BUILT_IN.lines().skip(1) {
-        let (name, expected) = row.split_once(" => ").ok_or("no row")?;
-        let found = built_text(rt.alloc(), name)?;
-        assert_eq!(rt; found.as_str(), expected, "{name}");
-    }
-    Ok(())
+    check(&rt, rt.alloc(), &BuiltIns, BUILT_IN)
 }
 
 fn base_of(word: &str) -> &'static [(i128, i128)] {
@@ -76,44 +80,43 @@ fn part_text(alloc: Global, word: &str, text: &str) -> Result<String, NoMemory> 
     }
 }
 
-// Rows of a name, a base or form, a text, and the part.
-fn check_parts(rt: &impl Abort, alloc: Global, rows: &str) -> Result<(), Fail> {
-    for row in rows.lines().skip(1) {
-        let (name, rest) = row.split_once(" => ").ok_or("no row")?;
-        let (word, rest) = rest.split_once(" => ").ok_or("no row")?;
-        let (text, expected) = rest.split_once(" => ").ok_or("no row")?;
-        let found = part_text(alloc, word, text)?;
-        assert_eq!(rt; found.as_str(), expected, "{name}");
+// In each row a name, a base or form, and a text.
+struct Parts;
+
+impl Tells for Parts {
+    fn tell(&self, alloc: Global, text: &str) -> Result<String, Fail> {
+        let (_, rest) = text.split_once(", ").ok_or("no name")?;
+        let (word, range) = rest.split_once(", ").ok_or("no word")?;
+        Ok(part_text(alloc, word, range)?)
     }
-    Ok(())
 }
 
 // Ranges after RFC 7950 sections 9.2.4 and 14: the part that comes first, where the text is a range.
 const RANGES: &str = r#"
-one number => byte => 7 => 7..7
-two bounds => byte => 1..4 => 1..4
-parts => byte => 1..4 | 10..20 => 1..4
-touching parts => byte => 1..4|5..9 => 1..4
-min and max => byte => min..max => 0..255
-inside a part => two => 3..5 => 3..5
-a gap => two => 9..21 => none
-a base that touches => touching => min..max => 1..9
-min of a base => two => min|25..max => 1..1
-above the base => byte => 1..256 => none
-backwards => byte => 4..1 => none
-descending parts => byte => 10..20|1..4 => none
-overlapping parts => byte => 1..4|4..9 => none
-leading zero => byte => 01 => none
-sign => byte => -0 => 0..0
-plus => byte => +1 => none
-nothing => byte =>  => none
-no part => byte => 1| => none
-three bounds => byte => 1..2..3 => none
+one number, byte, 7 => 7..7
+two bounds, byte, 1..4 => 1..4
+parts, byte, 1..4 | 10..20 => 1..4
+touching parts, byte, 1..4|5..9 => 1..4
+min and max, byte, min..max => 0..255
+inside a part, two, 3..5 => 3..5
+a gap, two, 9..21 => none
+a base that touches, touching, min..max => 1..9
+min of a base, two, min|25..max => 1..1
+above the base, byte, 1..256 => none
+backwards, byte, 4..1 => none
+descending parts, byte, 10..20|1..4 => none
+overlapping parts, byte, 1..4|4..9 => none
+leading zero, byte, 01 => none
+sign, byte, -0 => 0..0
+plus, byte, +1 => none
+nothing, byte,  => none
+no part, byte, 1| => none
+three bounds, byte, 1..2..3 => none
 "#;
 
 #[test]
 fn ranges_are_read(rt: HostRuntime) -> Result<(), Fail> {
-    check_parts(&rt, rt.alloc(), RANGES)?;
+    check(&rt, rt.alloc(), &Parts, RANGES)?;
     let blanks = part_text(rt.alloc(), "byte", " 1 ..\t4\r\n")?;
     assert_eq!(rt; blanks.as_str(), "1..4");
     Ok(())
@@ -121,18 +124,18 @@ fn ranges_are_read(rt: HostRuntime) -> Result<(), Fail> {
 
 // Decimals of two fraction digits are read scaled (RFC 7950 section 9.3.4); lengths have no sign.
 const BOUNDS: &str = r#"
-example => decimal => 1 .. 3.14 | 10 => 100..314
-negative => decimal => -0.05 => -5..-5
-three digits => decimal => 1.000 => none
-no digit => decimal => 1. => none
-length => length => 0..4 => 0..4
-signed length => length => -1..4 => none
-pointed length => length => 1.0 => none
+example, decimal, 1 .. 3.14 | 10 => 100..314
+negative, decimal, -0.05 => -5..-5
+three digits, decimal, 1.000 => none
+no digit, decimal, 1. => none
+length, length, 0..4 => 0..4
+signed length, length, -1..4 => none
+pointed length, length, 1.0 => none
 "#;
 
 #[test]
 fn bounds_have_their_forms(rt: HostRuntime) -> Result<(), Fail> {
-    check_parts(&rt, rt.alloc(), BOUNDS)
+    check(&rt, rt.alloc(), &Parts, BOUNDS)
 }
 
 // A name, and the text of a number behind `=`.
@@ -160,68 +163,73 @@ fn listed(alloc: Global, text: &str) -> Result<Vec<Listed>, NoMemory> {
 }
 
 // The number of the last member, or the statement with a flaw and the flaw's name.
-fn told(made: Result<Taken, ListFault>) -> (i128, &'static str) {
+fn told(made: &Result<Taken, ListFault>) -> (i128, &'static str) {
     match made {
         Ok(members) => match members.as_slice().last() {
             Some(member) => (i128::from(member.number), "ok"),
             None => (0, "none"),
         },
-        Err(ListFault::Flawed { at, flaw }) => (
-            at as i128,
-            match flaw {
-                ListFlaw::NameRepeated => "name",
-                ListFlaw::BadNumber => "bad",
-                ListFlaw::NumberRepeated => "number",
-                ListFlaw::NoNumberLeft => "limit",
-                ListFlaw::NotInBase => "base",
-                ListFlaw::OtherThanBase => "other",
-            },
-        ),
+        Err(ListFault::Flawed { at, flaw }) => (*at as i128, flaw_word(flaw)),
         Err(ListFault::NoMemory) => (0, "memory"),
     }
 }
 
-fn told_text(alloc: Global, made: Result<Taken, ListFault>) -> Result<String, AllocError> {
+fn flaw_word(flaw: &ListFlaw) -> &'static str {
+    match flaw {
+        ListFlaw::NameRepeated => "name",
+        ListFlaw::BadNumber => "bad",
+        ListFlaw::NumberRepeated => "number",
+        ListFlaw::NoNumberLeft => "limit",
+        ListFlaw::NotInBase => "base",
+        ListFlaw::OtherThanBase => "other",
+    }
+}
+
+fn told_text(alloc: Global, made: &Result<Taken, ListFault>) -> Result<String, AllocError> {
     let (number, word) = told(made);
     format!(in alloc; "{number} {word}")
 }
 
 // RFC 7950 section 9.6.4.2: a value of its own, or one above the highest before, and 0 for the first.
 const NUMBERED: &str = r#"
-none given => zero one seven => 2 ok
-above the highest => zero=7 one=-2 seven => 8 ok
-below 0 => zero=-5 one seven => -3 ok
-repeated => zero=1 one=1 seven => 1 number
-no number => zero one=07 seven => 1 bad
-past the limit => zero=2147483647 one seven => 1 limit
-too high => zero=2147483648 one seven => 0 bad
-a name twice => zero zero => 1 name
+none given, zero one seven => 2 ok
+above the highest, zero=7 one=-2 seven => 8 ok
+below 0, zero=-5 one seven => -3 ok
+repeated, zero=1 one=1 seven => 1 number
+no number, zero one=07 seven => 1 bad
+past the limit, zero=2147483647 one seven => 1 limit
+too high, zero=2147483648 one seven => 0 bad
+a name twice, zero zero => 1 name
 "#;
 
 fn numbered_text(alloc: Global, numbering: &Numbering, text: &str) -> Result<String, NoMemory> {
     let statements = listed(alloc, text)?;
     let made = numbered(alloc, numbering, &statements);
-    Ok(told_text(alloc, made)?)
+    Ok(told_text(alloc, &made)?)
+}
+
+// In each row a name and statements.
+struct Enumerations;
+
+impl Tells for Enumerations {
+    fn tell(&self, alloc: Global, text: &str) -> Result<String, Fail> {
+        let (_, statements) = text.split_once(", ").ok_or("no name")?;
+        Ok(numbered_text(alloc, &Numbering::Values, statements)?)
+    }
 }
 
 #[test]
 fn enumerations_are_numbered(rt: HostRuntime) -> Result<(), Fail> {
-    for row in NUMBERED.lines().skip(1) {
-        let (name, rest) = row.split_once(" => ").ok_or("no row")?;
-        let (text, expected) = rest.split_once(" => ").ok_or("no row")?;
-        let found = numbered_text(rt.alloc(), &Numbering::Values, text)?;
-        assert_eq!(rt; found.as_str(), expected, "{name}");
-    }
-    Ok(())
+    check(&rt, rt.alloc(), &Enumerations, NUMBERED)
 }
 
 // RFC 7950 section 9.7.4.2, and its example of a restricted type in section 9.7.4.3.
 const RESTRICTED: &str = r#"
-its own position => STATIC => 1 ok
-the same => STATIC=1 => 1 ok
-another => STATIC=2 => 0 other
-no number => STATIC=-1 => 0 bad
-no such name => static => 0 base
+its own position, STATIC => 1 ok
+the same, STATIC=1 => 1 ok
+another, STATIC=2 => 0 other
+no number, STATIC=-1 => 0 bad
+no such name, static => 0 base
 "#;
 
 fn base_bits(alloc: Global) -> Result<Taken, Fail> {
@@ -235,23 +243,35 @@ fn base_bits(alloc: Global) -> Result<Taken, Fail> {
 fn restricted_text(alloc: Global, base: &Taken, text: &str) -> Result<String, NoMemory> {
     let statements = listed(alloc, text)?;
     let made = restricted(alloc, &Numbering::Positions, base, &statements);
-    Ok(told_text(alloc, made)?)
+    Ok(told_text(alloc, &made)?)
 }
 
-fn check_restricted(rt: &impl Abort, alloc: Global, base: &Taken) -> Result<(), Fail> {
-    for row in RESTRICTED.lines().skip(1) {
-        let (name, rest) = row.split_once(" => ").ok_or("no row")?;
-        let (text, expected) = rest.split_once(" => ").ok_or("no row")?;
-        let found = restricted_text(alloc, base, text)?;
-        assert_eq!(rt; found.as_str(), expected, "{name}");
+// In each row a name and statements, which restrict a base.
+#[derive(Drop)]
+struct TellsRestricted<'a> {
+    base: &'a Taken,
+}
+
+impl Tells for TellsRestricted<'_> {
+    fn tell(&self, alloc: Global, text: &str) -> Result<String, Fail> {
+        let (_, statements) = text.split_once(", ").ok_or("no name")?;
+        Ok(restricted_text(alloc, self.base, statements)?)
     }
-    Ok(())
 }
 
 #[test]
 fn bits_are_restricted(rt: HostRuntime) -> Result<(), Fail> {
     let base = base_bits(rt.alloc())?;
-    check_restricted(&rt, rt.alloc(), &base)?;
+    check(
+        &rt,
+        rt.alloc(),
+        &TellsRestricted { base: &base },
+        RESTRICTED,
+    )
+}
+
+#[test]
+fn positions_have_a_limit(rt: HostRuntime) -> Result<(), Fail> {
     let above = numbered_text(rt.alloc(), &Numbering::Positions, "a=4294967295 b")?;
     assert_eq!(rt; above.as_str(), "1 limit");
     Ok(())
@@ -310,25 +330,34 @@ fn restrictions(
     })
 }
 
+// The restrictions of a row, behind its type.
+fn restrictions_in(alloc: Global, row: &str) -> Result<Restrictions, Fail> {
+    let (digits, rest) = row.split_once(" ").ok_or("no row")?;
+    let (range, length) = rest.split_once(" ").ok_or("no row")?;
+    Ok(restrictions(alloc, digits, range, length)?)
+}
+
 // What the step of a row answers.
 fn stepped(alloc: Global, row: &str) -> Result<&'static str, Fail> {
     let (name, rest) = row.split_once(" ").ok_or("no row")?;
-    let (digits, rest) = rest.split_once(" ").ok_or("no row")?;
-    let (range, length) = rest.split_once(" ").ok_or("no row")?;
     let built = built_in(name).ok_or("no type")?;
-    let restrictions = restrictions(alloc, digits, range, length)?;
+    let restrictions = restrictions_in(alloc, rest)?;
     let made = step(alloc, Derived::of_built_in(&built), &restrictions);
     Ok(outcome(&made))
 }
 
+struct Steps;
+
+impl Tells for Steps {
+    fn tell(&self, alloc: Global, text: &str) -> Result<String, Fail> {
+        let outcome = stepped(alloc, text)?;
+        Ok(String::from_str(alloc, outcome)?)
+    }
+}
+
 #[test]
 fn restrictions_have_their_types(rt: HostRuntime) -> Result<(), Fail> {
-    for row in RESTRICTIONS.lines().skip(1) {
-        let (step, expected) = row.split_once(" => ").ok_or("no row")?;
-        let found = stepped(rt.alloc(), step)?;
-        assert_eq!(rt; found, expected, "{step}");
-    }
-    Ok(())
+    check(&rt, rt.alloc(), &Steps, RESTRICTIONS)
 }
 
 // The canonical text of a value of a type.
@@ -342,13 +371,22 @@ fn shown(alloc: Global, derived: &Derived, text: &str) -> Result<Label, NoMemory
     }
 }
 
-fn check_shown(rt: &impl Abort, alloc: Global, derived: &Derived, rows: &str) -> Result<(), Fail> {
-    for row in rows.lines().skip(1) {
-        let (text, expected) = row.split_once(" => ").ok_or("no row")?;
-        let found = shown(alloc, derived, text)?;
-        assert_eq!(rt; found.as_str(), expected, "{text}");
+// The values of a type.
+#[derive(Drop)]
+struct TellsShown<'a> {
+    derived: &'a Derived,
+}
+
+impl Tells for TellsShown<'_> {
+    fn tell(&self, alloc: Global, text: &str) -> Result<String, Fail> {
+        let found = shown(alloc, self.derived, text)?;
+        Ok(String::from_str(alloc, found.as_str())?)
     }
-    Ok(())
+}
+
+// Rows of a text, and the value that it spells in a type.
+fn check_shown(rt: &impl Abort, alloc: Global, derived: &Derived, rows: &str) -> Result<(), Fail> {
+    check(rt, alloc, &TellsShown { derived }, rows)
 }
 
 fn ranged(alloc: Global, base: Derived, text: &str) -> Result<Derived, Fail> {
@@ -358,12 +396,22 @@ fn ranged(alloc: Global, base: Derived, text: &str) -> Result<Derived, Fail> {
     }
 }
 
+// A type of two parts.
+fn two_parts(alloc: Global) -> Result<Derived, Fail> {
+    let int32 = built_in("int32").ok_or("int32")?;
+    ranged(alloc, Derived::of_built_in(&int32), "1..4|10..20")
+}
+
 // RFC 7950 section 9.2.5 restricts 1..4 | 10..20 to 11..max.
 #[test]
 fn derived_types_have_values(rt: HostRuntime) -> Result<(), Fail> {
-    let int32 = built_in("int32").ok_or("int32")?;
-    let base = ranged(rt.alloc(), Derived::of_built_in(&int32), "1..4|10..20")?;
-    check_shown(&rt, rt.alloc(), &base, "\n4 => 4\n5 => none\n")?;
+    let base = two_parts(rt.alloc())?;
+    check_shown(&rt, rt.alloc(), &base, "\n4 => 4\n5 => none\n")
+}
+
+#[test]
+fn derived_types_have_narrower_values(rt: HostRuntime) -> Result<(), Fail> {
+    let base = two_parts(rt.alloc())?;
     let narrow = ranged(rt.alloc(), base.copy()?, "11..max")?;
     check_shown(&rt, rt.alloc(), &narrow, "\n20 => 20\n4 => none\n")
 }
@@ -382,22 +430,28 @@ fn named(alloc: Global, base: Derived, text: &str) -> Result<&'static str, NoMem
     Ok(outcome(&made))
 }
 
-// RFC 7950 section 9.7.5: bits in order of position, of which a derived type has some.
-#[test]
-fn derived_bits_keep_their_positions(rt: HostRuntime) -> Result<(), Fail> {
+// A type of bits, derived from one that has them with other numbers between.
+fn some_bits(alloc: Global) -> Result<Derived, Fail> {
     let bits = built_in("bits").ok_or("bits")?;
     let base = with_some(
-        rt.alloc(),
+        alloc,
         Derived::of_built_in(&bits),
         "late=2 early=0 between=1",
     )?;
-    let derived = with_some(rt.alloc(), base, "late early")?;
-    check_shown(
-        &rt,
-        rt.alloc(),
-        &derived,
-        "\nlate early => early late\nbetween => none\n",
-    )?;
+    with_some(alloc, base, "late early")
+}
+
+// RFC 7950 section 9.7.5: bits in order of position, of which a derived type has some.
+#[test]
+fn derived_bits_keep_their_positions(rt: HostRuntime) -> Result<(), Fail> {
+    let derived = some_bits(rt.alloc())?;
+    let rows = "\nlate early => early late\nbetween => none\n";
+    check_shown(&rt, rt.alloc(), &derived, rows)
+}
+
+#[test]
+fn derived_bits_have_no_names(rt: HostRuntime) -> Result<(), Fail> {
+    let derived = some_bits(rt.alloc())?;
     assert_eq!(rt; named(rt.alloc(), derived, "late early")?, "misplaced");
     Ok(())
 }

@@ -8,7 +8,11 @@ mod derive;
 #[cfg(test)]
 mod leafref;
 #[cfg(test)]
+mod modules;
+#[cfg(test)]
 mod path;
+#[cfg(test)]
+mod rows;
 #[cfg(test)]
 mod tree;
 #[cfg(test)]

@@ -1,5 +1,6 @@
 mod texts;
 
+use crate::rows::{Tells, check, check_parted};
 use nm_base::{Groups, Label, NoMemory, Numbers};
 use nm_path::{PathFault, laws, node_of, read_path, write_path};
 use nm_tree::{Elements, Node, NodeKind, Schema, SharedType};
@@ -9,7 +10,7 @@ use std::alloc::Global;
 use std::process::Abort;
 use std::test::Fail;
 use texts::{
-    Apart, KEYED, LOST, MISFORMED, MISFORMED_APART, MISKEYED, NAMES, QUOTED, QUOTED_APART, VALUES,
+    KEYED, LOST, MISFORMED, MISFORMED_APART, MISKEYED, NAMES, QUOTED, QUOTED_APART, VALUES,
 };
 
 #[derive(Clone, Copy)]
@@ -226,71 +227,105 @@ fn told(alloc: Global, schema: &Schema, text: &str) -> Result<String, NoMemory> 
     }
 }
 
-fn check(rt: &impl Abort, alloc: Global, schema: &Schema, rows: &str) -> Result<(), Fail> {
-    for row in rows.lines().skip(1) {
-        let (text, expected) = row.split_once(" => ").ok_or("no row")?;
-        let found = told(alloc, schema, text)?;
-        assert_eq!(rt; found.as_str(), expected, "{text}");
-    }
-    Ok(())
+// What is told of a text, of which it is a path.
+#[derive(Drop)]
+struct Spelling<'a> {
+    schema: &'a Schema,
 }
 
-fn check_apart(
-    rt: &impl Abort,
-    alloc: Global,
-    schema: &Schema,
-    rows: &[Apart],
-) -> Result<(), Fail> {
-    for (text, expected) in rows {
-        let found = told(alloc, schema, text)?;
-        assert_eq!(rt; found.as_str(), *expected, "{text}");
+impl Tells for Spelling<'_> {
+    fn tell(&self, alloc: Global, text: &str) -> Result<String, Fail> {
+        Ok(told(alloc, self.schema, text)?)
     }
-    Ok(())
+}
+
+// Rows of a text, and what is told of it.
+fn check_told(rt: &impl Abort, alloc: Global, rows: &str) -> Result<(), Fail> {
+    let schema = sample(alloc)?;
+    check(rt, alloc, &Spelling { schema: &schema }, rows)
 }
 
 // What is written spells the same path.
-fn check_again(rt: &impl Abort, alloc: Global, schema: &Schema, rows: &str) -> Result<(), Fail> {
+fn again(alloc: Global, schema: &Schema, row: &str) -> Result<bool, Fail> {
+    let (_, expected) = row.split_once(" => ").ok_or("no row")?;
+    let (text, _) = expected.split_once(" => ").ok_or("no row")?;
+    let found = told(alloc, schema, text)?;
+    Ok(found.as_str() == expected)
+}
+
+fn check_rows_again(
+    rt: &impl Abort,
+    alloc: Global,
+    schema: &Schema,
+    rows: &str,
+) -> Result<(), Fail> {
     for row in rows.lines().skip(1) {
-        let (_, expected) = row.split_once(" => ").ok_or("no row")?;
-        let (text, _) = expected.split_once(" => ").ok_or("no row")?;
-        let found = told(alloc, schema, text)?;
-        assert_eq!(rt; found.as_str(), expected, "{text}");
+        assert!(rt; again(alloc, schema, row)?, "{row}");
     }
     Ok(())
 }
 
-fn check_both(rt: &impl Abort, alloc: Global, schema: &Schema, rows: &str) -> Result<(), Fail> {
-    check(rt, alloc, schema, rows)?;
-    check_again(rt, alloc, schema, rows)
+fn check_again(rt: &impl Abort, alloc: Global, rows: &str) -> Result<(), Fail> {
+    let schema = sample(alloc)?;
+    check_rows_again(rt, alloc, &schema, rows)
 }
 
-fn check_spelled(rt: &impl Abort, alloc: Global, schema: &Schema) -> Result<(), Fail> {
-    check_both(rt, alloc, schema, NAMES)?;
-    check_both(rt, alloc, schema, QUOTED)?;
-    check_both(rt, alloc, schema, KEYED)?;
-    check_both(rt, alloc, schema, VALUES)?;
-    check_apart(rt, alloc, schema, QUOTED_APART)
+fn check_both(rt: &impl Abort, alloc: Global, rows: &str) -> Result<(), Fail> {
+    check_told(rt, alloc, rows)?;
+    check_again(rt, alloc, rows)
 }
 
 // Each of these texts spells the path whose text stands beside it, and so does that text.
 #[test]
-fn paths_are_read_and_written(rt: HostRuntime) -> Result<(), Fail> {
-    let schema = sample(rt.alloc())?;
-    check_spelled(&rt, rt.alloc(), &schema)
+fn names_are_read_and_written(rt: HostRuntime) -> Result<(), Fail> {
+    check_both(&rt, rt.alloc(), NAMES)
 }
 
-fn check_refused(rt: &impl Abort, alloc: Global, schema: &Schema) -> Result<(), Fail> {
-    check(rt, alloc, schema, MISFORMED)?;
-    check(rt, alloc, schema, MISKEYED)?;
-    check(rt, alloc, schema, LOST)?;
-    check_apart(rt, alloc, schema, MISFORMED_APART)
+#[test]
+fn quotes_are_read_and_written(rt: HostRuntime) -> Result<(), Fail> {
+    check_both(&rt, rt.alloc(), QUOTED)
+}
+
+#[test]
+fn keys_are_read_and_written(rt: HostRuntime) -> Result<(), Fail> {
+    check_both(&rt, rt.alloc(), KEYED)
+}
+
+#[test]
+fn values_are_read_and_written(rt: HostRuntime) -> Result<(), Fail> {
+    check_both(&rt, rt.alloc(), VALUES)
+}
+
+// The texts that a line can't hold.
+fn check_apart(rt: &impl Abort, alloc: Global, rows: &str) -> Result<(), Fail> {
+    let schema = sample(alloc)?;
+    check_parted(rt, alloc, &Spelling { schema: &schema }, rows)
+}
+
+#[test]
+fn other_quotes_are_read_and_written(rt: HostRuntime) -> Result<(), Fail> {
+    check_apart(&rt, rt.alloc(), QUOTED_APART)
 }
 
 // Each of these texts is refused for the cause that stands beside it.
 #[test]
-fn other_texts_are_refused(rt: HostRuntime) -> Result<(), Fail> {
-    let schema = sample(rt.alloc())?;
-    check_refused(&rt, rt.alloc(), &schema)
+fn misformed_texts_are_refused(rt: HostRuntime) -> Result<(), Fail> {
+    check_told(&rt, rt.alloc(), MISFORMED)
+}
+
+#[test]
+fn other_misformed_texts_are_refused(rt: HostRuntime) -> Result<(), Fail> {
+    check_apart(&rt, rt.alloc(), MISFORMED_APART)
+}
+
+#[test]
+fn other_keys_are_refused(rt: HostRuntime) -> Result<(), Fail> {
+    check_told(&rt, rt.alloc(), MISKEYED)
+}
+
+#[test]
+fn other_names_are_refused(rt: HostRuntime) -> Result<(), Fail> {
+    check_told(&rt, rt.alloc(), LOST)
 }
 
 fn step(alloc: Global, module: &str, name: &str, chosen: Chosen) -> Result<Step, NoMemory> {
@@ -362,23 +397,35 @@ fn picked(alloc: Global, schema: &Schema, text: &str) -> Result<String, Fail> {
     Ok(written(alloc, schema, &path)?)
 }
 
-fn check_picked(rt: &impl Abort, alloc: Global, schema: &Schema) -> Result<(), Fail> {
-    for row in PICKED.lines().skip(1) {
-        let (text, expected) = row.split_once(" => ").ok_or("no row")?;
-        let found = picked(alloc, schema, text)?;
-        assert_eq!(rt; found.as_str(), expected, "{text}");
+#[derive(Drop)]
+struct Picking<'a> {
+    schema: &'a Schema,
+}
+
+impl Tells for Picking<'_> {
+    fn tell(&self, alloc: Global, text: &str) -> Result<String, Fail> {
+        picked(alloc, self.schema, text)
     }
-    Ok(())
 }
 
 #[test]
 fn other_paths_are_written(rt: HostRuntime) -> Result<(), Fail> {
     let schema = sample(rt.alloc())?;
-    check_picked(&rt, rt.alloc(), &schema)?;
+    check(&rt, rt.alloc(), &Picking { schema: &schema }, PICKED)
+}
+
+fn top_written(alloc: Global, schema: &Schema) -> Result<String, NoMemory> {
     let top = Path {
-        steps: Vec::new(rt.alloc()),
+        steps: Vec::new(alloc),
     };
-    let found = written(rt.alloc(), &schema, &top)?;
+    written(alloc, schema, &top)
+}
+
+// The path of no steps leads nowhere.
+#[test]
+fn the_top_is_written(rt: HostRuntime) -> Result<(), Fail> {
+    let schema = sample(rt.alloc())?;
+    let found = top_written(rt.alloc(), &schema)?;
     assert_eq!(rt; found.as_str(), " => none");
     laws::one_path();
     laws::full_paths();

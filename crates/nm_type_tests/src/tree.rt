@@ -1,8 +1,8 @@
+use crate::rows::{Tells, check};
 use nm_base::{Groups, Label, NoMemory, Numbers};
 use nm_tree::{CaseNode, ChoiceNode, Elements, Node, NodeKind, Reference, Schema, SharedType};
 use nm_types::{LeafType, TypeKind};
-use std::alloc::{AllocError, Global};
-use std::process::Abort;
+use std::alloc::Global;
 use std::test::Fail;
 
 #[derive(Clone, Copy)]
@@ -103,49 +103,38 @@ fn sample(alloc: Global) -> Result<Schema, Fail> {
     Ok(schema)
 }
 
-fn number_text(alloc: Global, number: Option<usize>) -> Result<String, AllocError> {
-    match number {
-        None => String::from_str(alloc, "none"),
-        Some(number) => format!(in alloc; "{number}"),
+// RFC 7950 section 5.5: names at the top belong to their module; a module or a node, a name, and the node's number.
+const FOUND: &str = r#"
+a ports => Some(0)
+b ports => Some(4)
+c ports => None
+a name => None
+0 name => Some(2)
+0 speed => Some(1)
+4 name => Some(5)
+4 speed => None
+5 name => None
+9 name => None
+"#;
+
+// The node of a name, in a module or a node.
+fn named(schema: &Schema, text: &str) -> Option<usize> {
+    let (place, name) = text.split_once(" ")?;
+    match place.parse::<usize>() {
+        Ok(node) => schema.child(node, name),
+        Err(_) => schema.top(place, name),
     }
 }
 
-// RFC 7950 section 5.5: names at the top belong to their module.
-const TOPS: &str = r#"
-a ports => 0
-b ports => 4
-c ports => none
-a name => none
-"#;
-
-fn check_tops(rt: &impl Abort, alloc: Global, schema: &Schema) -> Result<(), Fail> {
-    for row in TOPS.lines().skip(1) {
-        let (text, expected) = row.split_once(" => ").ok_or("no row")?;
-        let (module, name) = text.split_once(" ").ok_or("no row")?;
-        let found = number_text(alloc, schema.top(module, name))?;
-        assert_eq!(rt; found.as_str(), expected, "{text}");
-    }
-    Ok(())
+#[derive(Drop)]
+struct Finding<'a> {
+    schema: &'a Schema,
 }
 
-const CHILDREN: &str = r#"
-0 name => 2
-0 speed => 1
-4 name => 5
-4 speed => none
-5 name => none
-9 name => none
-"#;
-
-fn check_children(rt: &impl Abort, alloc: Global, schema: &Schema) -> Result<(), Fail> {
-    for row in CHILDREN.lines().skip(1) {
-        let (text, expected) = row.split_once(" => ").ok_or("no row")?;
-        let (node, name) = text.split_once(" ").ok_or("no row")?;
-        let node = node.parse::<usize>()?;
-        let found = number_text(alloc, schema.child(node, name))?;
-        assert_eq!(rt; found.as_str(), expected, "{text}");
+impl Tells for Finding<'_> {
+    fn tell(&self, alloc: Global, text: &str) -> Result<String, Fail> {
+        Ok(format!(in alloc; "{:?}", named(self.schema, text))?)
     }
-    Ok(())
 }
 
 // A node of another module and one below no node aren't taken.
@@ -153,8 +142,7 @@ fn check_children(rt: &impl Abort, alloc: Global, schema: &Schema) -> Result<(),
 fn nodes_are_found_by_their_names(rt: HostRuntime) -> Result<(), Fail> {
     let schema = sample(rt.alloc())?;
     assert_eq!(rt; schema.len(), 7);
-    check_tops(&rt, rt.alloc(), &schema)?;
-    check_children(&rt, rt.alloc(), &schema)
+    check(&rt, rt.alloc(), &Finding { schema: &schema }, FOUND)
 }
 
 // The same tree, whose list has a key.
@@ -170,65 +158,92 @@ fn keyed(alloc: Global) -> Result<Schema, Fail> {
 
 // RFC 7950 section 7.8.2: the leafs that the key statement names are keys of their list. A node, whether it is a key, how many
 // nodes stand in it, and whether it has a type.
-const KEYS: [(usize, bool, usize, bool); 6] = [
-    (0, false, 3, false),
-    (1, false, 0, true),
-    (2, true, 0, true),
-    (4, false, 1, false),
-    (5, false, 0, true),
-    (9, false, 0, false),
-];
+const KEYS: &str = r#"
+0 => false 3 false
+1 => false 0 true
+2 => true 0 true
+4 => false 1 false
+5 => false 0 true
+9 => false 0 false
+"#;
 
-fn check_keys(rt: &impl Abort, schema: &Schema) {
-    for (node, is_key, below, has_type) in &KEYS {
-        assert_eq!(rt; schema.is_key(*node), *is_key, "{node}");
-        assert_eq!(rt; schema.below(*node).len(), *below, "{node}");
-        assert_eq!(rt; schema.leaf_type(*node).is_some(), *has_type, "{node}");
+#[derive(Drop)]
+struct TellsKeys<'a> {
+    schema: &'a Schema,
+}
+
+impl Tells for TellsKeys<'_> {
+    fn tell(&self, alloc: Global, text: &str) -> Result<String, Fail> {
+        let node = text.parse::<usize>()?;
+        let below = self.schema.below(node).len();
+        let has_type = self.schema.leaf_type(node).is_some();
+        Ok(format!(in alloc; "{} {below} {has_type}", self.schema.is_key(node))?)
     }
 }
 
 #[test]
 fn keys_are_told(rt: HostRuntime) -> Result<(), Fail> {
     let schema = keyed(rt.alloc())?;
-    check_keys(&rt, &schema);
-    Ok(())
+    check(&rt, rt.alloc(), &TellsKeys { schema: &schema }, KEYS)
 }
 
 // RFC 7950 section 9.9: a leafref leads to a leaf.
-#[test]
-fn references_are_set(rt: HostRuntime) -> Result<(), Fail> {
-    let mut schema = sample(rt.alloc())?;
-    let to = Some(Reference { target: 2, up: 2 });
+fn referring(alloc: Global) -> Result<Schema, Fail> {
+    let mut schema = sample(alloc)?;
     if schema.len() > 5 {
-        schema.set_reference(5, to);
+        schema.set_reference(5, Some(Reference { target: 2, up: 2 }));
     }
-    match schema.node(5) {
+    Ok(schema)
+}
+
+// Whether a node is a leaf that leads to node 2, two nodes up.
+fn refers(schema: &Schema, node: usize) -> bool {
+    match schema.node(node) {
+        None => false,
         Some(node) => match &node.kind {
             NodeKind::Leaf { reference, .. } => {
-                assert!(rt; matches!(reference, Some(Reference { target: 2, up: 2 })))
+                matches!(reference, Some(Reference { target: 2, up: 2 }))
             }
-            _ => assert!(rt; false, "no leaf"),
+            _ => false,
         },
-        None => assert!(rt; false, "no node"),
     }
+}
+
+#[test]
+fn references_are_set(rt: HostRuntime) -> Result<(), Fail> {
+    let schema = referring(rt.alloc())?;
+    assert!(rt; refers(&schema, 5));
     Ok(())
 }
 
 // RFC 7950 section 7.9: in the container of module b the choice `how` with the cases `fixed` and `other`, and in `other`
-// the choice `kind` with the case `plain`. Choices of a case that isn't there and cases of such a choice aren't put.
-fn put_choices(alloc: Global, schema: &mut Schema) -> Result<(), NoMemory> {
-    put_choice(alloc, schema, None, "how")?;
-    put_case(alloc, schema, 0, "fixed")?;
-    put_case(alloc, schema, 0, "other")?;
-    put_choice(alloc, schema, Some(1), "kind")?;
-    put_case(alloc, schema, 1, "plain")?;
-    put_choice(alloc, schema, Some(3), "lost")?;
-    put_case(alloc, schema, 2, "lost")
+// the choice `kind` with the case `plain`. Choices of a case that isn't there and cases of such a choice aren't put. In each line
+// the case that a choice stands in, or the choice of a case.
+const CHOICES: &str = r#"
+choice - how
+case 0 fixed
+case 0 other
+choice 1 kind
+case 1 plain
+choice 3 lost
+case 2 lost
+"#;
+
+fn put_line(alloc: Global, schema: &mut Schema, row: &str) -> Result<(), Fail> {
+    let (word, rest) = row.split_once(" ").ok_or("no row")?;
+    let (place, name) = rest.split_once(" ").ok_or("no row")?;
+    let place = place.parse::<usize>().ok();
+    if word == "choice" {
+        return Ok(put_choice(alloc, schema, place, name)?);
+    }
+    Ok(put_case(alloc, schema, place.ok_or("no choice")?, name)?)
 }
 
 fn with_choices(alloc: Global) -> Result<Schema, Fail> {
     let mut schema = sample(alloc)?;
-    put_choices(alloc, &mut schema)?;
+    for row in CHOICES.lines().skip(1) {
+        put_line(alloc, &mut schema, row)?;
+    }
     Ok(schema)
 }
 
@@ -262,37 +277,43 @@ fn put_case(alloc: Global, schema: &mut Schema, choice: usize, name: &str) -> Re
     Ok(())
 }
 
-// RFC 7950 section 7.9: cases are of choices, and choices may stand in cases.
-const CASES: [(usize, Option<usize>, Option<usize>); 4] = [
-    (0, Some(0), None),
-    (1, Some(0), None),
-    (2, Some(1), Some(1)),
-    (3, None, None),
-];
+// RFC 7950 section 7.9: cases are of choices, and choices may stand in cases. A case, its choice, and the case around.
+const CASES: &str = r#"
+0 => Some(0) None
+1 => Some(0) None
+2 => Some(1) Some(1)
+3 => None None
+"#;
 
-fn check_cases(rt: &impl Abort, schema: &Schema) {
-    assert_eq!(rt; schema.choices().len(), 2);
-    assert_eq!(rt; schema.cases().len(), 3);
-    for (case, choice, outer) in &CASES {
-        assert_eq!(rt; schema.choice_of(*case), *choice, "{case}");
-        assert_eq!(rt; schema.outer_case(*case), *outer, "{case}");
+#[derive(Drop)]
+struct TellsCases<'a> {
+    schema: &'a Schema,
+}
+
+impl Tells for TellsCases<'_> {
+    fn tell(&self, alloc: Global, text: &str) -> Result<String, Fail> {
+        let case = text.parse::<usize>()?;
+        let choice = self.schema.choice_of(case);
+        let outer = self.schema.outer_case(case);
+        Ok(format!(in alloc; "{choice:?} {outer:?}")?)
     }
 }
 
 #[test]
 fn cases_lead_outwards(rt: HostRuntime) -> Result<(), Fail> {
     let schema = with_choices(rt.alloc())?;
-    check_cases(&rt, &schema);
-    Ok(())
+    assert!(rt; schema.choices().len() == 2 && schema.cases().len() == 3);
+    check(&rt, rt.alloc(), &TellsCases { schema: &schema }, CASES)
 }
 
-// RFC 7950 sections 7.6 and 7.8: what a leaf, a list and a container say of themselves: a node, its parent, whether it is a guard.
-const SAID: [(usize, Option<usize>, bool); 4] = [
-    (0, None, true),
-    (1, Some(0), false),
-    (4, None, false),
-    (9, None, false),
-];
+// RFC 7950 sections 7.6 and 7.8: what a leaf, a list and a container say of themselves: a node, its parent, whether it is a
+// guard, and whether it says nothing more.
+const SAID: &str = r#"
+0 => None true true
+1 => Some(0) false true
+4 => None false true
+9 => None false true
+"#;
 
 fn says_nothing_more(schema: &Schema, node: usize) -> bool {
     schema.case_in(node).is_none()
@@ -304,17 +325,23 @@ fn says_nothing_more(schema: &Schema, node: usize) -> bool {
         && schema.uniques(node).is_empty()
 }
 
-fn check_said(rt: &impl Abort, schema: &Schema) {
-    for (node, parent, is_guard) in &SAID {
-        assert_eq!(rt; schema.parent(*node), *parent, "{node}");
-        assert_eq!(rt; schema.is_guard(*node), *is_guard, "{node}");
-        assert!(rt; says_nothing_more(schema, *node), "{node}");
+#[derive(Drop)]
+struct Saying<'a> {
+    schema: &'a Schema,
+}
+
+impl Tells for Saying<'_> {
+    fn tell(&self, alloc: Global, text: &str) -> Result<String, Fail> {
+        let node = text.parse::<usize>()?;
+        let parent = self.schema.parent(node);
+        let is_guard = self.schema.is_guard(node);
+        let is_all = says_nothing_more(self.schema, node);
+        Ok(format!(in alloc; "{parent:?} {is_guard} {is_all}")?)
     }
 }
 
 #[test]
 fn nodes_say_what_they_are(rt: HostRuntime) -> Result<(), Fail> {
     let schema = sample(rt.alloc())?;
-    check_said(&rt, &schema);
-    Ok(())
+    check(&rt, rt.alloc(), &Saying { schema: &schema }, SAID)
 }

@@ -1,3 +1,4 @@
+use crate::rows::{Tells, check};
 use nm_base::{Label, NoMemory};
 use nm_types::names::is_once;
 use nm_types::parts::is_ascending;
@@ -64,14 +65,36 @@ fn number_kind(word: &str) -> TypeKind {
     }
 }
 
-// Rows of a text, and what it spells in a type.
-fn check(rt: &impl Abort, alloc: Global, leaf_type: &LeafType, rows: &str) -> Result<(), Fail> {
-    for row in rows.lines().skip(1) {
-        let (text, expected) = row.split_once(" => ").ok_or("no row")?;
-        let found = shown(alloc, leaf_type, text)?;
-        assert_eq!(rt; found.as_str(), expected, "at {text}");
+// What texts spell in a type.
+#[derive(Drop)]
+struct Typed<'a> {
+    leaf_type: &'a LeafType,
+}
+
+impl Tells for Typed<'_> {
+    fn tell(&self, alloc: Global, text: &str) -> Result<String, Fail> {
+        let found = shown(alloc, self.leaf_type, text)?;
+        Ok(String::from_str(alloc, found.as_str())?)
     }
-    Ok(())
+}
+
+// Rows of a text, and what it spells in a type of a kind, with such parts.
+fn check_typed(
+    rt: &impl Abort,
+    alloc: Global,
+    kind: TypeKind,
+    parts: &[(i128, i128)],
+    rows: &str,
+) -> Result<(), Fail> {
+    let leaf_type = limited(alloc, kind, parts)?;
+    check(
+        rt,
+        alloc,
+        &Typed {
+            leaf_type: &leaf_type,
+        },
+        rows,
+    )
 }
 
 fn number_shown(alloc: Global, word: &str, text: &str) -> Result<Label, Fail> {
@@ -79,50 +102,50 @@ fn number_shown(alloc: Global, word: &str, text: &str) -> Result<Label, Fail> {
     Ok(shown(alloc, &leaf_type, text)?)
 }
 
-// Rows of a type, a text, and what it spells in it.
-fn check_numbers(rt: &impl Abort, alloc: Global, rows: &str) -> Result<(), Fail> {
-    for row in rows.lines().skip(1) {
-        let (word, rest) = row.split_once(" => ").ok_or("no row")?;
-        let (text, expected) = rest.split_once(" => ").ok_or("no row")?;
+// In each row a type, and a text.
+struct NumbersShown;
+
+impl Tells for NumbersShown {
+    fn tell(&self, alloc: Global, text: &str) -> Result<String, Fail> {
+        let (word, text) = text.split_once(": ").ok_or("no type")?;
         let found = number_shown(alloc, word, text)?;
-        assert_eq!(rt; found.as_str(), expected, "at {text}");
+        Ok(String::from_str(alloc, found.as_str())?)
     }
-    Ok(())
 }
 
 // RFC 7950 section 9.2: the ends of each width, signs and leading zeros.
 const INTEGERS: &str = r#"
-int8 => 127 => 127
-int8 => -128 => -128
-int8 => 128 => out of range
-int8 => -129 => out of range
-int16 => -32768 => -32768
-int16 => 32768 => out of range
-int32 => 2147483647 => 2147483647
-int32 => -2147483649 => out of range
-int64 => -9223372036854775808 => -9223372036854775808
-int64 => 9223372036854775808 => out of range
-uint8 => 255 => 255
-uint8 => 256 => out of range
-uint8 => -1 => out of range
-uint16 => 65536 => out of range
-uint32 => 4294967295 => 4294967295
-uint64 => 18446744073709551615 => 18446744073709551615
-uint64 => 18446744073709551616 => out of range
-uint8 => 1000000000000000000000000000000000000000000 => out of range
-int8 => +5 => 5
-int8 => 007 => 7
-int8 => -0 => 0
-int8 =>  => bad text
-int8 => - => bad text
-int8 => +-1 => bad text
-int8 =>  1 => bad text
-int8 => 0x10 => bad text
+int8: 127 => 127
+int8: -128 => -128
+int8: 128 => out of range
+int8: -129 => out of range
+int16: -32768 => -32768
+int16: 32768 => out of range
+int32: 2147483647 => 2147483647
+int32: -2147483649 => out of range
+int64: -9223372036854775808 => -9223372036854775808
+int64: 9223372036854775808 => out of range
+uint8: 255 => 255
+uint8: 256 => out of range
+uint8: -1 => out of range
+uint16: 65536 => out of range
+uint32: 4294967295 => 4294967295
+uint64: 18446744073709551615 => 18446744073709551615
+uint64: 18446744073709551616 => out of range
+uint8: 1000000000000000000000000000000000000000000 => out of range
+int8: +5 => 5
+int8: 007 => 7
+int8: -0 => 0
+int8:  => bad text
+int8: - => bad text
+int8: +-1 => bad text
+int8:  1 => bad text
+int8: 0x10 => bad text
 "#;
 
 #[test]
 fn integers(rt: HostRuntime) -> Result<(), Fail> {
-    check_numbers(&rt, rt.alloc(), INTEGERS)
+    check(&rt, rt.alloc(), &NumbersShown, INTEGERS)
 }
 
 // RFC 7950 section 9.2.4: a value is within one of the parts, their ends included.
@@ -140,34 +163,33 @@ const RANGES: &str = r#"
 #[test]
 fn ranges(rt: HostRuntime) -> Result<(), Fail> {
     let parts = [(1, 4), (10, 20), (22, 22)];
-    let narrowed = limited(rt.alloc(), integer(-128, 127), &parts)?;
-    check(&rt, rt.alloc(), &narrowed, RANGES)
+    check_typed(&rt, rt.alloc(), integer(-128, 127), &parts, RANGES)
 }
 
 // RFC 7950 section 9.3: digits at both ends of 64 bits, for 1 and for 18 fraction digits.
 const DECIMALS: &str = r#"
-1 => 922337203685477580.7 => 922337203685477580.7
-1 => -922337203685477580.8 => -922337203685477580.8
-1 => 922337203685477580.8 => out of range
-18 => 9.223372036854775807 => 9.223372036854775807
-18 => -9.223372036854775808 => -9.223372036854775808
-18 => 9.223372036854775808 => out of range
-2 => 3.14 => 3.14
-2 => +3.1400 => 3.14
-2 => 10 => 10.0
-2 => -0.50 => -0.5
-2 => -0 => 0.0
-2 => 007.1 => 7.1
-2 => 3.141 => bad text
-2 => 3. => bad text
-2 => .5 => bad text
-2 => 1.2.3 => bad text
-2 => 1e3 => bad text
+1: 922337203685477580.7 => 922337203685477580.7
+1: -922337203685477580.8 => -922337203685477580.8
+1: 922337203685477580.8 => out of range
+18: 9.223372036854775807 => 9.223372036854775807
+18: -9.223372036854775808 => -9.223372036854775808
+18: 9.223372036854775808 => out of range
+2: 3.14 => 3.14
+2: +3.1400 => 3.14
+2: 10 => 10.0
+2: -0.50 => -0.5
+2: -0 => 0.0
+2: 007.1 => 7.1
+2: 3.141 => bad text
+2: 3. => bad text
+2: .5 => bad text
+2: 1.2.3 => bad text
+2: 1e3 => bad text
 "#;
 
 #[test]
 fn decimals(rt: HostRuntime) -> Result<(), Fail> {
-    check_numbers(&rt, rt.alloc(), DECIMALS)
+    check(&rt, rt.alloc(), &NumbersShown, DECIMALS)
 }
 
 // RFC 7950 sections 9.4.4, 9.5 and 9.11: a length counts characters, of 1 to 4 bytes.
@@ -185,22 +207,30 @@ True => bad text
 1 => bad text
 "#;
 
+const EMPTIES: &str = "
+ => 
+x => bad text
+";
+
 #[test]
 fn texts(rt: HostRuntime) -> Result<(), Fail> {
-    let string = limited(rt.alloc(), TypeKind::Text, &[(1, 4)])?;
-    check(&rt, rt.alloc(), &string, TEXTS)?;
-    let boolean = limited(rt.alloc(), TypeKind::Boolean, &[])?;
-    check(&rt, rt.alloc(), &boolean, BOOLEANS)?;
-    let empty = limited(rt.alloc(), TypeKind::Empty, &[])?;
-    check(&rt, rt.alloc(), &empty, "\n => \nx => bad text\n")
+    check_typed(&rt, rt.alloc(), TypeKind::Text, &[(1, 4)], TEXTS)?;
+    check_typed(&rt, rt.alloc(), TypeKind::Boolean, &[], BOOLEANS)?;
+    check_typed(&rt, rt.alloc(), TypeKind::Empty, &[], EMPTIES)
 }
 
-fn labels(alloc: Global, texts: &[&str]) -> Result<Vec<Label>, NoMemory> {
+// The words of a text.
+fn labels(alloc: Global, texts: &str) -> Result<Vec<Label>, NoMemory> {
     let mut all = Vec::new(alloc);
-    for text in texts {
+    for text in texts.split(' ') {
         all.push(Label::new(alloc, text)?)?;
     }
     Ok(all)
+}
+
+// The names that the words of a text are.
+fn names_of(alloc: Global, texts: &str) -> Result<Names, NoMemory> {
+    once(alloc, labels(alloc, texts)?)
 }
 
 // RFC 7950 section 9.6.4.
@@ -213,9 +243,8 @@ two => bad text
 
 #[test]
 fn names(rt: HostRuntime) -> Result<(), Fail> {
-    let names = once(rt.alloc(), labels(rt.alloc(), &["zero", "one"])?)?;
-    let enumeration = limited(rt.alloc(), TypeKind::Names(names), &[])?;
-    check(&rt, rt.alloc(), &enumeration, NAMES)
+    let names = names_of(rt.alloc(), "zero one")?;
+    check_typed(&rt, rt.alloc(), TypeKind::Names(names), &[], NAMES)
 }
 
 // Names that are each once; none, where one comes again.
@@ -241,10 +270,8 @@ other => bad text
 
 #[test]
 fn bits(rt: HostRuntime) -> Result<(), Fail> {
-    let all = ["disable-nagle", "auto-sense-speed", "ten-mb-only"];
-    let bits = once(rt.alloc(), labels(rt.alloc(), &all)?)?;
-    let flags = limited(rt.alloc(), TypeKind::Bits(bits), &[])?;
-    check(&rt, rt.alloc(), &flags, BITS)
+    let bits = names_of(rt.alloc(), "disable-nagle auto-sense-speed ten-mb-only")?;
+    check_typed(&rt, rt.alloc(), TypeKind::Bits(bits), &[], BITS)
 }
 
 fn keyed(alloc: Global, key: Value) -> Result<Chosen, NoMemory> {
@@ -296,9 +323,8 @@ fn step(alloc: Global, module: &str, name: &str, key: Key) -> Result<Step, NoMem
 fn path(alloc: Global, text: &str) -> Result<Path, NoMemory> {
     let (module, rest) = text.split_once(" ").unwrap_or((text, ""));
     let (word, names) = rest.split_once(" ").unwrap_or((rest, ""));
-    let names: Vec<&str> = names.split(' ').collect(alloc)?;
     let mut steps = Vec::new(alloc);
-    for name in &names {
+    for name in names.split(' ') {
         steps.push(step(alloc, module, name, key_of(word))?)?;
     }
     Ok(Path { steps })
@@ -306,13 +332,13 @@ fn path(alloc: Global, text: &str) -> Result<Path, NoMemory> {
 
 // Each path stands before the one beside it.
 const ORDER: &str = r#"
-a-b whole c => a whole c
-a whole c => a whole c b
-a whole c b => a whole d
-a whole c => a -9 c
-a 9 c => a 10 c
-a last c => a later c
-a false c => a true c
+a-b whole c < a whole c => true
+a whole c < a whole c b => true
+a whole c b < a whole d => true
+a whole c < a -9 c => true
+a 9 c < a 10 c => true
+a last c < a later c => true
+a false c < a true c => true
 "#;
 
 // Whether a path stands before another, isn't the same, and is the same as its copy.
@@ -323,20 +349,26 @@ fn is_before(alloc: Global, text: &str, other: &str) -> Result<bool, NoMemory> {
     Ok(one.cmp(&other) == Ordering::Less && !one.same(&other) && copy.same(&one))
 }
 
-#[test]
-fn path_order(rt: HostRuntime) -> Result<(), Fail> {
-    for row in ORDER.lines().skip(1) {
-        let (one, other) = row.split_once(" => ").ok_or("no row")?;
-        let found = is_before(rt.alloc(), one, other)?;
-        assert!(rt; found, "{row}");
+struct Orders;
+
+impl Tells for Orders {
+    fn tell(&self, alloc: Global, text: &str) -> Result<String, Fail> {
+        let (one, other) = text.split_once(" < ").ok_or("no path")?;
+        let found = is_before(alloc, one, other)?;
+        Ok(format!(in alloc; "{found}")?)
     }
-    Ok(())
 }
 
-// A path, a name more, and the path with a step of that name.
+#[test]
+fn path_order(rt: HostRuntime) -> Result<(), Fail> {
+    check(&rt, rt.alloc(), &Orders, ORDER)
+}
+
+// A path, a name more, and whether the path has a step of that name then; a path of no steps is `-`.
 const LONGER: &str = r#"
-a whole c => b => a whole c b
-a whole c b => c => a whole c b c
+a whole c, b, a whole c b => true
+a whole c b, c, a whole c b c => true
+-, c, a whole c => true
 "#;
 
 fn is_longer(alloc: Global, start: Path, name: &str, longer: &str) -> Result<bool, NoMemory> {
@@ -345,19 +377,27 @@ fn is_longer(alloc: Global, start: Path, name: &str, longer: &str) -> Result<boo
     Ok(made.same(&longer))
 }
 
+fn start(alloc: Global, text: &str) -> Result<Path, NoMemory> {
+    if text == "-" {
+        return Ok(Path {
+            steps: Vec::new(alloc),
+        });
+    }
+    path(alloc, text)
+}
+
+struct TellsLonger;
+
+impl Tells for TellsLonger {
+    fn tell(&self, alloc: Global, text: &str) -> Result<String, Fail> {
+        let (one, rest) = text.split_once(", ").ok_or("no path")?;
+        let (name, longer) = rest.split_once(", ").ok_or("no name")?;
+        let found = is_longer(alloc, start(alloc, one)?, name, longer)?;
+        Ok(format!(in alloc; "{found}")?)
+    }
+}
+
 #[test]
 fn longer_paths(rt: HostRuntime) -> Result<(), Fail> {
-    let alloc = rt.alloc();
-    for row in LONGER.lines().skip(1) {
-        let (text, rest) = row.split_once(" => ").ok_or("no row")?;
-        let (name, longer) = rest.split_once(" => ").ok_or("no row")?;
-        let found = is_longer(alloc, path(alloc, text)?, name, longer)?;
-        assert!(rt; found, "at {name}");
-    }
-    let top = Path {
-        steps: Vec::new(alloc),
-    };
-    let found = is_longer(alloc, top, "c", "a whole c")?;
-    assert!(rt; found);
-    Ok(())
+    check(&rt, rt.alloc(), &TellsLonger, LONGER)
 }

@@ -1,13 +1,13 @@
+use crate::modules::module_rows;
+use crate::rows::{Tells, check};
 use nm_base::{Label, NoMemory};
-use nm_schema_derive::Derived;
-use nm_schema_rows::{Flaw, Rows, Word, rows_of};
+use nm_schema_derive::Restrictions;
+use nm_schema_rows::{Flaw, Rows, Word};
 use nm_schema_typing::{
     Start, cycle_flaw, default_flaw, defaults_of, has_predicate, judgements_of, read_path,
     restrictions_of, type_flaw, type_graph, types_of,
 };
-use nm_yang::read_module;
 use std::alloc::{AllocError, Global};
-use std::process::Abort;
 use std::test::Fail;
 
 // Paths after RFC 7950 section 9.9.2 and the grammar of section 14: how far up, 9 for no path, and how many nodes.
@@ -41,23 +41,18 @@ fn path_text(alloc: Global, text: &str) -> Result<String, NoMemory> {
     Ok(format!(in alloc; "{ups} {count}")?)
 }
 
-#[test]
-fn paths_are_read(rt: HostRuntime) -> Result<(), Fail> {
-    for row in PATHS.lines().skip(1) {
-        let (text, expected) = row.split_once(" => ").ok_or("no row")?;
-        let found = path_text(rt.alloc(), text)?;
-        assert_eq!(rt; found.as_str(), expected, "{text}");
+struct TellsPaths;
+
+impl Tells for TellsPaths {
+    fn tell(&self, alloc: Global, text: &str) -> Result<String, Fail> {
+        Ok(path_text(alloc, text)?)
     }
-    assert!(rt; has_predicate("../a[k = current()/../k]/b"));
-    assert!(rt; !has_predicate("../a/b"));
-    Ok(())
 }
 
-// The rows of a module with these statements.
-fn rows_in(alloc: Global, within: &str) -> Result<Rows, Fail> {
-    let text = format!(in alloc; "module m {{ {within} }}")?;
-    let module = read_module(alloc, text.as_bytes())?;
-    Ok(rows_of(alloc, &[module])?)
+#[test]
+fn paths_are_read(rt: HostRuntime) -> Result<(), Fail> {
+    assert!(rt; has_predicate("../a[k = current()/../k]/b") && !has_predicate("../a/b"));
+    check(&rt, rt.alloc(), &TellsPaths, PATHS)
 }
 
 fn has_name(rows: &Rows, at: usize, word: Word, name: &Option<Label>) -> bool {
@@ -81,29 +76,39 @@ fn typedef_named(rows: &Rows, name: &Option<Label>) -> Option<usize> {
 fn typedefs_of(alloc: Global, rows: &Rows) -> Result<Vec<Option<usize>>, AllocError> {
     let mut typedefs = Vec::new(alloc);
     for at in 0..rows.len() {
-        match rows.row(at) {
-            None => typedefs.push(None)?,
-            Some(row) => {
-                if row.word.same(Word::Type) {
-                    typedefs.push(typedef_named(rows, &row.argument))?;
-                } else {
-                    typedefs.push(None)?;
-                }
-            }
-        }
+        typedefs.push(typedef_at(rows, at))?;
     }
     Ok(typedefs)
 }
 
-fn flaw_text(alloc: Global, flaw: &Flaw, place: u32) -> Result<String, AllocError> {
-    match flaw {
-        Flaw::Unsupported(name) => format!(in alloc; "unsupported {name} {place}"),
-        Flaw::Unknown(name) => format!(in alloc; "unknown {name} {place}"),
-        Flaw::Duplicate(name) => format!(in alloc; "duplicate {name} {place}"),
-        Flaw::BadReference(name) => format!(in alloc; "bad-reference {name} {place}"),
-        Flaw::BadArgument(name) => format!(in alloc; "bad-argument {name} {place}"),
-        Flaw::Cycle(name) => format!(in alloc; "cycle {name} {place}"),
+// The typedef that a row names, where it is a `type` statement.
+fn typedef_at(rows: &Rows, at: usize) -> Option<usize> {
+    match rows.row(at) {
+        None => None,
+        Some(row) => {
+            if row.word.same(Word::Type) {
+                return typedef_named(rows, &row.argument);
+            }
+            None
+        }
     }
+}
+
+// What a flaw is, and the name that has it.
+fn flaw_parts(flaw: &Flaw) -> (&'static str, &str) {
+    match flaw {
+        Flaw::Unsupported(name) => ("unsupported", name.as_str()),
+        Flaw::Unknown(name) => ("unknown", name.as_str()),
+        Flaw::Duplicate(name) => ("duplicate", name.as_str()),
+        Flaw::BadReference(name) => ("bad-reference", name.as_str()),
+        Flaw::BadArgument(name) => ("bad-argument", name.as_str()),
+        Flaw::Cycle(name) => ("cycle", name.as_str()),
+    }
+}
+
+fn flaw_text(alloc: Global, flaw: &Flaw, place: u32) -> Result<String, AllocError> {
+    let (word, name) = flaw_parts(flaw);
+    format!(in alloc; "{word} {name} {place}")
 }
 
 // The flaw of a row.
@@ -190,19 +195,22 @@ leaf a { type nothing; default x; } => none
 "#;
 
 fn flaw_in(alloc: Global, within: &str) -> Result<String, Fail> {
-    let rows = rows_in(alloc, within)?;
+    let rows = module_rows(alloc, within)?;
     let typedefs = typedefs_of(alloc, &rows)?;
     Ok(first_flaw(alloc, &rows, &typedefs)?)
 }
 
+struct TellsFlaws;
+
+impl Tells for TellsFlaws {
+    fn tell(&self, alloc: Global, text: &str) -> Result<String, Fail> {
+        flaw_in(alloc, text)
+    }
+}
+
 #[test]
 fn flaws_are_found(rt: HostRuntime) -> Result<(), Fail> {
-    for row in FLAWS.lines().skip(1) {
-        let (within, expected) = row.split_once(" => ").ok_or("no row")?;
-        let found = flaw_in(rt.alloc(), within)?;
-        assert_eq!(rt; found.as_str(), expected, "{within}");
-    }
-    Ok(())
+    check(&rt, rt.alloc(), &TellsFlaws, FLAWS)
 }
 
 // A row of a module: whether it has a type of its own, the row of its leafref's path, and its default.
@@ -229,72 +237,86 @@ fn leaf_text(
 }
 
 // RFC 7950 sections 7.3.4, 7.6.1 and 9.9: types and defaults come through typedefs. The first statement in the module is row 1.
-const LEAFS: &[(&str, &str)] = &[
-    ("leaf a { type int8; default 4; }", "true 0 4"),
-    (
-        "leaf a { type t; } typedef t { type int8; default 4; }",
-        "true 0 4",
-    ),
-    (
-        "leaf a { type t; default 5; } typedef t { type int8; default 4; }",
-        "true 0 5",
-    ),
-    (
-        "leaf a { type t; } typedef t { type u; } typedef u { type int8; default 4; }",
-        "true 0 4",
-    ),
-    ("leaf a { type leafref { path /b; } }", "false 3"),
-    (
-        "leaf a { type t; } typedef t { type leafref { path /b; } }",
-        "false 5",
-    ),
-    ("leaf a { type nothing; }", "false 0"),
-    ("leaf a { type decimal64; }", "false 0"),
-    ("container a;", "false 0"),
-];
+const LEAFS: &str = r#"
+leaf a { type int8; default 4; } => true 0 4
+leaf a { type t; } typedef t { type int8; default 4; } => true 0 4
+leaf a { type t; default 5; } typedef t { type int8; default 4; } => true 0 5
+leaf a { type t; } typedef t { type u; } typedef u { type int8; default 4; } => true 0 4
+leaf a { type leafref { path /b; } } => false 3
+leaf a { type t; } typedef t { type leafref { path /b; } } => false 5
+leaf a { type nothing; } => false 0
+leaf a { type decimal64; } => false 0
+container a; => false 0
+"#;
 
 fn leaf_in(alloc: Global, within: &str) -> Result<String, Fail> {
-    let rows = rows_in(alloc, within)?;
+    let rows = module_rows(alloc, within)?;
     let typedefs = typedefs_of(alloc, &rows)?;
     Ok(leaf_text(alloc, &rows, &typedefs, 1)?)
 }
 
+struct TellsLeafs;
+
+impl Tells for TellsLeafs {
+    fn tell(&self, alloc: Global, text: &str) -> Result<String, Fail> {
+        leaf_in(alloc, text)
+    }
+}
+
 #[test]
 fn leafs_have_types(rt: HostRuntime) -> Result<(), Fail> {
-    for (within, expected) in LEAFS {
-        let found = leaf_in(rt.alloc(), within)?;
-        assert_eq!(rt; found.as_str(), *expected, "{within}");
-    }
-    Ok(())
+    check(&rt, rt.alloc(), &TellsLeafs, LEAFS)
 }
 
-fn check_restrictions(rt: &impl Abort, alloc: Global, rows: &Rows) -> Result<(), Fail> {
-    let restrictions = restrictions_of(alloc, rows, 2)?;
-    assert!(rt; restrictions.digits.is_none());
-    assert!(rt; restrictions.range.is_some());
-    assert!(rt; restrictions.length.is_none());
-    assert_eq!(rt; restrictions.names.len(), 2);
-    assert_eq!(rt; restrictions.bits.len(), 1);
-    Ok(())
+// A typedef, and a leaf of it with restrictions in row 2.
+const RESTRICTING: &str =
+    "leaf a { type t { range 1; enum a; enum b; bit c; } } typedef t { type int8; }";
+
+fn restricting(alloc: Global) -> Result<Restrictions, Fail> {
+    let rows = module_rows(alloc, RESTRICTING)?;
+    Ok(restrictions_of(alloc, &rows, 2)?)
 }
 
-const NEXTS: [(usize, usize); 5] = [(0, 0), (1, 1), (2, 1), (7, 1), (8, 0)];
-
-fn check_nexts(rt: &impl Abort, graph: &[Vec<usize>]) {
-    for (at, expected) in &NEXTS {
-        let found = graph.get(*at).map(|nexts| nexts.len());
-        assert_eq!(rt; found, Some(*expected), "{at}");
-    }
-}
-
-// What stands in row 2, and where the rows lead (RFC 7950 section 7.4).
+// What stands in row 2 (RFC 7950 section 7.4).
 #[test]
 fn rows_are_read(rt: HostRuntime) -> Result<(), Fail> {
-    let within = "leaf a { type t { range 1; enum a; enum b; bit c; } } typedef t { type int8; }";
-    let rows = rows_in(rt.alloc(), within)?;
-    check_restrictions(&rt, rt.alloc(), &rows)?;
-    let typedefs = typedefs_of(rt.alloc(), &rows)?;
-    let graph = type_graph(rt.alloc(), &rows, &typedefs)?;
-    check_nexts(&rt, &graph);
+    let found = restricting(rt.alloc())?;
+    assert!(rt; found.digits.is_none() && found.range.is_some() && found.length.is_none());
+    assert!(rt; found.names.len() == 2 && found.bits.len() == 1);
     Ok(())
+}
+
+// A row, and to how many rows it leads.
+const NEXTS: &str = r#"
+0 => Some(0)
+1 => Some(1)
+2 => Some(1)
+7 => Some(1)
+8 => Some(0)
+"#;
+
+#[derive(Drop)]
+struct TellsNexts<'a> {
+    graph: &'a [Vec<usize>],
+}
+
+impl Tells for TellsNexts<'_> {
+    fn tell(&self, alloc: Global, text: &str) -> Result<String, Fail> {
+        let at = text.parse::<usize>()?;
+        let count = self.graph.get(at).map(|nexts| nexts.len());
+        Ok(format!(in alloc; "{count:?}")?)
+    }
+}
+
+fn restricting_graph(alloc: Global) -> Result<Vec<Vec<usize>>, Fail> {
+    let rows = module_rows(alloc, RESTRICTING)?;
+    let typedefs = typedefs_of(alloc, &rows)?;
+    Ok(type_graph(alloc, &rows, &typedefs)?)
+}
+
+// Where the rows lead (RFC 7950 section 7.4).
+#[test]
+fn rows_lead(rt: HostRuntime) -> Result<(), Fail> {
+    let graph = restricting_graph(rt.alloc())?;
+    check(&rt, rt.alloc(), &TellsNexts { graph: &graph }, NEXTS)
 }

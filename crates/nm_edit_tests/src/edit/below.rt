@@ -1,319 +1,53 @@
 //! What operations do below one another, under each default operation (RFC 6241 section 7.2).
 
-use super::Pair;
-use nm_edit::Operation;
-use nm_proto::DefaultOperation as Default;
-
-const MERGE: Option<Operation> = Some(Operation::Merge);
-
-const REPLACE: Option<Operation> = Some(Operation::Replace);
-
-const CREATE: Option<Operation> = Some(Operation::Create);
-
-const DELETE: Option<Operation> = Some(Operation::Delete);
-
-const REMOVE: Option<Operation> = Some(Operation::Remove);
-
 // The operation of an entry and that of a leaf in it: what is made where they are there with another leaf, and where they are not.
-pub static BELOW: &[Pair] = &[
-    (
-        Default::Merge,
-        None,
-        None,
-        r#"{"ex:sys":{"iface":[{"desc":"x","mtu":2,"name":"e0"}]}}"#,
-        r#"{"ex:sys":{"iface":[{"mtu":2,"name":"e0"}]}}"#,
-    ),
-    (
-        Default::Merge,
-        MERGE,
-        None,
-        r#"{"ex:sys":{"iface":[{"desc":"x","mtu":2,"name":"e0"}]}}"#,
-        r#"{"ex:sys":{"iface":[{"mtu":2,"name":"e0"}]}}"#,
-    ),
-    (
-        Default::Merge,
-        REPLACE,
-        None,
-        r#"{"ex:sys":{"iface":[{"mtu":2,"name":"e0"}]}}"#,
-        r#"{"ex:sys":{"iface":[{"mtu":2,"name":"e0"}]}}"#,
-    ),
-    (
-        Default::Merge,
-        CREATE,
-        None,
-        "data-exists /ex:sys/iface[name='e0']",
-        r#"{"ex:sys":{"iface":[{"mtu":2,"name":"e0"}]}}"#,
-    ),
-    (
-        Default::Merge,
-        DELETE,
-        None,
-        "{}",
-        "data-missing /ex:sys/iface[name='e0']",
-    ),
-    (Default::Merge, REMOVE, None, "{}", "{}"),
-    (
-        Default::Merge,
-        None,
-        MERGE,
-        r#"{"ex:sys":{"iface":[{"desc":"x","mtu":2,"name":"e0"}]}}"#,
-        r#"{"ex:sys":{"iface":[{"mtu":2,"name":"e0"}]}}"#,
-    ),
-    (
-        Default::Merge,
-        None,
-        REPLACE,
-        r#"{"ex:sys":{"iface":[{"desc":"x","mtu":2,"name":"e0"}]}}"#,
-        r#"{"ex:sys":{"iface":[{"mtu":2,"name":"e0"}]}}"#,
-    ),
-    (
-        Default::Merge,
-        None,
-        CREATE,
-        "data-exists /ex:sys/iface[name='e0']/mtu",
-        r#"{"ex:sys":{"iface":[{"mtu":2,"name":"e0"}]}}"#,
-    ),
-    (
-        Default::Merge,
-        None,
-        DELETE,
-        r#"{"ex:sys":{"iface":[{"desc":"x","name":"e0"}]}}"#,
-        "data-missing /ex:sys/iface[name='e0']/mtu",
-    ),
-    (
-        Default::Merge,
-        None,
-        REMOVE,
-        r#"{"ex:sys":{"iface":[{"desc":"x","name":"e0"}]}}"#,
-        r#"{"ex:sys":{"iface":[{"name":"e0"}]}}"#,
-    ),
-    (
-        Default::Merge,
-        MERGE,
-        REPLACE,
-        r#"{"ex:sys":{"iface":[{"desc":"x","mtu":2,"name":"e0"}]}}"#,
-        r#"{"ex:sys":{"iface":[{"mtu":2,"name":"e0"}]}}"#,
-    ),
-    (
-        Default::Merge,
-        MERGE,
-        CREATE,
-        "data-exists /ex:sys/iface[name='e0']/mtu",
-        r#"{"ex:sys":{"iface":[{"mtu":2,"name":"e0"}]}}"#,
-    ),
-    (
-        Default::Merge,
-        MERGE,
-        DELETE,
-        r#"{"ex:sys":{"iface":[{"desc":"x","name":"e0"}]}}"#,
-        "data-missing /ex:sys/iface[name='e0']/mtu",
-    ),
-    (
-        Default::Merge,
-        MERGE,
-        REMOVE,
-        r#"{"ex:sys":{"iface":[{"desc":"x","name":"e0"}]}}"#,
-        r#"{"ex:sys":{"iface":[{"name":"e0"}]}}"#,
-    ),
-    (
-        Default::Merge,
-        REPLACE,
-        MERGE,
-        r#"{"ex:sys":{"iface":[{"mtu":2,"name":"e0"}]}}"#,
-        r#"{"ex:sys":{"iface":[{"mtu":2,"name":"e0"}]}}"#,
-    ),
-    (
-        Default::Merge,
-        CREATE,
-        MERGE,
-        "data-exists /ex:sys/iface[name='e0']",
-        r#"{"ex:sys":{"iface":[{"mtu":2,"name":"e0"}]}}"#,
-    ),
-    (
-        Default::Merge,
-        DELETE,
-        MERGE,
-        "{}",
-        "data-missing /ex:sys/iface[name='e0']",
-    ),
-    (Default::Merge, REMOVE, MERGE, "{}", "{}"),
-    (
-        Default::Replace,
-        None,
-        None,
-        r#"{"ex:sys":{"iface":[{"mtu":2,"name":"e0"}]}}"#,
-        r#"{"ex:sys":{"iface":[{"mtu":2,"name":"e0"}]}}"#,
-    ),
-    (
-        Default::Replace,
-        MERGE,
-        None,
-        r#"{"ex:sys":{"iface":[{"mtu":2,"name":"e0"}]}}"#,
-        r#"{"ex:sys":{"iface":[{"mtu":2,"name":"e0"}]}}"#,
-    ),
-    (
-        Default::Replace,
-        REPLACE,
-        None,
-        r#"{"ex:sys":{"iface":[{"mtu":2,"name":"e0"}]}}"#,
-        r#"{"ex:sys":{"iface":[{"mtu":2,"name":"e0"}]}}"#,
-    ),
-    (
-        Default::Replace,
-        CREATE,
-        None,
-        "data-exists /ex:sys/iface[name='e0']",
-        r#"{"ex:sys":{"iface":[{"mtu":2,"name":"e0"}]}}"#,
-    ),
-    (
-        Default::Replace,
-        DELETE,
-        None,
-        "{}",
-        "data-missing /ex:sys/iface[name='e0']",
-    ),
-    (Default::Replace, REMOVE, None, "{}", "{}"),
-    (
-        Default::Replace,
-        None,
-        MERGE,
-        r#"{"ex:sys":{"iface":[{"mtu":2,"name":"e0"}]}}"#,
-        r#"{"ex:sys":{"iface":[{"mtu":2,"name":"e0"}]}}"#,
-    ),
-    (
-        Default::Replace,
-        None,
-        REPLACE,
-        r#"{"ex:sys":{"iface":[{"mtu":2,"name":"e0"}]}}"#,
-        r#"{"ex:sys":{"iface":[{"mtu":2,"name":"e0"}]}}"#,
-    ),
-    (
-        Default::Replace,
-        None,
-        CREATE,
-        "data-exists /ex:sys/iface[name='e0']/mtu",
-        r#"{"ex:sys":{"iface":[{"mtu":2,"name":"e0"}]}}"#,
-    ),
-    (
-        Default::Replace,
-        None,
-        DELETE,
-        r#"{"ex:sys":{"iface":[{"name":"e0"}]}}"#,
-        "data-missing /ex:sys/iface[name='e0']/mtu",
-    ),
-    (
-        Default::Replace,
-        None,
-        REMOVE,
-        r#"{"ex:sys":{"iface":[{"name":"e0"}]}}"#,
-        r#"{"ex:sys":{"iface":[{"name":"e0"}]}}"#,
-    ),
-    (
-        Default::Replace,
-        MERGE,
-        REMOVE,
-        r#"{"ex:sys":{"iface":[{"name":"e0"}]}}"#,
-        r#"{"ex:sys":{"iface":[{"name":"e0"}]}}"#,
-    ),
-    (Default::Replace, REMOVE, MERGE, "{}", "{}"),
-    (
-        Default::Nothing,
-        None,
-        None,
-        r#"{"ex:sys":{"iface":[{"desc":"x","mtu":1,"name":"e0"}]}}"#,
-        "data-missing /ex:sys/iface[name='e0']",
-    ),
-    (
-        Default::Nothing,
-        MERGE,
-        None,
-        r#"{"ex:sys":{"iface":[{"desc":"x","mtu":2,"name":"e0"}]}}"#,
-        r#"{"ex:sys":{"iface":[{"mtu":2,"name":"e0"}]}}"#,
-    ),
-    (
-        Default::Nothing,
-        REPLACE,
-        None,
-        r#"{"ex:sys":{"iface":[{"mtu":2,"name":"e0"}]}}"#,
-        r#"{"ex:sys":{"iface":[{"mtu":2,"name":"e0"}]}}"#,
-    ),
-    (
-        Default::Nothing,
-        CREATE,
-        None,
-        "data-exists /ex:sys/iface[name='e0']",
-        r#"{"ex:sys":{"iface":[{"mtu":2,"name":"e0"}]}}"#,
-    ),
-    (
-        Default::Nothing,
-        DELETE,
-        None,
-        "{}",
-        "data-missing /ex:sys/iface[name='e0']",
-    ),
-    (Default::Nothing, REMOVE, None, "{}", "{}"),
-    (
-        Default::Nothing,
-        None,
-        MERGE,
-        r#"{"ex:sys":{"iface":[{"desc":"x","mtu":2,"name":"e0"}]}}"#,
-        "data-missing /ex:sys/iface[name='e0']",
-    ),
-    (
-        Default::Nothing,
-        None,
-        REPLACE,
-        r#"{"ex:sys":{"iface":[{"desc":"x","mtu":2,"name":"e0"}]}}"#,
-        "data-missing /ex:sys/iface[name='e0']",
-    ),
-    (
-        Default::Nothing,
-        None,
-        CREATE,
-        "data-exists /ex:sys/iface[name='e0']/mtu",
-        "data-missing /ex:sys/iface[name='e0']",
-    ),
-    (
-        Default::Nothing,
-        None,
-        DELETE,
-        r#"{"ex:sys":{"iface":[{"desc":"x","name":"e0"}]}}"#,
-        "data-missing /ex:sys/iface[name='e0']",
-    ),
-    (
-        Default::Nothing,
-        None,
-        REMOVE,
-        r#"{"ex:sys":{"iface":[{"desc":"x","name":"e0"}]}}"#,
-        "data-missing /ex:sys/iface[name='e0']",
-    ),
-    (
-        Default::Nothing,
-        MERGE,
-        DELETE,
-        r#"{"ex:sys":{"iface":[{"desc":"x","name":"e0"}]}}"#,
-        "data-missing /ex:sys/iface[name='e0']/mtu",
-    ),
-    (
-        Default::Nothing,
-        MERGE,
-        REMOVE,
-        r#"{"ex:sys":{"iface":[{"desc":"x","name":"e0"}]}}"#,
-        r#"{"ex:sys":{"iface":[{"name":"e0"}]}}"#,
-    ),
-    (
-        Default::Nothing,
-        REPLACE,
-        MERGE,
-        r#"{"ex:sys":{"iface":[{"mtu":2,"name":"e0"}]}}"#,
-        r#"{"ex:sys":{"iface":[{"mtu":2,"name":"e0"}]}}"#,
-    ),
-    (
-        Default::Nothing,
-        DELETE,
-        MERGE,
-        "{}",
-        "data-missing /ex:sys/iface[name='e0']",
-    ),
-    (Default::Nothing, REMOVE, MERGE, "{}", "{}"),
-];
+pub const BELOW: &str = r#"
+merge - - => {"ex:sys":{"iface":[{"desc":"x","mtu":2,"name":"e0"}]}} => {"ex:sys":{"iface":[{"mtu":2,"name":"e0"}]}}
+merge merge - => {"ex:sys":{"iface":[{"desc":"x","mtu":2,"name":"e0"}]}} => {"ex:sys":{"iface":[{"mtu":2,"name":"e0"}]}}
+merge replace - => {"ex:sys":{"iface":[{"mtu":2,"name":"e0"}]}} => {"ex:sys":{"iface":[{"mtu":2,"name":"e0"}]}}
+merge create - => data-exists /ex:sys/iface[name='e0'] => {"ex:sys":{"iface":[{"mtu":2,"name":"e0"}]}}
+merge delete - => {} => data-missing /ex:sys/iface[name='e0']
+merge remove - => {} => {}
+merge - merge => {"ex:sys":{"iface":[{"desc":"x","mtu":2,"name":"e0"}]}} => {"ex:sys":{"iface":[{"mtu":2,"name":"e0"}]}}
+merge - replace => {"ex:sys":{"iface":[{"desc":"x","mtu":2,"name":"e0"}]}} => {"ex:sys":{"iface":[{"mtu":2,"name":"e0"}]}}
+merge - create => data-exists /ex:sys/iface[name='e0']/mtu => {"ex:sys":{"iface":[{"mtu":2,"name":"e0"}]}}
+merge - delete => {"ex:sys":{"iface":[{"desc":"x","name":"e0"}]}} => data-missing /ex:sys/iface[name='e0']/mtu
+merge - remove => {"ex:sys":{"iface":[{"desc":"x","name":"e0"}]}} => {"ex:sys":{"iface":[{"name":"e0"}]}}
+merge merge replace => {"ex:sys":{"iface":[{"desc":"x","mtu":2,"name":"e0"}]}} => {"ex:sys":{"iface":[{"mtu":2,"name":"e0"}]}}
+merge merge create => data-exists /ex:sys/iface[name='e0']/mtu => {"ex:sys":{"iface":[{"mtu":2,"name":"e0"}]}}
+merge merge delete => {"ex:sys":{"iface":[{"desc":"x","name":"e0"}]}} => data-missing /ex:sys/iface[name='e0']/mtu
+merge merge remove => {"ex:sys":{"iface":[{"desc":"x","name":"e0"}]}} => {"ex:sys":{"iface":[{"name":"e0"}]}}
+merge replace merge => {"ex:sys":{"iface":[{"mtu":2,"name":"e0"}]}} => {"ex:sys":{"iface":[{"mtu":2,"name":"e0"}]}}
+merge create merge => data-exists /ex:sys/iface[name='e0'] => {"ex:sys":{"iface":[{"mtu":2,"name":"e0"}]}}
+merge delete merge => {} => data-missing /ex:sys/iface[name='e0']
+merge remove merge => {} => {}
+replace - - => {"ex:sys":{"iface":[{"mtu":2,"name":"e0"}]}} => {"ex:sys":{"iface":[{"mtu":2,"name":"e0"}]}}
+replace merge - => {"ex:sys":{"iface":[{"mtu":2,"name":"e0"}]}} => {"ex:sys":{"iface":[{"mtu":2,"name":"e0"}]}}
+replace replace - => {"ex:sys":{"iface":[{"mtu":2,"name":"e0"}]}} => {"ex:sys":{"iface":[{"mtu":2,"name":"e0"}]}}
+replace create - => data-exists /ex:sys/iface[name='e0'] => {"ex:sys":{"iface":[{"mtu":2,"name":"e0"}]}}
+replace delete - => {} => data-missing /ex:sys/iface[name='e0']
+replace remove - => {} => {}
+replace - merge => {"ex:sys":{"iface":[{"mtu":2,"name":"e0"}]}} => {"ex:sys":{"iface":[{"mtu":2,"name":"e0"}]}}
+replace - replace => {"ex:sys":{"iface":[{"mtu":2,"name":"e0"}]}} => {"ex:sys":{"iface":[{"mtu":2,"name":"e0"}]}}
+replace - create => data-exists /ex:sys/iface[name='e0']/mtu => {"ex:sys":{"iface":[{"mtu":2,"name":"e0"}]}}
+replace - delete => {"ex:sys":{"iface":[{"name":"e0"}]}} => data-missing /ex:sys/iface[name='e0']/mtu
+replace - remove => {"ex:sys":{"iface":[{"name":"e0"}]}} => {"ex:sys":{"iface":[{"name":"e0"}]}}
+replace merge remove => {"ex:sys":{"iface":[{"name":"e0"}]}} => {"ex:sys":{"iface":[{"name":"e0"}]}}
+replace remove merge => {} => {}
+none - - => {"ex:sys":{"iface":[{"desc":"x","mtu":1,"name":"e0"}]}} => data-missing /ex:sys/iface[name='e0']
+none merge - => {"ex:sys":{"iface":[{"desc":"x","mtu":2,"name":"e0"}]}} => {"ex:sys":{"iface":[{"mtu":2,"name":"e0"}]}}
+none replace - => {"ex:sys":{"iface":[{"mtu":2,"name":"e0"}]}} => {"ex:sys":{"iface":[{"mtu":2,"name":"e0"}]}}
+none create - => data-exists /ex:sys/iface[name='e0'] => {"ex:sys":{"iface":[{"mtu":2,"name":"e0"}]}}
+none delete - => {} => data-missing /ex:sys/iface[name='e0']
+none remove - => {} => {}
+none - merge => {"ex:sys":{"iface":[{"desc":"x","mtu":2,"name":"e0"}]}} => data-missing /ex:sys/iface[name='e0']
+none - replace => {"ex:sys":{"iface":[{"desc":"x","mtu":2,"name":"e0"}]}} => data-missing /ex:sys/iface[name='e0']
+none - create => data-exists /ex:sys/iface[name='e0']/mtu => data-missing /ex:sys/iface[name='e0']
+none - delete => {"ex:sys":{"iface":[{"desc":"x","name":"e0"}]}} => data-missing /ex:sys/iface[name='e0']
+none - remove => {"ex:sys":{"iface":[{"desc":"x","name":"e0"}]}} => data-missing /ex:sys/iface[name='e0']
+none merge delete => {"ex:sys":{"iface":[{"desc":"x","name":"e0"}]}} => data-missing /ex:sys/iface[name='e0']/mtu
+none merge remove => {"ex:sys":{"iface":[{"desc":"x","name":"e0"}]}} => {"ex:sys":{"iface":[{"name":"e0"}]}}
+none replace merge => {"ex:sys":{"iface":[{"mtu":2,"name":"e0"}]}} => {"ex:sys":{"iface":[{"mtu":2,"name":"e0"}]}}
+none delete merge => {} => data-missing /ex:sys/iface[name='e0']
+none remove merge => {} => {}
+"#;

@@ -1,515 +1,112 @@
-//! What each operation does to each kind of node, under each default operation (RFC 6241 section 7.2).
-
-use super::Row;
-use nm_edit::Operation;
-use nm_proto::DefaultOperation as Default;
-
-const MERGE: Option<Operation> = Some(Operation::Merge);
-
-const REPLACE: Option<Operation> = Some(Operation::Replace);
-
-const CREATE: Option<Operation> = Some(Operation::Create);
-
-const DELETE: Option<Operation> = Some(Operation::Delete);
-
-const REMOVE: Option<Operation> = Some(Operation::Remove);
+//! What each operation does to each kind of node, under each default operation (RFC 6241 section 7.2): the default operation, what is
+//! said of the node, what is made where it is there, and what is made where it isn't.
 
 // A leaf: what is made where it is there, and where it is not.
-pub static LEAF: &[Row] = &[
-    (
-        Default::Merge,
-        None,
-        r#"{"ex:sys":{"dns":["d"],"host":"b"}}"#,
-        r#"{"ex:sys":{"dns":["d"],"host":"b"}}"#,
-    ),
-    (
-        Default::Merge,
-        MERGE,
-        r#"{"ex:sys":{"dns":["d"],"host":"b"}}"#,
-        r#"{"ex:sys":{"dns":["d"],"host":"b"}}"#,
-    ),
-    (
-        Default::Merge,
-        REPLACE,
-        r#"{"ex:sys":{"dns":["d"],"host":"b"}}"#,
-        r#"{"ex:sys":{"dns":["d"],"host":"b"}}"#,
-    ),
-    (
-        Default::Merge,
-        CREATE,
-        "data-exists /ex:sys/host",
-        r#"{"ex:sys":{"dns":["d"],"host":"b"}}"#,
-    ),
-    (
-        Default::Merge,
-        DELETE,
-        r#"{"ex:sys":{"dns":["d"]}}"#,
-        "data-missing /ex:sys/host",
-    ),
-    (
-        Default::Merge,
-        REMOVE,
-        r#"{"ex:sys":{"dns":["d"]}}"#,
-        r#"{"ex:sys":{"dns":["d"]}}"#,
-    ),
-    (
-        Default::Replace,
-        None,
-        r#"{"ex:sys":{"host":"b"}}"#,
-        r#"{"ex:sys":{"host":"b"}}"#,
-    ),
-    (
-        Default::Replace,
-        MERGE,
-        r#"{"ex:sys":{"host":"b"}}"#,
-        r#"{"ex:sys":{"host":"b"}}"#,
-    ),
-    (
-        Default::Replace,
-        REPLACE,
-        r#"{"ex:sys":{"host":"b"}}"#,
-        r#"{"ex:sys":{"host":"b"}}"#,
-    ),
-    (
-        Default::Replace,
-        CREATE,
-        "data-exists /ex:sys/host",
-        r#"{"ex:sys":{"host":"b"}}"#,
-    ),
-    (Default::Replace, DELETE, "{}", "data-missing /ex:sys/host"),
-    (Default::Replace, REMOVE, "{}", "{}"),
-    (
-        Default::Nothing,
-        None,
-        r#"{"ex:sys":{"dns":["d"],"host":"a"}}"#,
-        "data-missing /ex:sys/host",
-    ),
-    (
-        Default::Nothing,
-        MERGE,
-        r#"{"ex:sys":{"dns":["d"],"host":"b"}}"#,
-        r#"{"ex:sys":{"dns":["d"],"host":"b"}}"#,
-    ),
-    (
-        Default::Nothing,
-        REPLACE,
-        r#"{"ex:sys":{"dns":["d"],"host":"b"}}"#,
-        r#"{"ex:sys":{"dns":["d"],"host":"b"}}"#,
-    ),
-    (
-        Default::Nothing,
-        CREATE,
-        "data-exists /ex:sys/host",
-        r#"{"ex:sys":{"dns":["d"],"host":"b"}}"#,
-    ),
-    (
-        Default::Nothing,
-        DELETE,
-        r#"{"ex:sys":{"dns":["d"]}}"#,
-        "data-missing /ex:sys/host",
-    ),
-    (
-        Default::Nothing,
-        REMOVE,
-        r#"{"ex:sys":{"dns":["d"]}}"#,
-        r#"{"ex:sys":{"dns":["d"]}}"#,
-    ),
-];
+pub const LEAF: &str = r#"
+merge - => {"ex:sys":{"dns":["d"],"host":"b"}} => {"ex:sys":{"dns":["d"],"host":"b"}}
+merge merge => {"ex:sys":{"dns":["d"],"host":"b"}} => {"ex:sys":{"dns":["d"],"host":"b"}}
+merge replace => {"ex:sys":{"dns":["d"],"host":"b"}} => {"ex:sys":{"dns":["d"],"host":"b"}}
+merge create => data-exists /ex:sys/host => {"ex:sys":{"dns":["d"],"host":"b"}}
+merge delete => {"ex:sys":{"dns":["d"]}} => data-missing /ex:sys/host
+merge remove => {"ex:sys":{"dns":["d"]}} => {"ex:sys":{"dns":["d"]}}
+replace - => {"ex:sys":{"host":"b"}} => {"ex:sys":{"host":"b"}}
+replace merge => {"ex:sys":{"host":"b"}} => {"ex:sys":{"host":"b"}}
+replace replace => {"ex:sys":{"host":"b"}} => {"ex:sys":{"host":"b"}}
+replace create => data-exists /ex:sys/host => {"ex:sys":{"host":"b"}}
+replace delete => {} => data-missing /ex:sys/host
+replace remove => {} => {}
+none - => {"ex:sys":{"dns":["d"],"host":"a"}} => data-missing /ex:sys/host
+none merge => {"ex:sys":{"dns":["d"],"host":"b"}} => {"ex:sys":{"dns":["d"],"host":"b"}}
+none replace => {"ex:sys":{"dns":["d"],"host":"b"}} => {"ex:sys":{"dns":["d"],"host":"b"}}
+none create => data-exists /ex:sys/host => {"ex:sys":{"dns":["d"],"host":"b"}}
+none delete => {"ex:sys":{"dns":["d"]}} => data-missing /ex:sys/host
+none remove => {"ex:sys":{"dns":["d"]}} => {"ex:sys":{"dns":["d"]}}
+"#;
 
 // An entry of a list, which has a leaf where it is there.
-pub static ENTRY: &[Row] = &[
-    (
-        Default::Merge,
-        None,
-        r#"{"ex:sys":{"dns":["d"],"iface":[{"mtu":1,"name":"e0"}]}}"#,
-        r#"{"ex:sys":{"dns":["d"],"iface":[{"name":"e0"}]}}"#,
-    ),
-    (
-        Default::Merge,
-        MERGE,
-        r#"{"ex:sys":{"dns":["d"],"iface":[{"mtu":1,"name":"e0"}]}}"#,
-        r#"{"ex:sys":{"dns":["d"],"iface":[{"name":"e0"}]}}"#,
-    ),
-    (
-        Default::Merge,
-        REPLACE,
-        r#"{"ex:sys":{"dns":["d"],"iface":[{"name":"e0"}]}}"#,
-        r#"{"ex:sys":{"dns":["d"],"iface":[{"name":"e0"}]}}"#,
-    ),
-    (
-        Default::Merge,
-        CREATE,
-        "data-exists /ex:sys/iface[name='e0']",
-        r#"{"ex:sys":{"dns":["d"],"iface":[{"name":"e0"}]}}"#,
-    ),
-    (
-        Default::Merge,
-        DELETE,
-        r#"{"ex:sys":{"dns":["d"]}}"#,
-        "data-missing /ex:sys/iface[name='e0']",
-    ),
-    (
-        Default::Merge,
-        REMOVE,
-        r#"{"ex:sys":{"dns":["d"]}}"#,
-        r#"{"ex:sys":{"dns":["d"]}}"#,
-    ),
-    (
-        Default::Replace,
-        None,
-        r#"{"ex:sys":{"iface":[{"name":"e0"}]}}"#,
-        r#"{"ex:sys":{"iface":[{"name":"e0"}]}}"#,
-    ),
-    (
-        Default::Replace,
-        MERGE,
-        r#"{"ex:sys":{"iface":[{"name":"e0"}]}}"#,
-        r#"{"ex:sys":{"iface":[{"name":"e0"}]}}"#,
-    ),
-    (
-        Default::Replace,
-        REPLACE,
-        r#"{"ex:sys":{"iface":[{"name":"e0"}]}}"#,
-        r#"{"ex:sys":{"iface":[{"name":"e0"}]}}"#,
-    ),
-    (
-        Default::Replace,
-        CREATE,
-        "data-exists /ex:sys/iface[name='e0']",
-        r#"{"ex:sys":{"iface":[{"name":"e0"}]}}"#,
-    ),
-    (
-        Default::Replace,
-        DELETE,
-        "{}",
-        "data-missing /ex:sys/iface[name='e0']",
-    ),
-    (Default::Replace, REMOVE, "{}", "{}"),
-    (
-        Default::Nothing,
-        None,
-        r#"{"ex:sys":{"dns":["d"],"iface":[{"mtu":1,"name":"e0"}]}}"#,
-        "data-missing /ex:sys/iface[name='e0']",
-    ),
-    (
-        Default::Nothing,
-        MERGE,
-        r#"{"ex:sys":{"dns":["d"],"iface":[{"mtu":1,"name":"e0"}]}}"#,
-        r#"{"ex:sys":{"dns":["d"],"iface":[{"name":"e0"}]}}"#,
-    ),
-    (
-        Default::Nothing,
-        REPLACE,
-        r#"{"ex:sys":{"dns":["d"],"iface":[{"name":"e0"}]}}"#,
-        r#"{"ex:sys":{"dns":["d"],"iface":[{"name":"e0"}]}}"#,
-    ),
-    (
-        Default::Nothing,
-        CREATE,
-        "data-exists /ex:sys/iface[name='e0']",
-        r#"{"ex:sys":{"dns":["d"],"iface":[{"name":"e0"}]}}"#,
-    ),
-    (
-        Default::Nothing,
-        DELETE,
-        r#"{"ex:sys":{"dns":["d"]}}"#,
-        "data-missing /ex:sys/iface[name='e0']",
-    ),
-    (
-        Default::Nothing,
-        REMOVE,
-        r#"{"ex:sys":{"dns":["d"]}}"#,
-        r#"{"ex:sys":{"dns":["d"]}}"#,
-    ),
-];
+pub const ENTRY: &str = r#"
+merge - => {"ex:sys":{"dns":["d"],"iface":[{"mtu":1,"name":"e0"}]}} => {"ex:sys":{"dns":["d"],"iface":[{"name":"e0"}]}}
+merge merge => {"ex:sys":{"dns":["d"],"iface":[{"mtu":1,"name":"e0"}]}} => {"ex:sys":{"dns":["d"],"iface":[{"name":"e0"}]}}
+merge replace => {"ex:sys":{"dns":["d"],"iface":[{"name":"e0"}]}} => {"ex:sys":{"dns":["d"],"iface":[{"name":"e0"}]}}
+merge create => data-exists /ex:sys/iface[name='e0'] => {"ex:sys":{"dns":["d"],"iface":[{"name":"e0"}]}}
+merge delete => {"ex:sys":{"dns":["d"]}} => data-missing /ex:sys/iface[name='e0']
+merge remove => {"ex:sys":{"dns":["d"]}} => {"ex:sys":{"dns":["d"]}}
+replace - => {"ex:sys":{"iface":[{"name":"e0"}]}} => {"ex:sys":{"iface":[{"name":"e0"}]}}
+replace merge => {"ex:sys":{"iface":[{"name":"e0"}]}} => {"ex:sys":{"iface":[{"name":"e0"}]}}
+replace replace => {"ex:sys":{"iface":[{"name":"e0"}]}} => {"ex:sys":{"iface":[{"name":"e0"}]}}
+replace create => data-exists /ex:sys/iface[name='e0'] => {"ex:sys":{"iface":[{"name":"e0"}]}}
+replace delete => {} => data-missing /ex:sys/iface[name='e0']
+replace remove => {} => {}
+none - => {"ex:sys":{"dns":["d"],"iface":[{"mtu":1,"name":"e0"}]}} => data-missing /ex:sys/iface[name='e0']
+none merge => {"ex:sys":{"dns":["d"],"iface":[{"mtu":1,"name":"e0"}]}} => {"ex:sys":{"dns":["d"],"iface":[{"name":"e0"}]}}
+none replace => {"ex:sys":{"dns":["d"],"iface":[{"name":"e0"}]}} => {"ex:sys":{"dns":["d"],"iface":[{"name":"e0"}]}}
+none create => data-exists /ex:sys/iface[name='e0'] => {"ex:sys":{"dns":["d"],"iface":[{"name":"e0"}]}}
+none delete => {"ex:sys":{"dns":["d"]}} => data-missing /ex:sys/iface[name='e0']
+none remove => {"ex:sys":{"dns":["d"]}} => {"ex:sys":{"dns":["d"]}}
+"#;
 
 // An entry of a leaf-list, which has another entry.
-pub static VALUE: &[Row] = &[
-    (
-        Default::Merge,
-        None,
-        r#"{"ex:sys":{"dns":["d","e"]}}"#,
-        r#"{"ex:sys":{"dns":["d","e"]}}"#,
-    ),
-    (
-        Default::Merge,
-        MERGE,
-        r#"{"ex:sys":{"dns":["d","e"]}}"#,
-        r#"{"ex:sys":{"dns":["d","e"]}}"#,
-    ),
-    (
-        Default::Merge,
-        REPLACE,
-        r#"{"ex:sys":{"dns":["d","e"]}}"#,
-        r#"{"ex:sys":{"dns":["d","e"]}}"#,
-    ),
-    (
-        Default::Merge,
-        CREATE,
-        "data-exists /ex:sys/dns[.='e']",
-        r#"{"ex:sys":{"dns":["d","e"]}}"#,
-    ),
-    (
-        Default::Merge,
-        DELETE,
-        r#"{"ex:sys":{"dns":["d"]}}"#,
-        "data-missing /ex:sys/dns[.='e']",
-    ),
-    (
-        Default::Merge,
-        REMOVE,
-        r#"{"ex:sys":{"dns":["d"]}}"#,
-        r#"{"ex:sys":{"dns":["d"]}}"#,
-    ),
-    (
-        Default::Replace,
-        None,
-        r#"{"ex:sys":{"dns":["e"]}}"#,
-        r#"{"ex:sys":{"dns":["e"]}}"#,
-    ),
-    (
-        Default::Replace,
-        MERGE,
-        r#"{"ex:sys":{"dns":["e"]}}"#,
-        r#"{"ex:sys":{"dns":["e"]}}"#,
-    ),
-    (
-        Default::Replace,
-        REPLACE,
-        r#"{"ex:sys":{"dns":["e"]}}"#,
-        r#"{"ex:sys":{"dns":["e"]}}"#,
-    ),
-    (
-        Default::Replace,
-        CREATE,
-        "data-exists /ex:sys/dns[.='e']",
-        r#"{"ex:sys":{"dns":["e"]}}"#,
-    ),
-    (
-        Default::Replace,
-        DELETE,
-        "{}",
-        "data-missing /ex:sys/dns[.='e']",
-    ),
-    (Default::Replace, REMOVE, "{}", "{}"),
-    (
-        Default::Nothing,
-        None,
-        r#"{"ex:sys":{"dns":["d","e"]}}"#,
-        "data-missing /ex:sys/dns[.='e']",
-    ),
-    (
-        Default::Nothing,
-        MERGE,
-        r#"{"ex:sys":{"dns":["d","e"]}}"#,
-        r#"{"ex:sys":{"dns":["d","e"]}}"#,
-    ),
-    (
-        Default::Nothing,
-        REPLACE,
-        r#"{"ex:sys":{"dns":["d","e"]}}"#,
-        r#"{"ex:sys":{"dns":["d","e"]}}"#,
-    ),
-    (
-        Default::Nothing,
-        CREATE,
-        "data-exists /ex:sys/dns[.='e']",
-        r#"{"ex:sys":{"dns":["d","e"]}}"#,
-    ),
-    (
-        Default::Nothing,
-        DELETE,
-        r#"{"ex:sys":{"dns":["d"]}}"#,
-        "data-missing /ex:sys/dns[.='e']",
-    ),
-    (
-        Default::Nothing,
-        REMOVE,
-        r#"{"ex:sys":{"dns":["d"]}}"#,
-        r#"{"ex:sys":{"dns":["d"]}}"#,
-    ),
-];
+pub const VALUE: &str = r#"
+merge - => {"ex:sys":{"dns":["d","e"]}} => {"ex:sys":{"dns":["d","e"]}}
+merge merge => {"ex:sys":{"dns":["d","e"]}} => {"ex:sys":{"dns":["d","e"]}}
+merge replace => {"ex:sys":{"dns":["d","e"]}} => {"ex:sys":{"dns":["d","e"]}}
+merge create => data-exists /ex:sys/dns[.='e'] => {"ex:sys":{"dns":["d","e"]}}
+merge delete => {"ex:sys":{"dns":["d"]}} => data-missing /ex:sys/dns[.='e']
+merge remove => {"ex:sys":{"dns":["d"]}} => {"ex:sys":{"dns":["d"]}}
+replace - => {"ex:sys":{"dns":["e"]}} => {"ex:sys":{"dns":["e"]}}
+replace merge => {"ex:sys":{"dns":["e"]}} => {"ex:sys":{"dns":["e"]}}
+replace replace => {"ex:sys":{"dns":["e"]}} => {"ex:sys":{"dns":["e"]}}
+replace create => data-exists /ex:sys/dns[.='e'] => {"ex:sys":{"dns":["e"]}}
+replace delete => {} => data-missing /ex:sys/dns[.='e']
+replace remove => {} => {}
+none - => {"ex:sys":{"dns":["d","e"]}} => data-missing /ex:sys/dns[.='e']
+none merge => {"ex:sys":{"dns":["d","e"]}} => {"ex:sys":{"dns":["d","e"]}}
+none replace => {"ex:sys":{"dns":["d","e"]}} => {"ex:sys":{"dns":["d","e"]}}
+none create => data-exists /ex:sys/dns[.='e'] => {"ex:sys":{"dns":["d","e"]}}
+none delete => {"ex:sys":{"dns":["d"]}} => data-missing /ex:sys/dns[.='e']
+none remove => {"ex:sys":{"dns":["d"]}} => {"ex:sys":{"dns":["d"]}}
+"#;
 
 // A container with presence, which has a leaf where it is there.
-pub static PRESENCE: &[Row] = &[
-    (
-        Default::Merge,
-        None,
-        r#"{"ex:sys":{"dns":["d"],"log":{"level":"x"}}}"#,
-        r#"{"ex:sys":{"dns":["d"],"log":{}}}"#,
-    ),
-    (
-        Default::Merge,
-        MERGE,
-        r#"{"ex:sys":{"dns":["d"],"log":{"level":"x"}}}"#,
-        r#"{"ex:sys":{"dns":["d"],"log":{}}}"#,
-    ),
-    (
-        Default::Merge,
-        REPLACE,
-        r#"{"ex:sys":{"dns":["d"],"log":{}}}"#,
-        r#"{"ex:sys":{"dns":["d"],"log":{}}}"#,
-    ),
-    (
-        Default::Merge,
-        CREATE,
-        "data-exists /ex:sys/log",
-        r#"{"ex:sys":{"dns":["d"],"log":{}}}"#,
-    ),
-    (
-        Default::Merge,
-        DELETE,
-        r#"{"ex:sys":{"dns":["d"]}}"#,
-        "data-missing /ex:sys/log",
-    ),
-    (
-        Default::Merge,
-        REMOVE,
-        r#"{"ex:sys":{"dns":["d"]}}"#,
-        r#"{"ex:sys":{"dns":["d"]}}"#,
-    ),
-    (
-        Default::Replace,
-        None,
-        r#"{"ex:sys":{"log":{}}}"#,
-        r#"{"ex:sys":{"log":{}}}"#,
-    ),
-    (
-        Default::Replace,
-        MERGE,
-        r#"{"ex:sys":{"log":{}}}"#,
-        r#"{"ex:sys":{"log":{}}}"#,
-    ),
-    (
-        Default::Replace,
-        REPLACE,
-        r#"{"ex:sys":{"log":{}}}"#,
-        r#"{"ex:sys":{"log":{}}}"#,
-    ),
-    (
-        Default::Replace,
-        CREATE,
-        "data-exists /ex:sys/log",
-        r#"{"ex:sys":{"log":{}}}"#,
-    ),
-    (Default::Replace, DELETE, "{}", "data-missing /ex:sys/log"),
-    (Default::Replace, REMOVE, "{}", "{}"),
-    (
-        Default::Nothing,
-        None,
-        r#"{"ex:sys":{"dns":["d"],"log":{"level":"x"}}}"#,
-        "data-missing /ex:sys/log",
-    ),
-    (
-        Default::Nothing,
-        MERGE,
-        r#"{"ex:sys":{"dns":["d"],"log":{"level":"x"}}}"#,
-        r#"{"ex:sys":{"dns":["d"],"log":{}}}"#,
-    ),
-    (
-        Default::Nothing,
-        REPLACE,
-        r#"{"ex:sys":{"dns":["d"],"log":{}}}"#,
-        r#"{"ex:sys":{"dns":["d"],"log":{}}}"#,
-    ),
-    (
-        Default::Nothing,
-        CREATE,
-        "data-exists /ex:sys/log",
-        r#"{"ex:sys":{"dns":["d"],"log":{}}}"#,
-    ),
-    (
-        Default::Nothing,
-        DELETE,
-        r#"{"ex:sys":{"dns":["d"]}}"#,
-        "data-missing /ex:sys/log",
-    ),
-    (
-        Default::Nothing,
-        REMOVE,
-        r#"{"ex:sys":{"dns":["d"]}}"#,
-        r#"{"ex:sys":{"dns":["d"]}}"#,
-    ),
-];
+pub const PRESENCE: &str = r#"
+merge - => {"ex:sys":{"dns":["d"],"log":{"level":"x"}}} => {"ex:sys":{"dns":["d"],"log":{}}}
+merge merge => {"ex:sys":{"dns":["d"],"log":{"level":"x"}}} => {"ex:sys":{"dns":["d"],"log":{}}}
+merge replace => {"ex:sys":{"dns":["d"],"log":{}}} => {"ex:sys":{"dns":["d"],"log":{}}}
+merge create => data-exists /ex:sys/log => {"ex:sys":{"dns":["d"],"log":{}}}
+merge delete => {"ex:sys":{"dns":["d"]}} => data-missing /ex:sys/log
+merge remove => {"ex:sys":{"dns":["d"]}} => {"ex:sys":{"dns":["d"]}}
+replace - => {"ex:sys":{"log":{}}} => {"ex:sys":{"log":{}}}
+replace merge => {"ex:sys":{"log":{}}} => {"ex:sys":{"log":{}}}
+replace replace => {"ex:sys":{"log":{}}} => {"ex:sys":{"log":{}}}
+replace create => data-exists /ex:sys/log => {"ex:sys":{"log":{}}}
+replace delete => {} => data-missing /ex:sys/log
+replace remove => {} => {}
+none - => {"ex:sys":{"dns":["d"],"log":{"level":"x"}}} => data-missing /ex:sys/log
+none merge => {"ex:sys":{"dns":["d"],"log":{"level":"x"}}} => {"ex:sys":{"dns":["d"],"log":{}}}
+none replace => {"ex:sys":{"dns":["d"],"log":{}}} => {"ex:sys":{"dns":["d"],"log":{}}}
+none create => data-exists /ex:sys/log => {"ex:sys":{"dns":["d"],"log":{}}}
+none delete => {"ex:sys":{"dns":["d"]}} => data-missing /ex:sys/log
+none remove => {"ex:sys":{"dns":["d"]}} => {"ex:sys":{"dns":["d"]}}
+"#;
 
 // A container without presence, which has a leaf where it is there. It never stands by itself.
-pub static CONTAINER: &[Row] = &[
-    (
-        Default::Merge,
-        None,
-        r#"{"ex:addr":{"ip":"1"},"ex:sys":{"dns":["d"]}}"#,
-        r#"{"ex:sys":{"dns":["d"]}}"#,
-    ),
-    (
-        Default::Merge,
-        MERGE,
-        r#"{"ex:addr":{"ip":"1"},"ex:sys":{"dns":["d"]}}"#,
-        r#"{"ex:sys":{"dns":["d"]}}"#,
-    ),
-    (
-        Default::Merge,
-        REPLACE,
-        r#"{"ex:sys":{"dns":["d"]}}"#,
-        r#"{"ex:sys":{"dns":["d"]}}"#,
-    ),
-    (
-        Default::Merge,
-        CREATE,
-        "data-exists /ex:addr",
-        r#"{"ex:sys":{"dns":["d"]}}"#,
-    ),
-    (
-        Default::Merge,
-        DELETE,
-        r#"{"ex:sys":{"dns":["d"]}}"#,
-        "data-missing /ex:addr",
-    ),
-    (
-        Default::Merge,
-        REMOVE,
-        r#"{"ex:sys":{"dns":["d"]}}"#,
-        r#"{"ex:sys":{"dns":["d"]}}"#,
-    ),
-    (Default::Replace, None, "{}", "{}"),
-    (Default::Replace, MERGE, "{}", "{}"),
-    (Default::Replace, REPLACE, "{}", "{}"),
-    (Default::Replace, CREATE, "data-exists /ex:addr", "{}"),
-    (Default::Replace, DELETE, "{}", "data-missing /ex:addr"),
-    (Default::Replace, REMOVE, "{}", "{}"),
-    (
-        Default::Nothing,
-        None,
-        r#"{"ex:addr":{"ip":"1"},"ex:sys":{"dns":["d"]}}"#,
-        r#"{"ex:sys":{"dns":["d"]}}"#,
-    ),
-    (
-        Default::Nothing,
-        MERGE,
-        r#"{"ex:addr":{"ip":"1"},"ex:sys":{"dns":["d"]}}"#,
-        r#"{"ex:sys":{"dns":["d"]}}"#,
-    ),
-    (
-        Default::Nothing,
-        REPLACE,
-        r#"{"ex:sys":{"dns":["d"]}}"#,
-        r#"{"ex:sys":{"dns":["d"]}}"#,
-    ),
-    (
-        Default::Nothing,
-        CREATE,
-        "data-exists /ex:addr",
-        r#"{"ex:sys":{"dns":["d"]}}"#,
-    ),
-    (
-        Default::Nothing,
-        DELETE,
-        r#"{"ex:sys":{"dns":["d"]}}"#,
-        "data-missing /ex:addr",
-    ),
-    (
-        Default::Nothing,
-        REMOVE,
-        r#"{"ex:sys":{"dns":["d"]}}"#,
-        r#"{"ex:sys":{"dns":["d"]}}"#,
-    ),
-];
+pub const CONTAINER: &str = r#"
+merge - => {"ex:addr":{"ip":"1"},"ex:sys":{"dns":["d"]}} => {"ex:sys":{"dns":["d"]}}
+merge merge => {"ex:addr":{"ip":"1"},"ex:sys":{"dns":["d"]}} => {"ex:sys":{"dns":["d"]}}
+merge replace => {"ex:sys":{"dns":["d"]}} => {"ex:sys":{"dns":["d"]}}
+merge create => data-exists /ex:addr => {"ex:sys":{"dns":["d"]}}
+merge delete => {"ex:sys":{"dns":["d"]}} => data-missing /ex:addr
+merge remove => {"ex:sys":{"dns":["d"]}} => {"ex:sys":{"dns":["d"]}}
+replace - => {} => {}
+replace merge => {} => {}
+replace replace => {} => {}
+replace create => data-exists /ex:addr => {}
+replace delete => {} => data-missing /ex:addr
+replace remove => {} => {}
+none - => {"ex:addr":{"ip":"1"},"ex:sys":{"dns":["d"]}} => {"ex:sys":{"dns":["d"]}}
+none merge => {"ex:addr":{"ip":"1"},"ex:sys":{"dns":["d"]}} => {"ex:sys":{"dns":["d"]}}
+none replace => {"ex:sys":{"dns":["d"]}} => {"ex:sys":{"dns":["d"]}}
+none create => data-exists /ex:addr => {"ex:sys":{"dns":["d"]}}
+none delete => {"ex:sys":{"dns":["d"]}} => data-missing /ex:addr
+none remove => {"ex:sys":{"dns":["d"]}} => {"ex:sys":{"dns":["d"]}}
+"#;

@@ -1,9 +1,6 @@
 //! Texts of paths that are read, and those that aren't: in each line a text, the text that is written of the path that it spells,
 //! and the number of the node that the path leads to; or a text, and what is wrong with it.
 
-/// A text with a character that a line can't hold, and what is told of it.
-pub type Apart = (&'static str, &'static str);
-
 // Names of nodes, with their module at the top at least (RFC 7950 section 6.2 for identifiers; where a module
 // stands is this project's own).
 pub const NAMES: &str = r#"
@@ -55,17 +52,9 @@ pub const QUOTED: &str = r#"
 /ex:sys/iface[name="é😀"] => /ex:sys/iface[name='é😀'] => 1
 "#;
 
-// The rows that a line can't hold.
-pub const QUOTED_APART: &[Apart] = &[
-    (
-        "/ex:sys/iface[name='a\nb\t']",
-        "/ex:sys/iface[name='a\nb\t'] => 1",
-    ),
-    (
-        "/ex:sys/iface[name='\u{0}']",
-        "/ex:sys/iface[name='\u{0}'] => 1",
-    ),
-];
+// The rows that a line can't hold, parted by `§`.
+pub const QUOTED_APART: &str = "/ex:sys/iface[name='a\nb\t'] => /ex:sys/iface[name='a\nb\t'] => 1\
+§/ex:sys/iface[name='\u{0}'] => /ex:sys/iface[name='\u{0}'] => 1";
 
 // Keys in any order, each in any spelling of its type; what is written is in the order of the key statement and
 // canonical (RFC 7950 section 9).
@@ -161,8 +150,8 @@ ex:sys/iface[name='a'] => bad text
 /m:ll['x'] => bad text
 "#;
 
-// The rows that a line can't hold.
-pub const MISFORMED_APART: &[Apart] = &[("/ex:sys\n", "bad text"), ("/ex:sys\u{0}", "bad text")];
+// The rows that a line can't hold, parted by `§`.
+pub const MISFORMED_APART: &str = "/ex:sys\n => bad text§/ex:sys\u{0} => bad text";
 
 // Predicates that aren't those of their nodes: of no keys, one that lacks, comes twice, is no key, or is
 // misspelt (this project's own).

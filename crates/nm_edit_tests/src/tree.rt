@@ -1,9 +1,10 @@
-//! The schema tree of the tests.
+//! The schema tree of the tests, read of lines.
 
 use nm_base::{Groups, Label, NoMemory, Numbers};
 use nm_tree::{CaseNode, ChoiceNode, Elements, Node, NodeKind, Schema, SharedType};
 use nm_types::{LeafType, TypeKind};
 use std::alloc::Global;
+use std::test::Fail;
 
 #[derive(Clone, Copy)]
 enum Shape {
@@ -18,30 +19,54 @@ enum Shape {
 }
 
 // How many nodes a node stands in, its name, what it is, and the number of its case.
-type Row = (usize, &'static str, Shape, Option<usize>);
+type Row<'t> = (usize, &'t str, Shape, Option<usize>);
 
 // Each node behind the one that it stands in.
-static NODES: &[Row] = &[
-    (0, "sys", Shape::Container, None),
-    (1, "host", Shape::Text, None),
-    (1, "iface", Shape::List, None),
-    (2, "name", Shape::Text, None),
-    (2, "mtu", Shape::Number, None),
-    (2, "desc", Shape::Text, None),
-    (1, "dns", Shape::Texts, None),
-    (1, "log", Shape::Presence, None),
-    (2, "level", Shape::Text, None),
-    (0, "addr", Shape::Container, None),
-    (1, "ip", Shape::Text, Some(0)),
-    (1, "alias", Shape::List, Some(0)),
-    (2, "name", Shape::Text, None),
-    (2, "note", Shape::Text, None),
-    (1, "dhcp", Shape::Empty, Some(1)),
-    (1, "auto", Shape::Container, Some(2)),
-    (2, "seed", Shape::Text, None),
-    (1, "deep", Shape::Text, Some(3)),
-    (1, "flat", Shape::Text, Some(4)),
-];
+const NODES: &str = r#"
+0 sys container -
+1 host text -
+1 iface list -
+2 name text -
+2 mtu number -
+2 desc text -
+1 dns texts -
+1 log presence -
+2 level text -
+0 addr container -
+1 ip text 0
+1 alias list 0
+2 name text -
+2 note text -
+1 dhcp empty 1
+1 auto container 2
+2 seed text -
+1 deep text 3
+1 flat text 4
+1 lease number 1
+0 zone text -
+"#;
+
+fn shape_of(word: &str) -> Option<Shape> {
+    match word {
+        "container" => Some(Shape::Container),
+        "presence" => Some(Shape::Presence),
+        "list" => Some(Shape::List),
+        "text" => Some(Shape::Text),
+        "number" => Some(Shape::Number),
+        "empty" => Some(Shape::Empty),
+        "texts" => Some(Shape::Texts),
+        _ => None,
+    }
+}
+
+// The row of a line.
+fn row_of(line: &str) -> Option<Row<'_>> {
+    let (depth, rest) = line.split_once(' ')?;
+    let (name, rest) = rest.split_once(' ')?;
+    let (word, case) = rest.split_once(' ')?;
+    let depth = depth.parse::<usize>().ok()?;
+    Some((depth, name, shape_of(word)?, case.parse::<usize>().ok()))
+}
 
 // The cases of the choice `how` of addr, and of `inner`, which stands in its second case: the number of the choice, the name.
 static OUTER: &[(usize, &str)] = &[(0, "fixed"), (0, "dynamic"), (0, "auto")];
@@ -135,7 +160,7 @@ fn put(
     alloc: Global,
     schema: &mut Schema,
     parent: Option<usize>,
-    row: &Row,
+    row: Row<'_>,
 ) -> Result<usize, NoMemory> {
     let node = Node {
         parent,
@@ -150,41 +175,54 @@ fn put(
     schema.push(node)
 }
 
-fn put_all(alloc: Global, schema: &mut Schema) -> Result<(), NoMemory> {
+// Puts the node of a line in the last of those around it that it stands in.
+fn put_line(
+    alloc: Global,
+    schema: &mut Schema,
+    around: &mut Vec<usize>,
+    line: &str,
+) -> Result<(), Fail> {
+    let row = row_of(line).ok_or("no row")?;
+    around.truncate(row.0);
+    let parent = around.last().copied();
+    let at = put(alloc, schema, parent, row)?;
+    around.push(at)?;
+    Ok(())
+}
+
+fn put_all(alloc: Global, schema: &mut Schema) -> Result<(), Fail> {
     let mut around = Vec::new(alloc);
-    for row in NODES {
-        around.truncate(row.0);
-        let parent = around.last().copied();
-        let at = put(alloc, schema, parent, row)?;
-        around.push(at)?;
+    for line in NODES.lines().skip(1) {
+        put_line(alloc, schema, &mut around, line)?;
     }
     Ok(())
 }
 
-// The key of a list: its leaf `name`.
-fn key_of(alloc: Global, schema: &Schema, list: usize) -> Result<Numbers, NoMemory> {
-    let mut keys = Numbers::new(alloc);
+// Makes the leaf `name` the key of a list, where it is one.
+fn put_key(alloc: Global, schema: &mut Schema, list: usize) -> Result<(), NoMemory> {
     if let Some(key) = schema.child(list, "name") {
+        let mut keys = Numbers::new(alloc);
         keys.push(key)?;
-    }
-    Ok(keys)
-}
-
-fn put_keys(alloc: Global, schema: &mut Schema) -> Result<(), NoMemory> {
-    for (at, row) in NODES.iter().enumerate() {
-        if matches!(row.2, Shape::List) {
-            let keys = key_of(alloc, schema, at)?;
-            if at < schema.len() {
-                schema.set_keys(at, keys, Groups::new(alloc));
-            }
+        if list < schema.len() {
+            schema.set_keys(list, keys, Groups::new(alloc));
         }
     }
     Ok(())
 }
 
-/// Interfaces with a leaf-list and a container with presence; and addresses by a choice of three cases, of which the
-/// second has a choice of two cases within.
-pub fn sample(alloc: Global) -> Result<Schema, NoMemory> {
+// The numbers of the lists.
+const LISTS: [usize; 2] = [2, 11];
+
+fn put_keys(alloc: Global, schema: &mut Schema) -> Result<(), NoMemory> {
+    for list in LISTS {
+        put_key(alloc, schema, list)?;
+    }
+    Ok(())
+}
+
+/// Interfaces with a leaf-list and a container with presence; addresses by a choice of three cases, of which the second has
+/// a choice of two cases within; and a leaf at the top.
+pub fn sample(alloc: Global) -> Result<Schema, Fail> {
     let mut schema = Schema::new(alloc, Vec::new(alloc));
     put_all(alloc, &mut schema)?;
     put_keys(alloc, &mut schema)?;

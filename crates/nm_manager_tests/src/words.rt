@@ -1,0 +1,86 @@
+//! What stands in the lines of scripts: devices, what is asked, replies, tags and verdicts.
+
+use nm_base::{DeviceNo, SessionId, Tag};
+use nm_proto::{AbortCause, Ask, Reply, Verdict};
+
+// The device of a number.
+pub fn device_of(number: &str) -> Option<DeviceNo> {
+    DeviceNo::new(number.parse::<u8>().ok()?)
+}
+
+pub fn ask_of(word: &str) -> Option<Ask> {
+    match word {
+        "open" => Some(Ask::OpenSession),
+        "lock-running" => Some(Ask::LockRunning),
+        "lock-candidate" => Some(Ask::LockCandidate),
+        "edit" => Some(Ask::Edit),
+        "validate" => Some(Ask::Validate),
+        "commit" => Some(Ask::CommitConfirmed),
+        "confirm" => Some(Ask::Confirm),
+        "cancel" => Some(Ask::Cancel),
+        "has-mark" => Some(Ask::HasMark),
+        "discard" => Some(Ask::Discard),
+        "close" => Some(Ask::CloseSession),
+        "resync" => Some(Ask::Resync),
+        _ => None,
+    }
+}
+
+pub fn tag_of(word: &str) -> Option<Tag> {
+    match word {
+        "in-use" => Some(Tag::InUse),
+        "lock-denied" => Some(Tag::LockDenied),
+        "invalid-value" => Some(Tag::InvalidValue),
+        _ => None,
+    }
+}
+
+// A reply: session 1 is opened, it is done, the mark is there, or an error's tag.
+pub fn reply_of(word: &str) -> Option<Reply> {
+    match word {
+        "opened" => Some(Reply::Opened(SessionId::new(1)?)),
+        "done" => Some(Reply::Done),
+        "marked" => Some(Reply::Mark(true)),
+        _ => refusal_of(word),
+    }
+}
+
+// An error of a tag.
+fn refusal_of(word: &str) -> Option<Reply> {
+    let tag = tag_of(word)?;
+    Some(Reply::Error {
+        tag,
+        session: None,
+        path: None,
+    })
+}
+
+// A verdict, as `commit`, `forgotten`, `lapsed 1` or `refused 2 lock-denied`.
+pub fn verdict_of(words: &str) -> Option<Verdict> {
+    if words == "commit" {
+        return Some(Verdict::Commit);
+    }
+    Some(Verdict::Abort(cause_of(words)?))
+}
+
+fn cause_of(words: &str) -> Option<AbortCause> {
+    if words == "forgotten" {
+        return Some(AbortCause::Forgotten);
+    }
+    let (word, rest) = words.split_once(" ")?;
+    match word {
+        "lapsed" => Some(AbortCause::Lapsed {
+            device: device_of(rest)?,
+        }),
+        "refused" => refused_by(rest),
+        _ => None,
+    }
+}
+
+fn refused_by(words: &str) -> Option<AbortCause> {
+    let (device, tag) = words.split_once(" ")?;
+    Some(AbortCause::Refused {
+        device: device_of(device)?,
+        tag: tag_of(tag)?,
+    })
+}

@@ -1,0 +1,102 @@
+//! What the tests share: schemas of modules, configurations of texts, and what is told of them line by line.
+
+ghost use Rattle.std.specs.Prelude.{IfOk};
+ghost use Rattle.nm_path.specs.Sound.{IsSound};
+
+use nm_base::NoMemory;
+use nm_config::Config;
+use nm_json::read_config;
+use nm_path::read_path;
+use nm_schema::build;
+use nm_tree::Schema;
+use nm_types::{Chosen, Path, Value};
+use nm_yang::read_module;
+use std::alloc::Global;
+use std::test::Fail;
+
+// The schema of a module.
+pub fn schema_of(alloc: Global, module: &str) -> Result<Schema, Fail>
+    ensures { IfOk result (λ schema. IsSound schema.nodes) }
+{
+    let mut modules = Vec::new(alloc);
+    modules.push(read_module(alloc, module.as_bytes())?)?;
+    match build(alloc, &modules) {
+        Ok(schema) => Ok(schema),
+        Err(_) => Err(Fail::new("no schema")),
+    }
+}
+
+// The text of a module with more behind one of its statements.
+pub fn with_more(alloc: Global, module: &str, place: &str, more: &str) -> Result<String, Fail> {
+    let (before, after) = module.split_once(place).ok_or("no place")?;
+    Ok(format!(in alloc; "{before}{place}{more}{after}")?)
+}
+
+// Numbers that are parted by blanks, as keys.
+fn keys_of(alloc: Global, numbers: &str) -> Result<Vec<Value>, NoMemory> {
+    let mut keys = Vec::new(alloc);
+    for number in numbers.split(' ') {
+        if let Ok(number) = number.parse::<i128>() {
+            keys.push(Value::Int(number))?;
+        }
+    }
+    Ok(keys)
+}
+
+// Gives the last step of a path these keys.
+fn choose(path: &mut Path, keys: Vec<Value>) {
+    if let Some(step) = path.steps.last_mut() {
+        step.chosen = Chosen::Keys(keys);
+    }
+}
+
+// The path of a text; behind ` by ` come the numbers that its entry has for keys, which are of no type.
+pub fn path_of(alloc: Global, schema: &Schema, text: &str) -> Result<Path, Fail> {
+    let Some((text, numbers)) = text.split_once(" by ") else {
+        return Ok(read_path(alloc, schema, text)?);
+    };
+    let mut path = read_path(alloc, schema, text)?;
+    choose(&mut path, keys_of(alloc, numbers)?);
+    Ok(path)
+}
+
+// Puts the number behind ` = ` at a path, and an entry where none stands there.
+fn put(alloc: Global, schema: &Schema, row: &str, config: &mut Config) -> Result<(), Fail> {
+    let (text, value) = match row.split_once(" = ") {
+        Some((text, number)) => (text, Value::Int(number.parse::<i128>()?)),
+        None => (row, Value::Present),
+    };
+    config.put(path_of(alloc, schema, text)?, value)?;
+    Ok(())
+}
+
+// The configuration of a JSON text, and one without rows for `none`.
+fn read(alloc: Global, schema: &Schema, text: &str) -> Result<Config, Fail> {
+    if text == "none" {
+        return Ok(Config::new(alloc));
+    }
+    match read_config(alloc, schema, text.as_bytes()) {
+        Ok(config) => Ok(config),
+        Err(_) => Err(Fail::new("no configuration")),
+    }
+}
+
+// The same with rows behind it, each after ` & `, which no text may give, since their values and keys aren't of their types.
+pub fn config_of(alloc: Global, schema: &Schema, text: &str) -> Result<Config, Fail> {
+    let Some((text, rows)) = text.split_once(" & ") else {
+        return read(alloc, schema, text);
+    };
+    let mut config = read(alloc, schema, text)?;
+    for row in rows.split(" & ") {
+        put(alloc, schema, row, &mut config)?;
+    }
+    Ok(config)
+}
+
+// Fails where what is told isn't what a line expects; `some` expects anything but `none`.
+pub fn expect(line: &str, told: &str, expected: &str) -> Result<(), Fail> {
+    if told == expected || expected == "some" && told != "none" {
+        return Ok(());
+    }
+    Err(Fail::new(format_args!("{told} of {line}")))
+}
