@@ -1,9 +1,6 @@
 //! The program `netm`: `console` over the process's own words, standard input, standard output and journal.
 #![tactic(auto)]
 
-#[cfg(test)]
-mod tables;
-
 use nm_base::NoMemory;
 use nm_console::command::journal_path;
 use nm_console::console::console;

@@ -1,7 +1,8 @@
 use nm_base::{Failed, Label};
 use nm_disk::{AnyDisk, Disk, FileDisk, MemoryDisk};
+use std::alloc::Global;
 use std::fs;
-use std::test::Fail;
+use std::process::Abort;
 
 // Writes a piece behind the bytes, and answers how many there are then.
 fn add<D: Disk + Drop>(mut disk: D, piece: &[u8]) -> Result<u64, Failed> {
@@ -18,84 +19,170 @@ fn empty<D: Disk + Drop>(mut disk: D) -> Result<u64, Failed> {
     disk.len()
 }
 
-#[test]
-fn memory_disks_hold_bytes(rt: HostRuntime) -> Result<(), Fail> {
-    let mut disk = MemoryDisk::with_limit(rt.alloc(), 40, 20)?;
-    assert_eq!(rt; add(&mut disk, b"hello"), Ok(5));
-    assert_eq!(rt; add(&mut disk, b", all"), Ok(10));
-    assert_eq!(rt; disk.bytes(), b"hello, all".as_slice());
+fn are_added(disk: &mut MemoryDisk) -> bool {
+    add(&mut *disk, b"hello") == Ok(5)
+        && add(&mut *disk, b", all") == Ok(10)
+        && disk.bytes() == b"hello, all".as_slice()
+}
+
+fn is_end_read(disk: &mut MemoryDisk) -> bool {
     let mut piece = [0; 3];
-    assert_eq!(rt; disk.read(7, &mut piece), Ok(3));
-    assert_eq!(rt; piece, *b"all");
-    assert_eq!(rt; disk.write_at(1, b"a"), Ok(()));
-    assert_eq!(rt; disk.write_at(9, b"lo"), Ok(()));
-    assert_eq!(rt; disk.bytes(), b"hallo, allo".as_slice());
-    assert_eq!(rt; disk.cut(5), Ok(()));
-    assert_eq!(rt; disk.bytes(), b"hallo".as_slice());
-    assert_eq!(rt; empty(&mut disk), Ok(0));
-    Ok(())
-}
-
-// Each call in turn fails: the numbers are those of `add`'s four calls, and the bytes stay as they were.
-#[test]
-fn planned_calls_fail(rt: HostRuntime) -> Result<(), Fail> {
-    let cases: [(u64, Result<u64, Failed>, &[u8]); 5] = [
-        (1, Err(Failed), b""),
-        (2, Err(Failed), b""),
-        (3, Err(Failed), b"ab"),
-        (4, Err(Failed), b"ab"),
-        (5, Ok(2), b"ab"),
-    ];
-    for (number, expected, bytes) in cases {
-        let mut disk = MemoryDisk::with_limit(rt.alloc(), 2, 5)?;
-        disk.plan(&[number])?;
-        assert_eq!(rt; add(&mut disk, b"ab"), expected, "call {number}");
-        assert_eq!(rt; disk.bytes(), bytes, "call {number}");
+    if disk.bytes().len() < 10 {
+        return false;
     }
-    Ok(())
+    disk.read(7, &mut piece) == Ok(3) && piece == *b"all"
+}
+
+fn is_written_at(disk: &mut MemoryDisk, at: usize, piece: &[u8]) -> bool {
+    if disk.bytes().len() < at {
+        return false;
+    }
+    disk.write_at(at as u64, piece) == Ok(())
+}
+
+fn are_written(disk: &mut MemoryDisk) -> bool {
+    is_written_at(disk, 1, b"a")
+        && is_written_at(disk, 9, b"lo")
+        && disk.bytes() == b"hallo, allo".as_slice()
+}
+
+fn are_cut(disk: &mut MemoryDisk) -> bool {
+    if disk.bytes().len() < 5 {
+        return false;
+    }
+    disk.cut(5) == Ok(()) && disk.bytes() == b"hallo".as_slice() && empty(&mut *disk) == Ok(0)
+}
+
+fn are_held(rt: &impl Abort, alloc: Global) -> bool {
+    let mut disk = MemoryDisk::with_limit(alloc, 40, 20).expect(rt, "memory");
+    are_added(&mut disk) && is_end_read(&mut disk) && are_written(&mut disk) && are_cut(&mut disk)
 }
 
 #[test]
-fn limits_are_kept(rt: HostRuntime) -> Result<(), Fail> {
-    let cases: [(&str, u64, u32, usize, Result<u64, Failed>); 7] = [
-        ("as many bytes as the limit", 3, 4, 3, Ok(3)),
-        ("one more", 3, 4, 4, Err(Failed)),
-        ("no byte", 0, 4, 0, Ok(0)),
-        ("as many bytes as a call notes", 99, 4, 32, Ok(32)),
-        ("one more", 99, 4, 33, Err(Failed)),
-        ("as many calls as are noted", 3, 4, 1, Ok(1)),
-        ("one more", 3, 3, 1, Err(Failed)),
-    ];
+fn memory_disks_hold_bytes(rt: HostRuntime) {
+    assert!(rt; are_held(&rt, rt.alloc()));
+}
+
+// Each call in turn fails: the numbers are those of `add`'s four calls, and the bytes stay as they were. None stands for a failure.
+static PLANNED: &[(u64, Option<u64>, &[u8])] = &[
+    (1, None, b""),
+    (2, None, b""),
+    (3, None, b"ab"),
+    (4, None, b"ab"),
+    (5, Some(2), b"ab"),
+];
+
+fn planned(rt: &impl Abort, alloc: Global, number: u64) -> MemoryDisk {
+    let mut disk = MemoryDisk::with_limit(alloc, 2, 5).expect(rt, "memory");
+    disk.plan(&[number]).expect(rt, "memory");
+    disk
+}
+
+fn is_planned(
+    rt: &impl Abort,
+    alloc: Global,
+    number: u64,
+    want: Option<u64>,
+    bytes: &[u8],
+) -> bool {
+    let mut disk = planned(rt, alloc, number);
+    add(&mut disk, b"ab").ok() == want && disk.bytes() == bytes
+}
+
+fn check_planned(rt: &impl Abort, alloc: Global) {
+    for (number, want, bytes) in PLANNED {
+        assert!(rt;
+            is_planned(rt, alloc, *number, *want, bytes),
+            "call {number}"
+        );
+    }
+}
+
+#[test]
+fn planned_calls_fail(rt: HostRuntime) {
+    check_planned(&rt, rt.alloc());
+}
+
+// A limit of bytes, one of calls, how many bytes are written, and how many there are then, None for a failure: as many bytes as the
+// limit, and one more; no byte; as many bytes as a call notes, and one more; as many calls as are noted, and one more.
+static LIMITS: &[(u64, u32, usize, Option<u64>)] = &[
+    (3, 4, 3, Some(3)),
+    (3, 4, 4, None),
+    (0, 4, 0, Some(0)),
+    (99, 4, 32, Some(32)),
+    (99, 4, 33, None),
+    (3, 4, 1, Some(1)),
+    (3, 3, 1, None),
+];
+
+fn is_limited(disk: &mut MemoryDisk, count: usize, want: Option<u64>) -> bool {
     let bytes = [7; 40];
-    for (name, limit, calls, count, expected) in cases {
-        let mut disk = MemoryDisk::with_limit(rt.alloc(), limit, calls)?;
-        assert_eq!(rt; add(&mut disk, &bytes[..count.min(40)]), expected, "{name}");
+    add(&mut *disk, &bytes[..count.min(40)]).ok() == want
+}
+
+fn is_kept(
+    rt: &impl Abort,
+    alloc: Global,
+    limits: (u64, u32),
+    count: usize,
+    want: Option<u64>,
+) -> bool {
+    let mut disk = MemoryDisk::with_limit(alloc, limits.0, limits.1).expect(rt, "memory");
+    is_limited(&mut disk, count, want)
+}
+
+fn check_limits(rt: &impl Abort, alloc: Global) {
+    for (limit, calls, count, want) in LIMITS {
+        assert!(rt;
+            is_kept(rt, alloc, (*limit, *calls), *count, *want),
+            "{limit} {calls} {count}"
+        );
     }
-    Ok(())
+}
+
+#[test]
+fn limits_are_kept(rt: HostRuntime) {
+    check_limits(&rt, rt.alloc());
+}
+
+// A new file that is written.
+fn is_begun(files: HostRuntime, path: Label) -> bool {
+    let mut disk = FileDisk::at(files, path);
+    add(&mut disk, b"hello") == Ok(5) && disk.write_at(1, b"a") == Ok(())
+}
+
+fn is_part_read(disk: &mut FileDisk<HostRuntime>) -> bool {
+    let mut piece = [0; 9];
+    disk.read(2, &mut piece) == Ok(6) && piece == *b"llo, a\0\0\0"
+}
+
+// The same file, opened again.
+fn is_continued(files: HostRuntime, path: Label) -> bool {
+    let mut disk = FileDisk::at(files, path);
+    add(&mut disk, b", all") == Ok(10)
+        && disk.cut(8) == Ok(())
+        && is_part_read(&mut disk)
+        && empty(&mut disk) == Ok(0)
+}
+
+const NAME: &str = "nm_disk_file.tmp";
+
+fn has_bytes(rt: &impl Abort, files: HostRuntime, want: &[u8]) -> bool {
+    let bytes = fs::read(&files, NAME).expect(rt, "a file");
+    bytes.as_slice() == want
+}
+
+fn path_of(rt: &impl Abort, alloc: Global, name: &str) -> Label {
+    Label::new(alloc, name).expect(rt, "memory")
 }
 
 // A real file: written, closed, opened again, and its bytes compared.
 #[test]
-fn files_keep_bytes(rt: HostRuntime) -> Result<(), Fail> {
-    let name = "nm_disk_file.tmp";
-    let _ = fs::remove_file(&rt, name);
-    let path = Label::new(rt.alloc(), name)?;
-    let mut disk = FileDisk::at(rt, path.copy()?);
-    assert_eq!(rt; add(&mut disk, b"hello"), Ok(5));
-    assert_eq!(rt; disk.write_at(1, b"a"), Ok(()));
-    drop(disk);
-    assert_eq!(rt; fs::read(&rt, name)?.as_slice(), b"hallo".as_slice());
-
-    let mut again = FileDisk::at(rt, path);
-    assert_eq!(rt; add(&mut again, b", all"), Ok(10));
-    assert_eq!(rt; again.cut(8), Ok(()));
-    let mut piece = [0; 9];
-    assert_eq!(rt; again.read(2, &mut piece), Ok(6));
-    assert_eq!(rt; piece, *b"llo, a\0\0\0");
-    assert_eq!(rt; empty(&mut again), Ok(0));
-    drop(again);
-    assert_eq!(rt; fs::read(&rt, name)?.as_slice(), b"".as_slice());
-    Ok(fs::remove_file(&rt, name)?)
+fn files_keep_bytes(rt: HostRuntime) {
+    let _ = fs::remove_file(&rt, NAME);
+    assert!(rt; is_begun(rt, path_of(&rt, rt.alloc(), NAME)) && has_bytes(&rt, rt, b"hallo"));
+    assert!(rt; is_continued(rt, path_of(&rt, rt.alloc(), NAME)) && has_bytes(&rt, rt, b""));
+    fs::remove_file(&rt, NAME).expect(&rt, "a file");
 }
 
 // A disk may be sent to another thread.
@@ -104,16 +191,22 @@ fn sent<D: Disk + Drop + Send>(disk: D) -> D {
 }
 
 // A folder that isn't there.
+fn is_failing(files: HostRuntime, path: Label) -> bool {
+    let mut disk = sent(AnyDisk::File(FileDisk::at(files, path)));
+    disk.len() == Err(Failed)
+}
+
+fn any_memory(rt: &impl Abort, alloc: Global) -> AnyDisk<HostRuntime> {
+    AnyDisk::Memory(MemoryDisk::with_limit(alloc, 8, 8).expect(rt, "memory"))
+}
+
+fn is_any_written(rt: &impl Abort, alloc: Global) -> bool {
+    let mut memory = any_memory(rt, alloc);
+    add(&mut memory, b"ab") == Ok(2)
+}
+
 #[test]
-fn files_fail(rt: HostRuntime) -> Result<(), Fail> {
-    let path = Label::new(rt.alloc(), "no_folder/file")?;
-    let mut disk = sent(AnyDisk::File(FileDisk::at(rt, path)));
-    assert_eq!(rt; disk.len(), Err(Failed));
-    let mut memory: AnyDisk<HostRuntime> = AnyDisk::Memory(MemoryDisk::with_limit(
-        rt.alloc(),
-        8,
-        8,
-    )?);
-    assert_eq!(rt; add(&mut memory, b"ab"), Ok(2));
-    Ok(())
+fn files_fail(rt: HostRuntime) {
+    assert!(rt; is_failing(rt, path_of(&rt, rt.alloc(), "no_folder/file")));
+    assert!(rt; is_any_written(&rt, rt.alloc()));
 }

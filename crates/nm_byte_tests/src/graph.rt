@@ -1,36 +1,46 @@
 ghost use Rattle.std.specs.Prelude.{Some};
 
+use crate::base::pair;
 use nm_base::NoMemory;
 use nm_graph::{Visitor, is_graph, order, reached, values};
-use std::alloc::{AllocError, Global};
-use std::test::Fail;
+use std::alloc::Global;
+use std::process::Abort;
+
+fn add_edges(rt: &impl Abort, graph: &mut Vec<Vec<usize>>, edges: &str) {
+    for edge in edges.split_terminator(' ') {
+        add_edge(rt, graph, edge);
+    }
+}
+
+// A number, and the greatest one of a text that is none.
+fn number_of(text: &str) -> usize {
+    text.parse::<usize>().unwrap_or(usize::MAX)
+}
 
 // A graph as a row gives it: how many nodes there are, and its edges, as `3 0-1 1-2`.
-fn graph_of(alloc: Global, text: &str) -> Result<Vec<Vec<usize>>, Fail> {
-    let (nodes, edges) = text.split_once(' ').unwrap_or((text, ""));
-    let mut graph = without_edges(alloc, nodes.parse::<usize>()?)?;
-    for edge in edges.split(' ') {
-        add_edge(&mut graph, edge)?;
-    }
-    Ok(graph)
+fn graph_of(rt: &impl Abort, alloc: Global, text: &str) -> Vec<Vec<usize>> {
+    let (nodes, edges) = pair(text, " ");
+    let mut graph = without_edges(rt, alloc, number_of(nodes));
+    add_edges(rt, &mut graph, edges);
+    graph
 }
 
-fn without_edges(alloc: Global, nodes: usize) -> Result<Vec<Vec<usize>>, AllocError> {
+fn without_edges(rt: &impl Abort, alloc: Global, nodes: usize) -> Vec<Vec<usize>> {
     let mut graph = Vec::new(alloc);
     for _ in 0..nodes {
-        graph.push(Vec::new(alloc))?;
+        graph.push(Vec::new(alloc)).expect(rt, "memory");
     }
-    Ok(graph)
+    graph
 }
 
-fn add_edge(graph: &mut Vec<Vec<usize>>, edge: &str) -> Result<(), Fail> {
-    if edge.is_empty() {
-        return Ok(());
-    }
-    let (from, to) = edge.split_once('-').ok_or("no edge")?;
-    let row = graph.get_mut(from.parse::<usize>()?).ok_or("no node")?;
-    row.push(to.parse::<usize>()?)?;
-    Ok(())
+fn put_edge(rt: &impl Abort, graph: &mut Vec<Vec<usize>>, from: usize, to: usize) {
+    let row = graph.get_mut(from).expect(rt, "a node");
+    row.push(to).expect(rt, "memory");
+}
+
+fn add_edge(rt: &impl Abort, graph: &mut Vec<Vec<usize>>, edge: &str) {
+    let (from, to) = pair(edge, "-");
+    put_edge(rt, graph, number_of(from), number_of(to));
 }
 
 // A node's value is its number.
@@ -52,46 +62,54 @@ impl Visitor for Numbered {
     }
 }
 
-fn number_text(alloc: Global, number: Option<usize>) -> Result<String, AllocError> {
+fn put_number(rt: &impl Abort, text: &mut String, number: Option<usize>) {
     match number {
-        Some(number) => format!(in alloc; " {number}"),
-        None => String::from_str(alloc, " -"),
+        Some(number) => write!(text, " {number}").expect(rt, "memory"),
+        None => text.push_str(" -").expect(rt, "memory"),
     }
 }
 
 // Numbers, each after a blank.
-fn numbers_text(alloc: Global, numbers: &[usize]) -> Result<String, AllocError> {
-    let mut text = String::new(alloc);
+fn put_numbers(rt: &impl Abort, text: &mut String, numbers: &[usize]) {
     for number in numbers {
-        text.push_str(number_text(alloc, Some(*number))?.as_str())?;
+        put_number(rt, text, Some(*number));
     }
-    Ok(text)
 }
 
-fn values_text(alloc: Global, numbers: &[Option<usize>]) -> Result<String, AllocError> {
-    let mut text = String::new(alloc);
+fn put_values(rt: &impl Abort, text: &mut String, numbers: &[Option<usize>]) {
     for number in numbers {
-        text.push_str(number_text(alloc, *number)?.as_str())?;
+        put_number(rt, text, *number);
     }
-    Ok(text)
 }
 
-// The order of a graph and its least node on a cycle, as `order 2 1 0 cycle -`.
-fn order_text(alloc: Global, graph: &Vec<Vec<usize>>) -> Result<String, Fail> {
+// An order and the least node on a cycle, as `order 2 1 0 cycle -`.
+fn put_found(rt: &impl Abort, text: &mut String, nodes: &[usize], cycle: Option<usize>) {
+    text.push_str("order").expect(rt, "memory");
+    put_numbers(rt, text, nodes);
+    text.push_str(" cycle").expect(rt, "memory");
+    put_number(rt, text, cycle);
+}
+
+fn put_order(rt: &impl Abort, alloc: Global, text: &mut String, graph: &Vec<Vec<usize>>) {
     if !is_graph(graph) {
-        return Ok(String::from_str(alloc, "no graph")?);
+        return text.push_str("no graph").expect(rt, "memory");
     }
-    let found = order(alloc, graph)?;
-    let nodes = numbers_text(alloc, found.nodes.as_slice())?;
-    let cycle = number_text(alloc, found.cycle)?;
-    Ok(format!(in alloc; "order{nodes} cycle{cycle}")?)
+    let found = order(alloc, graph).expect(rt, "memory");
+    put_found(rt, text, found.nodes.as_slice(), found.cycle);
+}
+
+// Whether the order of a graph has this text.
+fn is_order(rt: &impl Abort, alloc: Global, graph: &Vec<Vec<usize>>, want: &str) -> bool {
+    let mut text = String::new(alloc);
+    put_order(rt, alloc, &mut text, graph);
+    text.as_str() == want
 }
 
 // Whether a row `GRAPH => ORDER` is so.
-fn is_ordered(alloc: Global, row: &str) -> Result<bool, Fail> {
-    let (text, want) = row.split_once(" => ").ok_or("no row")?;
-    let graph = graph_of(alloc, text)?;
-    Ok(order_text(alloc, &graph)?.as_str() == want)
+fn is_ordered(rt: &impl Abort, alloc: Global, row: &str) -> bool {
+    let (text, want) = pair(row, " => ");
+    let graph = graph_of(rt, alloc, text);
+    is_order(rt, alloc, &graph, want)
 }
 
 // No node, one, an edge, an edge to no node; chains, forwards and backwards; a diamond, one edge twice; a loop, two cycles, what
@@ -111,64 +129,81 @@ static ORDERS: &str = "
 4 0-2 2-3 3-2 3-1 => order 1 cycle 2
 ";
 
-#[test]
-fn orders(rt: HostRuntime) -> Result<(), Fail> {
+fn check_orders(rt: &impl Abort, alloc: Global) {
     for row in ORDERS.lines().skip(1) {
-        assert!(rt; is_ordered(rt.alloc(), row)?, "{row}");
+        assert!(rt; is_ordered(rt, alloc, row), "{row}");
     }
-    Ok(())
+}
+
+#[test]
+fn orders(rt: HostRuntime) {
+    check_orders(&rt, rt.alloc());
+}
+
+fn put_given(rt: &impl Abort, alloc: Global, text: &mut String, graph: &Vec<Vec<usize>>) {
+    if !is_graph(graph) {
+        return text.push_str("no graph").expect(rt, "memory");
+    }
+    let found = order(alloc, graph).expect(rt, "memory");
+    let given = values(alloc, &Numbered, graph, &found.nodes).expect(rt, "memory");
+    put_values(rt, text, given.as_slice());
 }
 
 // The values of nodes, `-` where a node has none.
-fn told_values(alloc: Global, text: &str) -> Result<String, Fail> {
-    let graph = graph_of(alloc, text)?;
-    if !is_graph(&graph) {
-        return Err(Fail::new("no graph"));
-    }
-    let found = order(alloc, &graph)?;
-    let given = values(alloc, &Numbered, &graph, &found.nodes)?;
-    Ok(values_text(alloc, given.as_slice())?)
+fn told_values(rt: &impl Abort, alloc: Global, graph: &Vec<Vec<usize>>) -> String {
+    let mut text = String::new(alloc);
+    put_given(rt, alloc, &mut text, graph);
+    text
+}
+
+fn has_values(rt: &impl Abort, alloc: Global, text: &str, want: &str) -> bool {
+    let graph = graph_of(rt, alloc, text);
+    let told = told_values(rt, alloc, &graph);
+    told.as_str() == want
 }
 
 // A chain, and what leads into a cycle.
 #[test]
-fn node_values(rt: HostRuntime) -> Result<(), Fail> {
-    let chain = told_values(rt.alloc(), "3 0-1 1-2")?;
-    assert_eq!(rt; chain.as_str(), " 0 1 2");
-    let cycle = told_values(rt.alloc(), "4 0-2 2-3 3-2 3-1")?;
-    assert_eq!(rt; cycle.as_str(), " - 1 - -");
-    Ok(())
+fn node_values(rt: HostRuntime) {
+    assert!(rt; has_values(&rt, rt.alloc(), "3 0-1 1-2", " 0 1 2"));
+    assert!(rt; has_values(&rt, rt.alloc(), "4 0-2 2-3 3-2 3-1", " - 1 - -"));
 }
 
 // Which nodes are reached from one, none where it isn't there.
-fn told_reached(alloc: Global, text: &str, start: usize) -> Result<Vec<bool>, Fail> {
-    let graph = graph_of(alloc, text)?;
-    if is_graph(&graph) && start < graph.len() {
-        return Ok(reached(alloc, &graph, &[start])?);
+fn told_reached(
+    rt: &impl Abort,
+    alloc: Global,
+    graph: &Vec<Vec<usize>>,
+    start: usize,
+) -> Vec<bool> {
+    if is_graph(graph) && start < graph.len() {
+        return reached(alloc, graph, &[start]).expect(rt, "memory");
     }
-    Ok(Vec::new(alloc))
+    Vec::new(alloc)
+}
+
+// Whether these nodes are reached from one.
+fn are_reached(rt: &impl Abort, alloc: Global, start: usize, want: &[bool]) -> bool {
+    let graph = graph_of(rt, alloc, "5 0-1 1-2 2-1 3-0");
+    let told = told_reached(rt, alloc, &graph, start);
+    told.as_slice() == want
 }
 
 // From an end, from a cycle, from the first node, and from no node.
+static REACHED: &[(usize, &[bool])] = &[
+    (4, &[false, false, false, false, true]),
+    (2, &[false, true, true, false, false]),
+    (3, &[true, true, true, true, false]),
+    (5, &[]),
+];
+
+fn check_reached(rt: &impl Abort, alloc: Global) {
+    for (start, want) in REACHED {
+        assert!(rt; are_reached(rt, alloc, *start, want), "{start}");
+    }
+}
+
 #[test]
-fn reaches(rt: HostRuntime) -> Result<(), Fail> {
-    let alloc = rt.alloc();
-    let graph = "5 0-1 1-2 2-1 3-0";
-    let end = told_reached(alloc, graph, 4)?;
-    assert_eq!(rt;
-        end.as_slice(),
-        [false, false, false, false, true].as_slice()
-    );
-    let cycle = told_reached(alloc, graph, 2)?;
-    assert_eq!(rt;
-        cycle.as_slice(),
-        [false, true, true, false, false].as_slice()
-    );
-    let first = told_reached(alloc, graph, 3)?;
-    assert_eq!(rt;
-        first.as_slice(),
-        [true, true, true, true, false].as_slice()
-    );
-    assert!(rt; told_reached(alloc, graph, 5)?.is_empty());
-    Ok(())
+fn reaches(rt: HostRuntime) {
+    check_reached(&rt, rt.alloc());
 }

@@ -1,3 +1,4 @@
+pub mod Steps
 pub mod Scanned
 pub mod Placed
 pub mod Lead

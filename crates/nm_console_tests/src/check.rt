@@ -1,5 +1,5 @@
-use crate::console::{Command, Ended};
-use crate::table::{Teller, first_wrong};
+use crate::console::Command;
+use crate::table::{Ended, Teller, are_told, parted};
 use std::alloc::Global;
 use std::test::Fail;
 
@@ -19,8 +19,7 @@ static CHECKS: &str = r#"
 
 #[test]
 fn checks_are_told(rt: HostRuntime) -> Result<(), Fail> {
-    assert_eq!(rt; first_wrong(rt.alloc(), &Command("check"), CHECKS)?, None);
-    Ok(())
+    are_told(rt.alloc(), &Command("check"), CHECKS)
 }
 
 const EX: &str =
@@ -32,13 +31,20 @@ const EY: &str =
 // What is checked of devices of a module, `ex` or `ey`.
 struct TellsConfigurations;
 
+fn module_of(name: &str) -> &'static str {
+    if name == "ex" { EX } else { EY }
+}
+
+fn scenario_of(alloc: Global, module: &str, devices: &str) -> Result<String, Fail> {
+    Ok(format!(in alloc;
+        "{{\"netm\":1,\"contents\":\"yang\",\"modules\":[{module}],\"devices\":[{devices}]}}"
+    )?)
+}
+
 impl Teller for TellsConfigurations {
     fn told(&self, alloc: Global, text: &str) -> Result<Ended, Fail> {
-        let (name, devices) = text.split_once(' ').ok_or("no module")?;
-        let module = if name == "ex" { EX } else { EY };
-        let scenario = format!(in alloc;
-            "{{\"netm\":1,\"contents\":\"yang\",\"modules\":[{module}],\"devices\":[{devices}]}}"
-        )?;
+        let (name, devices) = parted(text, " ")?;
+        let scenario = scenario_of(alloc, module_of(name), devices)?;
         Command("check").told(alloc, scenario.as_str())
     }
 }
@@ -59,11 +65,7 @@ ex {"running":{"sys":{}}} => 3 scenario content /devices/0/running|
 
 #[test]
 fn configurations_are_told(rt: HostRuntime) -> Result<(), Fail> {
-    assert_eq!(rt;
-        first_wrong(rt.alloc(), &TellsConfigurations, CONFIGURATIONS)?,
-        None
-    );
-    Ok(())
+    are_told(rt.alloc(), &TellsConfigurations, CONFIGURATIONS)
 }
 
 // What is checked of modules.
@@ -71,9 +73,7 @@ struct TellsModules;
 
 impl Teller for TellsModules {
     fn told(&self, alloc: Global, text: &str) -> Result<Ended, Fail> {
-        let scenario = format!(in alloc;
-            "{{\"netm\":1,\"contents\":\"yang\",\"modules\":[{text}],\"devices\":[{{\"running\":{{}}}}]}}"
-        )?;
+        let scenario = scenario_of(alloc, text, r#"{"running":{}}"#)?;
         Command("check").told(alloc, scenario.as_str())
     }
 }
@@ -93,8 +93,7 @@ static MODULES: &str = r#"
 
 #[test]
 fn modules_are_told(rt: HostRuntime) -> Result<(), Fail> {
-    assert_eq!(rt; first_wrong(rt.alloc(), &TellsModules, MODULES)?, None);
-    Ok(())
+    are_told(rt.alloc(), &TellsModules, MODULES)
 }
 
 // `replay` reads as `check` does.
@@ -105,6 +104,5 @@ static REPLAYS: &str = r#"
 
 #[test]
 fn replay_reads_modules(rt: HostRuntime) -> Result<(), Fail> {
-    assert_eq!(rt; first_wrong(rt.alloc(), &Command("replay"), REPLAYS)?, None);
-    Ok(())
+    are_told(rt.alloc(), &Command("replay"), REPLAYS)
 }

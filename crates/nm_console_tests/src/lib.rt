@@ -18,6 +18,8 @@ mod report;
 #[cfg(test)]
 mod run;
 #[cfg(test)]
+mod scenarios;
+#[cfg(test)]
 mod table;
 #[cfg(test)]
 mod trace;

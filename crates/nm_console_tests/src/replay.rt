@@ -1,5 +1,5 @@
-use crate::console::{Command, Ended};
-use crate::table::{Teller, first_wrong};
+use crate::console::Command;
+use crate::table::{Ended, Teller, are_told};
 use std::alloc::Global;
 use std::test::Fail;
 
@@ -51,8 +51,7 @@ static ROUNDS: &str = r#"
 
 #[test]
 fn rounds_cut_short(rt: HostRuntime) -> Result<(), Fail> {
-    assert_eq!(rt; first_wrong(rt.alloc(), &TellsRounds, ROUNDS)?, None);
-    Ok(())
+    are_told(rt.alloc(), &TellsRounds, ROUNDS)
 }
 
 // Each event where it applies and where it doesn't: what is on its way shows in the unsettled lines.
@@ -81,6 +80,5 @@ static EVENTS: &str = r#"
 
 #[test]
 fn single_events(rt: HostRuntime) -> Result<(), Fail> {
-    assert_eq!(rt; first_wrong(rt.alloc(), &TellsEvents, EVENTS)?, None);
-    Ok(())
+    are_told(rt.alloc(), &TellsEvents, EVENTS)
 }

@@ -1,9 +1,8 @@
-use crate::console::listed;
-use crate::journal::{COMMITTED, ENDED, STARTED, TIMED, disk_of, print};
-use nm_console::console::console;
+use crate::console::{plain, run_over};
+use crate::journal::{COMMITTED, ENDED, STARTED, TIMED, disk_of, print, prints, put};
+use crate::table::{Ended, holds, is_ended};
 use nm_console::status::Status;
-use nm_disk::{Disk, MemoryDisk};
-use nm_io::{MemorySink, MemorySource};
+use nm_disk::MemoryDisk;
 use std::alloc::Global;
 use std::test::Fail;
 
@@ -23,101 +22,143 @@ const ENDS: &str =
     "netm journal 1\nstart 1 devices 1 2 timeout 600\ndecide 1 commit\nend 1 kept 1 2\nchange 1 commit ended\n";
 
 // Runs a scenario over a journal.
-fn replay(alloc: Global, scenario: &str, disk: &mut MemoryDisk) -> Result<(Status, Vec<u8>), Fail> {
-    let words = listed(alloc, &["replay", "--journal", "file"])?;
-    let bytes = Vec::from_slice(alloc, scenario.as_bytes())?;
-    let mut input = MemorySource::new(bytes, Vec::new(alloc));
-    let mut output = MemorySink::new(alloc, 4096, Vec::new(alloc))?;
-    let status = console(alloc, words.as_slice(), &mut input, &mut output, disk);
-    Ok((status, Vec::from_slice(alloc, output.taken())?))
+fn replay(alloc: Global, scenario: &str, disk: &mut MemoryDisk) -> Result<Ended, Fail> {
+    let words = ["replay", "--journal", "file"];
+    run_over(alloc, &words, plain(scenario), disk)
+}
+
+// Fails where a run over a disk hasn't this status, or writes something where the disk fails.
+fn run_ends(alloc: Global, disk: &mut MemoryDisk, status: Status) -> Result<(), Fail> {
+    let ended = replay(alloc, WHOLE, disk)?;
+    let is_silent = ended.1.is_empty() == (status == Status::DiskFault);
+    holds(ended.0 == status && is_silent, "a run")
 }
 
 // Runs over a disk that fails at a call, and no more after it.
-fn replay_at(alloc: Global, call: u64, disk: &mut MemoryDisk) -> Result<(Status, Vec<u8>), Fail> {
+fn runs_at(alloc: Global, call: u64, disk: &mut MemoryDisk, status: Status) -> Result<(), Fail> {
     disk.plan(&[call])?;
-    let ended = replay(alloc, WHOLE, disk)?;
-    disk.plan(&[])?;
-    Ok(ended)
+    run_ends(alloc, disk, status)?;
+    Ok(disk.plan(&[])?)
 }
 
-// Whether a run whose disk fails at a call ends so, and leaves a journal of this text.
-fn ends_at(alloc: Global, call: u64, status: Status, text: &str) -> Result<bool, Fail> {
+fn lists(alloc: Global, disk: &mut MemoryDisk, text: &str) -> Result<(), Fail> {
+    let listed = print(alloc, disk)?;
+    holds(listed.1.as_slice() == text.as_bytes(), text)
+}
+
+// Fails where a run whose disk fails at a call doesn't end so, or doesn't leave a journal of this text.
+fn ends_at(alloc: Global, call: u64, status: Status, text: &str) -> Result<(), Fail> {
     let mut disk = MemoryDisk::with_limit(alloc, 64, 64)?;
-    let (ended, written) = replay_at(alloc, call, &mut disk)?;
-    let (_, listed) = print(alloc, &mut disk)?;
-    let is_silent = written.is_empty() == (status == Status::DiskFault);
-    Ok(ended == status && is_silent && listed.as_slice() == text.as_bytes())
+    runs_at(alloc, call, &mut disk, status)?;
+    lists(alloc, &mut disk, text)
+}
+
+// What a run leaves whose disk fails at a call.
+fn left_at(call: u64) -> &'static str {
+    match call {
+        1..=6 => NOTHING,
+        7..=10 => STARTS,
+        11..=14 => DECIDES,
+        _ => ENDS,
+    }
+}
+
+fn each_call_fails(alloc: Global) -> Result<(), Fail> {
+    for call in 1..=15u64 {
+        ends_at(alloc, call, Status::DiskFault, left_at(call))?;
+    }
+    Ok(())
 }
 
 // Each call of the disk fails in turn: three open the journal, and each entry takes four. Nothing is written, and the journal
 // lists the entries whose gate was opened; the one whose gate was opened and not synced is there where the disk kept it.
 #[test]
 fn each_call_of_the_disk_fails(rt: HostRuntime) -> Result<(), Fail> {
-    for call in 1..=15u64 {
-        let text = match call {
-            1..=6 => NOTHING,
-            7..=10 => STARTS,
-            11..=14 => DECIDES,
-            _ => ENDS,
-        };
-        assert!(rt;
-            ends_at(rt.alloc(), call, Status::DiskFault, text)?,
-            "{call}"
-        );
-    }
-    assert!(rt; ends_at(rt.alloc(), 16, Status::Ok, ENDS)?);
-    Ok(())
+    each_call_fails(rt.alloc())?;
+    ends_at(rt.alloc(), 16, Status::Ok, ENDS)
+}
+
+static RECORDS: [[u8; 16]; 3] = [TIMED, COMMITTED, ENDED];
+
+fn holds_records(alloc: Global, disk: &MemoryDisk) -> Result<(), Fail> {
+    let wanted = disk_of(alloc, &RECORDS)?;
+    holds(disk.bytes() == wanted.bytes(), "the records")
+}
+
+fn records_are_left(alloc: Global) -> Result<(), Fail> {
+    let mut disk = MemoryDisk::with_limit(alloc, 64, 16)?;
+    run_ends(alloc, &mut disk, Status::Ok)?;
+    holds_records(alloc, &disk)
 }
 
 // The bytes of a whole run are its three records, and a closed gate.
 #[test]
 fn records_stand_in_order(rt: HostRuntime) -> Result<(), Fail> {
-    let mut disk = MemoryDisk::with_limit(rt.alloc(), 64, 16)?;
-    let ended = replay(rt.alloc(), WHOLE, &mut disk)?;
-    assert_eq!(rt; ended.0, Status::Ok);
-    let wanted = disk_of(rt.alloc(), &[TIMED, COMMITTED, ENDED])?;
-    assert_eq!(rt; disk.bytes(), wanted.bytes());
+    records_are_left(rt.alloc())
+}
+
+fn put_front(disk: &mut MemoryDisk, bytes: &[u8], size: usize) {
+    for byte in &bytes[..size.min(bytes.len())] {
+        put(disk, &[*byte]);
+    }
+}
+
+// Fails where a journal of so many bytes of a whole run isn't printed so.
+fn is_front(alloc: Global, bytes: &[u8], size: usize, text: &str) -> Result<(), Fail> {
+    let mut disk = MemoryDisk::with_limit(alloc, 64, 64)?;
+    put_front(&mut disk, bytes, size);
+    prints(alloc, &mut disk, Status::Ok, text)
+}
+
+// What is read of a front of so many bytes.
+fn read_of(size: usize) -> &'static str {
+    match size {
+        0..=16 => NOTHING,
+        17..=32 => STARTS,
+        33..=48 => DECIDES,
+        _ => ENDS,
+    }
+}
+
+fn each_front(alloc: Global, bytes: &[u8]) -> Result<(), Fail> {
+    for size in 0..=49usize {
+        is_front(alloc, bytes, size, read_of(size))?;
+    }
     Ok(())
 }
 
-// Whether a journal of so many bytes of a whole run is printed so.
-fn is_front(alloc: Global, bytes: &[u8], size: usize, text: &str) -> Result<bool, Fail> {
-    let mut disk = MemoryDisk::with_limit(alloc, 64, 64)?;
-    for byte in &bytes[..size.min(bytes.len())] {
-        let end = disk.bytes().len() as u64;
-        let _ = disk.write_at(end, &[*byte]);
-    }
-    let (status, listed) = print(alloc, &mut disk)?;
-    Ok(status == Status::Ok && listed.as_slice() == text.as_bytes())
+fn fronts_of_records(alloc: Global) -> Result<(), Fail> {
+    let whole = disk_of(alloc, &RECORDS)?;
+    each_front(alloc, whole.bytes())
 }
 
 // A crash leaves some front of the bytes, which reads as the entries that are whole in it.
 #[test]
 fn fronts_are_read(rt: HostRuntime) -> Result<(), Fail> {
-    let whole = disk_of(rt.alloc(), &[TIMED, COMMITTED, ENDED])?;
-    for size in 0..=49usize {
-        let text = match size {
-            0..=16 => NOTHING,
-            17..=32 => STARTS,
-            33..=48 => DECIDES,
-            _ => ENDS,
-        };
-        assert!(rt; is_front(rt.alloc(), whole.bytes(), size, text)?, "{size}");
-    }
-    Ok(())
+    fronts_of_records(rt.alloc())
 }
 
-// Whether a run over a journal of one record ends so, and leaves it.
-fn is_refused(alloc: Global, scenario: &str, status: Status, text: &str) -> Result<bool, Fail> {
+fn replays(
+    alloc: Global,
+    disk: &mut MemoryDisk,
+    scenario: &str,
+    status: Status,
+    text: &str,
+) -> Result<(), Fail> {
+    let ended = replay(alloc, scenario, disk)?;
+    holds(is_ended(&ended, status, text), text)
+}
+
+// Fails where a run over a journal of one record doesn't end so, or doesn't leave it.
+fn is_refused(alloc: Global, scenario: &str, status: Status, text: &str) -> Result<(), Fail> {
     let mut disk = disk_of(alloc, &[STARTED])?;
-    let (ended, written) = replay(alloc, scenario, &mut disk)?;
-    Ok(ended == status && written.as_slice() == text.as_bytes() && disk.bytes().len() == 17)
+    replays(alloc, &mut disk, scenario, status, text)?;
+    holds(disk.bytes().len() == 17, "the journal")
 }
 
 // Nothing is run over a journal that holds something, and no journal is opened for what is no scenario.
 #[test]
 fn full_journals_are_refused(rt: HostRuntime) -> Result<(), Fail> {
-    assert!(rt; is_refused(rt.alloc(), WHOLE, Status::Journal, "journal not empty 17\n")?);
-    assert!(rt; is_refused(rt.alloc(), "{", Status::Scenario, "scenario not-json /\n")?);
-    Ok(())
+    is_refused(rt.alloc(), WHOLE, Status::Journal, "journal not empty 17\n")?;
+    is_refused(rt.alloc(), "{", Status::Scenario, "scenario not-json /\n")
 }

@@ -2,43 +2,77 @@ use nm_console::status::Status;
 use std::alloc::Global;
 use std::test::Fail;
 
-/// What is told of a text: a status and what was written.
+/// A status and what was written.
+pub type Ended = (Status, Vec<u8>);
+
+/// What is told of a text.
 pub trait Teller {
-    fn told(&self, alloc: Global, text: &str) -> Result<(Status, Vec<u8>), Fail>;
+    fn told(&self, alloc: Global, text: &str) -> Result<Ended, Fail>;
 }
 
-/// The first row of a table of which something else is told, none where all are told so. In each line after the first stands
-/// a row `TEXT => CODE TOLD` with the code of the status, in which `|` stands for each end of a line.
-pub fn first_wrong<T: Teller>(
-    alloc: Global,
-    teller: &T,
-    table: &'static str,
-) -> Result<Option<&'static str>, Fail> {
-    let mut wrong = Some("a table without rows");
+/// Fails with the first row of a table of which something else is told, and where there is none. In each line after the first
+/// stands a row `TEXT => CODE TOLD` with the code of the status, in which `|` stands for each end of a line.
+pub fn are_told<T: Teller>(alloc: Global, teller: &T, table: &str) -> Result<(), Fail> {
+    let mut any = false;
     for row in table.lines().skip(1) {
-        wrong = None;
-        if !is_told(alloc, teller, row)? {
-            return Ok(Some(row));
-        }
+        any = true;
+        is_told(alloc, teller, row)?;
     }
-    Ok(wrong)
+    holds(any, "a table without rows")
 }
 
-/// Whether something is told as its row says.
-pub fn is_told<T: Teller>(alloc: Global, teller: &T, row: &str) -> Result<bool, Fail> {
-    let (text, want) = row.split_once(" => ").ok_or("no row")?;
-    let (code, want) = want.split_once(' ').ok_or("no status")?;
-    let (status, told) = teller.told(alloc, text)?;
-    Ok(is_code(status, code) && is_text(told.as_slice(), want))
+/// Fails where something is not told as its row says.
+pub fn is_told<T: Teller>(alloc: Global, teller: &T, row: &str) -> Result<(), Fail> {
+    let (text, want) = parted(row, " => ")?;
+    tells(alloc, teller, text, want)
+}
+
+fn tells<T: Teller>(alloc: Global, teller: &T, text: &str, want: &str) -> Result<(), Fail> {
+    let ended = teller.told(alloc, text)?;
+    holds(is_said(&ended, want), want)
+}
+
+fn is_said(ended: &Ended, want: &str) -> bool {
+    match want.split_once(' ') {
+        Some((code, text)) => is_code(ended.0, code) && is_text(ended.1.as_slice(), text),
+        None => false,
+    }
 }
 
 fn is_code(status: Status, code: &str) -> bool {
     code.parse::<u8>() == Ok(status.code())
 }
 
-/// Whether a text is what a line tells, in which `|` stands for each end of a line.
-pub fn is_text(text: &[u8], line: &str) -> bool {
+fn is_letter(byte: u8, other: u8) -> bool {
+    byte == other || byte == b'\n' && other == b'|'
+}
+
+// Whether a text is what a line tells, in which `|` stands for each end of a line.
+fn is_text(text: &[u8], line: &str) -> bool {
     text.len() == line.len()
-        && text.iter().zip(line.as_bytes()).all(|(byte, other)| *byte == *other
-            || *byte == b'\n' && *other == b'|')
+        && text
+            .iter()
+            .zip(line.as_bytes())
+            .all(|(byte, other)| is_letter(*byte, *other))
+}
+
+/// Whether something ended so.
+pub fn is_ended(ended: &Ended, status: Status, text: &str) -> bool {
+    ended.0 == status && ended.1.as_slice() == text.as_bytes()
+}
+
+/// What stands before a mark and after it.
+pub fn parted<'t>(text: &'t str, by: &str) -> Result<(&'t str, &'t str), Fail> {
+    match text.split_once(by) {
+        Some(parts) => Ok(parts),
+        None => Err(Fail::new("no row")),
+    }
+}
+
+/// Fails with a text where something doesn't hold.
+pub fn holds(it: bool, what: &str) -> Result<(), Fail> {
+    if it {
+        return Ok(());
+    }
+    Err(Fail::new(what))
 }

@@ -1,4 +1,5 @@
-use crate::console::run;
+use crate::console::said;
+use crate::table::{holds, is_ended};
 use nm_console::status::Status;
 use std::alloc::Global;
 use std::test::Fail;
@@ -26,17 +27,16 @@ const REFUSALS: &str =
 const REFUSALS_TOLD: &str =
     "netm 1\n1 idle\n2 reply opened 1\n3 idle\n4 reply error operation-failed\n5 reply mark false\n6 reply rows 1\n7 reply ok\n8 reply error invalid-value path 7\n9 reply error lock-denied session 0\n10 reply ok\n11 idle\nrunning 1 {\"7\":1,\"marks\":[]}\ndiffer none\nunsettled none\n";
 
-fn is_told(alloc: Global, scenario: &str, told: &str) -> Result<bool, Fail> {
-    let ended = run(alloc, &["replay"], scenario, &[], &[])?;
-    Ok(ended.0 == Status::Ok && ended.1.as_slice() == told.as_bytes())
+fn is_told(alloc: Global, scenario: &str, told: &str) -> Result<(), Fail> {
+    let ended = said(alloc, &["replay"], scenario)?;
+    holds(is_ended(&ended, Status::Ok, told), told)
 }
 
 // Two operators beside each other, a reply that is handled three times, and what one session is refused. A session that
 // is asked for twice, or left when there is none, is idle. The texts are those that docs/FORMATS.md gives.
 #[test]
 fn traces_are_told(rt: HostRuntime) -> Result<(), Fail> {
-    assert!(rt; is_told(rt.alloc(), TWO_OPERATORS, TWO_OPERATORS_TOLD)?);
-    assert!(rt; is_told(rt.alloc(), ONE_REPLY, ONE_REPLY_TOLD)?);
-    assert!(rt; is_told(rt.alloc(), REFUSALS, REFUSALS_TOLD)?);
-    Ok(())
+    is_told(rt.alloc(), TWO_OPERATORS, TWO_OPERATORS_TOLD)?;
+    is_told(rt.alloc(), ONE_REPLY, ONE_REPLY_TOLD)?;
+    is_told(rt.alloc(), REFUSALS, REFUSALS_TOLD)
 }

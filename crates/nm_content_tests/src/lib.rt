@@ -5,3 +5,5 @@
 
 #[cfg(test)]
 mod content;
+#[cfg(test)]
+mod threads;

@@ -11,3 +11,5 @@ mod json;
 mod overlay;
 #[cfg(test)]
 mod plain;
+#[cfg(test)]
+mod rows;

@@ -3,7 +3,7 @@ ghost use Rattle.nm_proto.specs.FlatContent.{flat_meaning};
 ghost use Rattle.nm_device.specs.Device.{IsInTime, IsSound};
 ghost use Rattle.nm_device.specs.Table.{is_opening};
 
-use crate::words::{is_told, number_of, parted, request_of, yes_or_no};
+use crate::words::{halves, is_told, number_of, parted, request_of, yes_or_no};
 use nm_base::{Label, MANAGER, NoMemory, SessionId};
 use nm_device::Device;
 use nm_proto::{
@@ -12,45 +12,69 @@ use nm_proto::{
 use std::alloc::Global;
 use std::test::Fail;
 
-// A device that runs `{"7":1}`.
+// The configuration `{"7":1}`.
+fn seven(alloc: Global) -> Result<FlatConfig, NoMemory> {
+    let mut cells = NumberMap::new(alloc);
+    cells.insert(7, 1)?;
+    Ok(FlatConfig::new(alloc, cells))
+}
+
+// A device that runs it.
 fn device_of(alloc: Global) -> Result<Device<FlatContent>, Fail>
     ensures sound { IfOk result (λ device. IsSound flat_meaning device) }
 {
-    let mut cells = NumberMap::new(alloc);
-    cells.insert(7, 1)?;
-    let running = FlatConfig::new(alloc, cells);
+    let running = seven(alloc)?;
     match FlatContent::new(alloc).check(&running) {
         Ok(()) => Ok(Device::new(alloc, running)),
-        Err(_) => Err("not valid")?,
+        Err(_) => Err(Fail::new("not valid")),
     }
 }
 
 // Edit 0 sets cell 7 to 5, edit 1 to a value that isn't valid, and edit 2 names a cell that isn't there. Edit 3 takes
 // cell 7 away.
+const EDITS: [(u32, Option<u64>); 4] = [
+    (7, Some(5)),
+    (7, Some(1_000_001)),
+    (8, Some(1)),
+    (7, None),
+];
+
+fn edit_of(alloc: Global, key: u32, value: Option<u64>) -> Result<FlatEdit, NoMemory> {
+    let mut changes = NumberMap::new(alloc);
+    changes.insert(key, value)?;
+    Ok(FlatEdit { changes })
+}
+
 fn edits_of(alloc: Global) -> Result<Listed<FlatEdit>, NoMemory> {
     let mut edits = Listed::new(alloc);
-    for (key, value) in [(7, Some(5)), (7, Some(1_000_001)), (8, Some(1)), (7, None)] {
-        let mut changes = NumberMap::new(alloc);
-        changes.insert(key, value)?;
-        edits.push(FlatEdit { changes })?;
+    for (key, value) in &EDITS {
+        edits.push(edit_of(alloc, *key, *value)?)?;
     }
     Ok(edits)
 }
 
 // Selection 0 is of cell 7, selection 1 of cell 8, selection 2 of both, and selection 3 has a text that names none.
+const SELECTS: [&str; 4] = ["7 7", "8 8", "8 7", "7 x"];
+
+fn select_of(alloc: Global, words: &str) -> Result<Listed<Label>, NoMemory> {
+    let mut texts = Listed::new(alloc);
+    for word in words.split(' ') {
+        texts.push(Label::new(alloc, word)?)?;
+    }
+    Ok(texts)
+}
+
 fn selects_of(alloc: Global) -> Result<Listed<Listed<Label>>, NoMemory> {
     let mut selects = Listed::new(alloc);
-    for (one, other) in [("7", "7"), ("8", "8"), ("8", "7"), ("7", "x")] {
-        let mut texts = Listed::new(alloc);
-        texts.push(Label::new(alloc, one)?)?;
-        texts.push(Label::new(alloc, other)?)?;
-        selects.push(texts)?;
+    for words in &SELECTS {
+        selects.push(select_of(alloc, words)?)?;
     }
     Ok(selects)
 }
 
 fn tables_of(alloc: Global) -> Result<Tables<FlatContent>, NoMemory> {
-    Ok(Tables::new(edits_of(alloc)?, selects_of(alloc)?))
+    let edits = edits_of(alloc)?;
+    Ok(Tables::new(edits, selects_of(alloc)?))
 }
 
 // Whether a request asks for a session.
@@ -68,20 +92,38 @@ fn is_in_time(device: &Device<FlatContent>) -> bool
     device.clock() <= 1_000_000
 }
 
-// Whether a user gets the session with this number.
-fn opens(
-    alloc: Global,
-    device: &mut Device<FlatContent>,
-    user: &str,
-    session: u32,
-) -> Result<bool, NoMemory>
+// What a user who asks for a session is answered.
+fn entering(alloc: Global, device: &mut Device<FlatContent>, user: &str) -> Result<Reply, NoMemory>
     requires sound { IsSound flat_meaning device.old }
     ensures sound { IsSound flat_meaning device.new }
 {
-    match device.open_session(Label::new(alloc, user)?)? {
-        Reply::Opened(opened) => Ok(opened.get() == session),
-        _ => Ok(false),
+    device.open_session(Label::new(alloc, user)?)
+}
+
+fn is_opened(reply: &Reply, session: u32) -> bool {
+    match reply {
+        Reply::Opened(opened) => opened.get() == session,
+        _ => false,
     }
+}
+
+// Whether a user gets the session with this number.
+fn opens(alloc: Global, device: &mut Device<FlatContent>, user: &str, session: u32) -> bool
+    requires sound { IsSound flat_meaning device.old }
+    ensures sound { IsSound flat_meaning device.new }
+{
+    match entering(alloc, device, user) {
+        Ok(reply) => is_opened(&reply, session),
+        Err(_) => false,
+    }
+}
+
+// Whether alice gets session 1 and the manager session 2.
+fn opens_two(alloc: Global, device: &mut Device<FlatContent>) -> bool
+    requires sound { IsSound flat_meaning device.old }
+    ensures sound { IsSound flat_meaning device.new }
+{
+    opens(alloc, device, "alice", 1) && opens(alloc, device, MANAGER, 2)
 }
 
 // Two open sessions, 1 of alice and 2 of the manager.
@@ -89,8 +131,8 @@ fn two_sessions(alloc: Global) -> Result<Device<FlatContent>, Fail>
     ensures sound { IfOk result (λ device. IsSound flat_meaning device) }
 {
     let mut device = device_of(alloc)?;
-    if !opens(alloc, &mut device, "alice", 1)? || !opens(alloc, &mut device, MANAGER, 2)? {
-        return Err("not opened")?;
+    if !opens_two(alloc, &mut device) {
+        return Err(Fail::new("not opened"));
     }
     Ok(device)
 }
@@ -246,15 +288,11 @@ fn comes(
 
 // ---- scripts
 
-// Whether a step of a script is so: `1 lock running` of a session, `device clock` of the device itself.
-fn goes(alloc: Global, device: &mut Device<FlatContent>, step: &str, want: &str) -> bool
+// Whether a step of the device itself is so: `clock`, `restart`.
+fn is_device(alloc: Global, device: &mut Device<FlatContent>, words: &str, want: &str) -> bool
     requires sound { IsSound flat_meaning device.old }
     ensures sound { IsSound flat_meaning device.new }
 {
-    let (who, words) = parted(step);
-    if who != "device" {
-        return answers(alloc, device, who, words, want);
-    }
     let (word, rest) = parted(words);
     match is_so(device, word, rest, want) {
         Some(so) => so,
@@ -262,16 +300,44 @@ fn goes(alloc: Global, device: &mut Device<FlatContent>, step: &str, want: &str)
     }
 }
 
-// The first line `STEP => WANT` that isn't so, where sessions 1 of alice and 2 of the manager are open. None where all are.
+// Whether a step of a script is so: `1 lock running` of a session, `device clock` of the device itself.
+fn goes(alloc: Global, device: &mut Device<FlatContent>, step: &str, want: &str) -> bool
+    requires sound { IsSound flat_meaning device.old }
+    ensures sound { IsSound flat_meaning device.new }
+{
+    let (who, words) = parted(step);
+    if who == "device" {
+        return is_device(alloc, device, words, want);
+    }
+    answers(alloc, device, who, words, want)
+}
+
+// Whether a line `STEP => WANT` is so.
+fn is_line(alloc: Global, device: &mut Device<FlatContent>, line: &str) -> bool
+    requires sound { IsSound flat_meaning device.old }
+    ensures sound { IsSound flat_meaning device.new }
+{
+    let (step, want) = halves(line);
+    goes(alloc, device, step, want)
+}
+
+// The first line that isn't so, where sessions 1 of alice and 2 of the manager are open. None where all are.
 fn unlike(alloc: Global, script: &str) -> Result<Option<&str>, Fail> {
     let mut device = two_sessions(alloc)?;
     for line in script.lines().skip(1) {
-        let (step, want) = line.split_once(" => ").unwrap_or((line, ""));
-        if !goes(alloc, &mut device, step, want) {
+        if !is_line(alloc, &mut device, line) {
             return Ok(Some(line));
         }
     }
     Ok(None)
+}
+
+// Goes through a script. The failure is the first line that isn't so.
+fn passes(alloc: Global, script: &str) -> Result<(), Fail> {
+    match unlike(alloc, script)? {
+        Some(line) => Err(Fail::new(line)),
+        None => Ok(()),
+    }
 }
 
 // RFC 6241 section 7.5: who holds a lock is named, the asker included.
@@ -287,8 +353,7 @@ fn locks_are_denied_in_order(rt: HostRuntime) -> Result<(), Fail> {
 2 unlock candidate => ok
 2 unlock candidate => operation-failed
 ";
-    assert_eq!(rt; unlike(rt.alloc(), script)?, None);
-    Ok(())
+    passes(rt.alloc(), script)
 }
 
 // A modified candidate can't be locked, and unlocking one drops its changes.
@@ -304,8 +369,7 @@ fn modified_candidates_are_not_locked(rt: HostRuntime) -> Result<(), Fail> {
 2 lock candidate => ok
 device candidate 7 => 1
 ";
-    assert_eq!(rt; unlike(rt.alloc(), script)?, None);
-    Ok(())
+    passes(rt.alloc(), script)
 }
 
 // RFC 6241 section 8.3: a lock of candidate keeps every other session out, and what the content refuses is answered
@@ -324,8 +388,7 @@ fn edits_are_refused_in_order(rt: HostRuntime) -> Result<(), Fail> {
 device running 7 => 1
 device candidate 7 => 1000001
 ";
-    assert_eq!(rt; unlike(rt.alloc(), script)?, None);
-    Ok(())
+    passes(rt.alloc(), script)
 }
 
 // RFC 6241 section 8.3.4.1: no other session may hold a lock, and candidate must be valid.
@@ -342,8 +405,7 @@ fn commits_are_refused_in_order(rt: HostRuntime) -> Result<(), Fail> {
 1 commit => ok
 device running 7 => 5
 ";
-    assert_eq!(rt; unlike(rt.alloc(), script)?, None);
-    Ok(())
+    passes(rt.alloc(), script)
 }
 
 // RFC 6241 section 8.4: the manager's tokens are its own, a commit waits at least a second, and nothing else than what
@@ -356,8 +418,7 @@ fn tokens_are_refused_in_order(rt: HostRuntime) -> Result<(), Fail> {
 2 confirm netm:1 => invalid-value
 2 commit 600 netm:1 => ok
 ";
-    assert_eq!(rt; unlike(rt.alloc(), script)?, None);
-    Ok(())
+    passes(rt.alloc(), script)
 }
 
 // A pending commit keeps other users' lock of running out, and commits that don't name its token.
@@ -373,8 +434,7 @@ fn pending_commits_are_confirmed_by_their_token(rt: HostRuntime) -> Result<(), F
 2 confirm netm:1 => ok
 1 lock running => ok
 ";
-    assert_eq!(rt; unlike(rt.alloc(), script)?, None);
-    Ok(())
+    passes(rt.alloc(), script)
 }
 
 // Running is told by its marks and its rows.
@@ -389,8 +449,7 @@ fn running_is_told(rt: HostRuntime) -> Result<(), Fail> {
 1 has-mark 1 => mark yes
 1 get-config => rows 2
 ";
-    assert_eq!(rt; unlike(rt.alloc(), script)?, None);
-    Ok(())
+    passes(rt.alloc(), script)
 }
 
 // RFC 6241 section 8.4.4: a cancel names what is pending, and takes the follow-up of another session back too.
@@ -407,8 +466,7 @@ fn cancels_take_back_all(rt: HostRuntime) -> Result<(), Fail> {
 device pending => no
 device running 7 => 1
 ";
-    assert_eq!(rt; unlike(rt.alloc(), script)?, None);
-    Ok(())
+    passes(rt.alloc(), script)
 }
 
 // RFC 6241 sections 7.9 and 8.4.1: a kill ends another session that is open, and undoes what it had pending without a
@@ -425,8 +483,7 @@ fn kills_undo_what_is_their_own(rt: HostRuntime) -> Result<(), Fail> {
 device pending => no
 device running 7 => 1
 ";
-    assert_eq!(rt; unlike(rt.alloc(), script)?, None);
-    Ok(())
+    passes(rt.alloc(), script)
 }
 
 // RFC 6241 section 8.4.1: a commit is undone at its deadline, 600 seconds on, and at a restart, which ends all sessions.
@@ -441,7 +498,7 @@ device restart => undone
 device has-session 1 => no
 device running 7 => 1
 ";
-    assert_eq!(rt; unlike(rt.alloc(), script)?, None);
+    passes(rt.alloc(), script)?;
     let script = r"
 1 edit 0 => ok
 1 wait x => ok
@@ -451,8 +508,7 @@ device restart => kept
 device has-session 1 => no
 device running 7 => 1
 ";
-    assert_eq!(rt; unlike(rt.alloc(), script)?, None);
-    Ok(())
+    passes(rt.alloc(), script)
 }
 
 // The end of a session, by a close or by a loss, gives its locks back and drops the changes of a locked candidate.
@@ -472,8 +528,7 @@ device has-session 2 => no
 device candidate 7 => 1
 device clock => 0
 ";
-    assert_eq!(rt; unlike(rt.alloc(), script)?, None);
-    Ok(())
+    passes(rt.alloc(), script)
 }
 
 // RFC 5717 section 2.4.1: a partial lock is refused for a text that names no node, another's lock of running, a pending
@@ -494,8 +549,7 @@ fn partial_locks_are_refused_in_order(rt: HostRuntime) -> Result<(), Fail> {
 2 partial-lock 0 => lock-id 2
 1 partial-lock 4 => operation-failed
 ";
-    assert_eq!(rt; unlike(rt.alloc(), script)?, None);
-    Ok(())
+    passes(rt.alloc(), script)
 }
 
 // RFC 5717 section 2.4.2: a partial lock is given back by its holder, once, and at the end of its session.
@@ -511,8 +565,7 @@ fn partial_locks_are_given_back(rt: HostRuntime) -> Result<(), Fail> {
 2 close-session => ok
 1 lock running => ok
 ";
-    assert_eq!(rt; unlike(rt.alloc(), script)?, None);
-    Ok(())
+    passes(rt.alloc(), script)
 }
 
 // RFC 5717 section 2.5: a commit leaves what another session has locked as it is. Locked nodes that are gone are
@@ -534,8 +587,7 @@ fn locked_parts_stay(rt: HostRuntime) -> Result<(), Fail> {
 2 commit => ok
 device running 7 => 5
 ";
-    assert_eq!(rt; unlike(rt.alloc(), script)?, None);
-    Ok(())
+    passes(rt.alloc(), script)
 }
 
 // Only the manager changes the marks of change sets. That comes after others' partial locks, and before what isn't valid.
@@ -554,42 +606,50 @@ fn marks_are_the_managers(rt: HostRuntime) -> Result<(), Fail> {
 1 edit 2 => ok
 1 commit => ok
 ";
-    assert_eq!(rt; unlike(rt.alloc(), script)?, None);
-    Ok(())
+    passes(rt.alloc(), script)
 }
 
 // ---- limits
 
 // Whether alice gets the sessions 1 to 64.
-fn opens_64(alloc: Global, device: &mut Device<FlatContent>) -> Result<bool, NoMemory>
+fn opens_64(alloc: Global, device: &mut Device<FlatContent>) -> bool
     requires sound { IsSound flat_meaning device.old }
     ensures sound { IsSound flat_meaning device.new }
 {
     for session in 1..65 {
-        if !opens(alloc, device, "alice", session)? {
-            return Ok(false);
+        if !opens(alloc, device, "alice", session) {
+            return false;
         }
     }
-    Ok(true)
+    true
 }
 
 // Whether one more session, bob's, is refused so.
-fn is_refused(alloc: Global, device: &mut Device<FlatContent>, want: &str) -> Result<bool, NoMemory>
+fn is_refused(alloc: Global, device: &mut Device<FlatContent>, want: &str) -> bool
     requires sound { IsSound flat_meaning device.old }
     ensures sound { IsSound flat_meaning device.new }
 {
-    let reply = device.open_session(Label::new(alloc, "bob")?)?;
-    Ok(is_told(&reply, want))
+    match entering(alloc, device, "bob") {
+        Ok(reply) => is_told(&reply, want),
+        Err(_) => false,
+    }
+}
+
+// Whether there is no room until session 1 is closed, and its number isn't given again.
+fn has_no_room(alloc: Global, device: &mut Device<FlatContent>) -> bool
+    requires sound { IsSound flat_meaning device.old }
+    ensures sound { IsSound flat_meaning device.new }
+{
+    is_refused(alloc, device, "resource-denied")
+        && goes(alloc, device, "1 close-session", "ok")
+        && opens(alloc, device, "bob", 65)
 }
 
 // 64 sessions may be open, and no id is given twice.
 #[test]
 fn the_65th_session_is_refused(rt: HostRuntime) -> Result<(), Fail> {
     let mut device = device_of(rt.alloc())?;
-    assert!(rt; opens_64(rt.alloc(), &mut device)?);
-    assert!(rt; is_refused(rt.alloc(), &mut device, "resource-denied")?);
-    assert!(rt; goes(rt.alloc(), &mut device, "1 close-session", "ok"));
-    assert!(rt; opens(rt.alloc(), &mut device, "bob", 65)?);
+    assert!(rt; opens_64(rt.alloc(), &mut device) && has_no_room(rt.alloc(), &mut device));
     Ok(())
 }
 
@@ -617,26 +677,19 @@ fn locks_64_parts(alloc: Global, device: &mut Device<FlatContent>) -> bool
     true
 }
 
+// Whether neither session gets one more.
+fn locks_no_more(alloc: Global, device: &mut Device<FlatContent>) -> bool
+    requires sound { IsSound flat_meaning device.old }
+    ensures sound { IsSound flat_meaning device.new }
+{
+    goes(alloc, device, "1 partial-lock 0", "resource-denied")
+        && goes(alloc, device, "2 partial-lock 0", "lock-denied by 1")
+}
+
 // As many partial locks may stand as the limit allows.
 #[test]
 fn the_65th_partial_lock_is_refused(rt: HostRuntime) -> Result<(), Fail> {
     let mut device = two_sessions(rt.alloc())?;
-    assert!(rt; locks_64_parts(rt.alloc(), &mut device));
-    assert!(rt;
-        goes(
-            rt.alloc(),
-            &mut device,
-            "1 partial-lock 0",
-            "resource-denied"
-        )
-    );
-    assert!(rt;
-        goes(
-            rt.alloc(),
-            &mut device,
-            "2 partial-lock 0",
-            "lock-denied by 1"
-        )
-    );
+    assert!(rt; locks_64_parts(rt.alloc(), &mut device) && locks_no_more(rt.alloc(), &mut device));
     Ok(())
 }

@@ -4,10 +4,16 @@
 #![tactic(auto)]
 
 #[cfg(test)]
+mod begun;
+#[cfg(test)]
 mod cells;
+#[cfg(test)]
+mod courses;
 #[cfg(test)]
 mod device;
 #[cfg(test)]
 mod proto;
+#[cfg(test)]
+mod threads;
 #[cfg(test)]
 mod words;

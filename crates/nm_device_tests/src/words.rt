@@ -11,6 +11,11 @@ pub(crate) fn parted(text: &str) -> (&str, &str) {
     text.split_once(' ').unwrap_or((text, ""))
 }
 
+// The two halves of a row.
+pub(crate) fn halves(line: &str) -> (&str, &str) {
+    line.split_once(" => ").unwrap_or((line, ""))
+}
+
 // The number that a text is.
 pub(crate) fn number_of(text: &str) -> Option<u32> {
     text.parse::<u32>().ok()
@@ -190,13 +195,28 @@ pub(crate) fn is_told(reply: &Reply, want: &str) -> bool {
     let (word, rest) = parted(want);
     match reply {
         Reply::Done => want == "ok",
-        Reply::Opened(session) => word == "session" && number_of(rest) == Some(session.get()),
-        Reply::LockId(id) => word == "lock-id" && number_of(rest) == Some(*id),
         Reply::Mark(there) => word == "mark" && rest == yes_or_no(*there),
-        Reply::Rows(rows) => word == "rows" && number_of(rest) == Some(*rows),
         Reply::Error { tag, session, path } => {
             word == tag.text() && is_place(*session, path, rest)
         }
+        _ => is_number(reply, word, rest),
+    }
+}
+
+// The word and the number of a reply that gives one.
+fn numbered_reply(reply: &Reply) -> Option<(&'static str, u32)> {
+    match reply {
+        Reply::Opened(session) => Some(("session", session.get())),
+        Reply::LockId(id) => Some(("lock-id", *id)),
+        Reply::Rows(rows) => Some(("rows", *rows)),
+        _ => None,
+    }
+}
+
+fn is_number(reply: &Reply, word: &str, number: &str) -> bool {
+    match numbered_reply(reply) {
+        Some((name, told)) => word == name && number_of(number) == Some(told),
+        None => false,
     }
 }
 

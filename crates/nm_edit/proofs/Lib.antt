@@ -1,3 +1,4 @@
+pub mod Steps
 pub mod Outwards
 pub mod Going
 pub mod After

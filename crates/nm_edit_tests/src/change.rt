@@ -1,5 +1,5 @@
 use crate::tree::sample;
-use crate::words::{default_of, edit_of, expect};
+use crate::words::{Ask, are_so, default_of, edit_of, expect, fault_text, part};
 use nm_base::{Label, NoMemory};
 use nm_change::{apply_rows, changes_of};
 use nm_config::{Config, RowMap};
@@ -32,16 +32,11 @@ const CASES: &str = r#"
 {"ex:sys":{"iface":[{"mtu":1500,"name":"eth0"}]}} => none => /ex:sys - nothing & /ex:sys/iface[name='eth1'] - present => data-missing /ex:sys/iface[name='eth1'] => 0
 "#;
 
-// A case without what is expected of it.
-type Case<'t> = (&'t str, DefaultOperation, &'t str);
+// A configuration and the default operation of a line.
+type Case<'t> = (&'t str, DefaultOperation);
 
-// The case of a line, what is made, and how many rows are changed.
-fn case_of(line: &str) -> Option<(Case<'_>, &str, &str)> {
-    let (old, rest) = line.split_once(" => ")?;
-    let (word, rest) = rest.split_once(" => ")?;
-    let (nodes, rest) = rest.split_once(" => ")?;
-    let (made, count) = rest.split_once(" => ")?;
-    Some(((old, default_of(word)?, nodes), made, count))
+fn case_of(line: &str) -> Result<Case<'_>, Fail> {
+    Ok((part(line, 0), default_of(part(line, 1))?))
 }
 
 // An overlay over a configuration, of which nothing is changed.
@@ -57,108 +52,126 @@ fn text_of(
     alloc: Global,
     schema: &Schema,
     rows: &Overlay,
-    answer: &Result<(), EditFault>,
+    answer: Result<(), EditFault>,
 ) -> Result<String, NoMemory> {
     match answer {
         Ok(()) => write_config(alloc, schema, &rows.flat()?),
-        Err(EditFault::Refused { tag, path }) => Ok(format!(in alloc; "{} {path}", tag.text())?),
-        Err(EditFault::NoMemory) => Err(NoMemory),
+        Err(fault) => fault_text(alloc, fault),
     }
 }
 
+fn applied(
+    alloc: Global,
+    schema: &Schema,
+    rows: &mut Overlay,
+    edit: &Edit,
+    operation: DefaultOperation,
+) -> Result<String, NoMemory> {
+    let answer = apply_rows(alloc, schema, rows, edit, operation);
+    text_of(alloc, schema, rows, answer)
+}
+
 // What an edit makes, as it is printed.
-fn made(alloc: Global, schema: &Schema, case: Case<'_>) -> Result<String, Fail> {
-    let edit = edit_of(alloc, schema, case.2)?;
+fn made(alloc: Global, schema: &Schema, case: Case<'_>, edit: &Edit) -> Result<String, NoMemory> {
     let mut rows = over(alloc, schema, case.0)?;
-    let answer = apply_rows(alloc, schema, &mut rows, &edit, case.1);
-    Ok(text_of(alloc, schema, &rows, &answer)?)
+    applied(alloc, schema, &mut rows, edit, case.1)
 }
 
 // How many rows an edit leaves otherwise than they were.
-fn left(alloc: Global, schema: &Schema, case: Case<'_>) -> Result<usize, Fail> {
-    let edit = edit_of(alloc, schema, case.2)?;
+fn left(alloc: Global, schema: &Schema, case: Case<'_>, edit: &Edit) -> Result<usize, NoMemory> {
     let mut rows = over(alloc, schema, case.0)?;
-    let _ = apply_rows(alloc, schema, &mut rows, &edit, case.1);
+    let _ = apply_rows(alloc, schema, &mut rows, edit, case.1);
     Ok(rows.pairs().len())
 }
 
 // How many rows an edit changes by what is told of it; none where it is refused.
-fn told(alloc: Global, schema: &Schema, case: Case<'_>) -> Result<usize, Fail> {
-    let edit = edit_of(alloc, schema, case.2)?;
+fn told(alloc: Global, schema: &Schema, case: Case<'_>, edit: &Edit) -> Result<usize, NoMemory> {
     let rows = over(alloc, schema, case.0)?;
-    match changes_of(alloc, schema, &rows, &edit, case.1) {
+    match changes_of(alloc, schema, &rows, edit, case.1) {
         Ok(changes) => Ok(changes.len()),
         Err(_) => Ok(0),
     }
 }
 
-// What is asked of each case.
-#[derive(Clone, Copy)]
-enum Ask {
-    Made,
-    Left,
-    Told,
-}
-
-fn expect_count(line: &str, count: usize, expected: &str) -> Result<(), Fail> {
+fn expect_count(count: usize, expected: &str) -> Result<(), Fail> {
     if expected.parse::<usize>() == Ok(count) {
         return Ok(());
     }
-    Err(Fail::new(format_args!("{count} of {line}")))
+    Err(Fail::new(format_args!("{count} for {expected}")))
 }
 
-// Fails where the answer isn't what a line expects.
-fn is_so(alloc: Global, schema: &Schema, ask: Ask, line: &str) -> Result<(), Fail> {
-    let (case, text, count) = case_of(line).ok_or("no case")?;
-    match ask {
-        Ask::Made => expect(line, made(alloc, schema, case)?.as_str(), text),
-        Ask::Left => expect_count(line, left(alloc, schema, case)?, count),
-        Ask::Told => expect_count(line, told(alloc, schema, case)?, count),
-    }
-}
+struct AsksMade;
 
-fn are_so(alloc: Global, ask: Ask) -> Result<(), Fail> {
-    let schema = sample(alloc)?;
-    for line in CASES.lines().skip(1) {
-        is_so(alloc, &schema, ask, line)?;
+impl Ask for AsksMade {
+    fn is_so(&self, alloc: Global, schema: &Schema, line: &str) -> Result<(), Fail> {
+        let case = case_of(line)?;
+        let edit = edit_of(alloc, schema, part(line, 2))?;
+        expect(made(alloc, schema, case, &edit)?.as_str(), part(line, 3))
     }
-    Ok(())
 }
 
 #[test]
 fn rows_are_edited(rt: HostRuntime) -> Result<(), Fail> {
-    are_so(rt.alloc(), Ask::Made)
+    are_so(rt.alloc(), &AsksMade, CASES)
+}
+
+struct AsksLeft;
+
+impl Ask for AsksLeft {
+    fn is_so(&self, alloc: Global, schema: &Schema, line: &str) -> Result<(), Fail> {
+        let case = case_of(line)?;
+        let edit = edit_of(alloc, schema, part(line, 2))?;
+        expect_count(left(alloc, schema, case, &edit)?, part(line, 4))
+    }
 }
 
 #[test]
 fn only_changes_are_left(rt: HostRuntime) -> Result<(), Fail> {
-    are_so(rt.alloc(), Ask::Left)
+    are_so(rt.alloc(), &AsksLeft, CASES)
+}
+
+struct AsksTold;
+
+impl Ask for AsksTold {
+    fn is_so(&self, alloc: Global, schema: &Schema, line: &str) -> Result<(), Fail> {
+        let case = case_of(line)?;
+        let edit = edit_of(alloc, schema, part(line, 2))?;
+        expect_count(told(alloc, schema, case, &edit)?, part(line, 4))
+    }
 }
 
 #[test]
 fn changes_are_told(rt: HostRuntime) -> Result<(), Fail> {
-    are_so(rt.alloc(), Ask::Told)
+    are_so(rt.alloc(), &AsksTold, CASES)
 }
 
-// Does the edit of a line by merging to rows that were edited before; so many are otherwise than in the base then.
+// Does an edit by merging to rows that were edited before, and answers how many are otherwise than in the base then.
+fn merged(alloc: Global, schema: &Schema, rows: &mut Overlay, nodes: &str) -> Result<usize, Fail> {
+    let edit = edit_of(alloc, schema, nodes)?;
+    let _ = apply_rows(alloc, schema, rows, &edit, DefaultOperation::Merge);
+    Ok(rows.pairs().len())
+}
+
 fn edit_further(
     alloc: Global,
     schema: &Schema,
     rows: &mut Overlay,
     line: &str,
 ) -> Result<(), Fail> {
-    let (nodes, expected) = line.split_once(" => ").ok_or("no step")?;
-    let edit = edit_of(alloc, schema, nodes)?;
-    let _ = apply_rows(alloc, schema, rows, &edit, DefaultOperation::Merge);
-    expect_count(line, rows.pairs().len(), expected)
+    let count = merged(alloc, schema, rows, part(line, 0))?;
+    expect_count(count, part(line, 1))
 }
 
-fn edit_all(alloc: Global, schema: &Schema, lines: &str) -> Result<(), Fail> {
-    let mut rows = over(alloc, schema, BASE)?;
-    for line in lines.lines().skip(1) {
-        edit_further(alloc, schema, &mut rows, line)?;
+fn edit_all(alloc: Global, schema: &Schema, rows: &mut Overlay) -> Result<(), Fail> {
+    for line in STEPS.lines().skip(1) {
+        edit_further(alloc, schema, rows, line)?;
     }
     Ok(())
+}
+
+fn edit_base(alloc: Global, schema: &Schema) -> Result<(), Fail> {
+    let mut rows = over(alloc, schema, BASE)?;
+    edit_all(alloc, schema, &mut rows)
 }
 
 // A value and the one before again leave no pair, and an entry that goes leaves one for each of its rows.
@@ -170,27 +183,43 @@ const STEPS: &str = r#"
 
 #[test]
 fn edits_follow_edits(rt: HostRuntime) -> Result<(), Fail> {
-    let schema = sample(rt.alloc())?;
-    edit_all(rt.alloc(), &schema, STEPS)
+    edit_base(rt.alloc(), &sample(rt.alloc())?)
+}
+
+fn numbered_step(alloc: Global, number: i128) -> Result<Step, NoMemory> {
+    let module = Label::new(alloc, "ex")?;
+    let name = Label::new(alloc, "entry")?;
+    Ok(Step {
+        module,
+        name,
+        chosen: Chosen::Entry(Value::Int(number)),
+    })
 }
 
 // The path of an entry of a list, by a number.
 fn numbered(alloc: Global, number: i128) -> Result<Path, NoMemory> {
     let mut steps = Vec::new(alloc);
-    steps.push(Step {
-        module: Label::new(alloc, "ex")?,
-        name: Label::new(alloc, "entry")?,
-        chosen: Chosen::Entry(Value::Int(number)),
-    })?;
+    steps.push(numbered_step(alloc, number)?)?;
     Ok(Path { steps })
+}
+
+fn put_numbered(alloc: Global, config: &mut Config, number: u32) -> Result<(), NoMemory> {
+    let path = numbered(alloc, i128::from(number))?;
+    let _ = config.put(path, Value::Present)?;
+    Ok(())
+}
+
+fn put_all(alloc: Global, config: &mut Config) -> Result<(), NoMemory> {
+    for number in 0..20_000u32 {
+        put_numbered(alloc, config, number)?;
+    }
+    Ok(())
 }
 
 // As many rows as a configuration may have.
 fn full(alloc: Global) -> Result<Config, NoMemory> {
     let mut config = Config::new(alloc);
-    for number in 0..20_000u32 {
-        let _ = config.put(numbered(alloc, i128::from(number))?, Value::Present)?;
-    }
+    put_all(alloc, &mut config)?;
     Ok(config)
 }
 
@@ -201,15 +230,18 @@ fn refused(alloc: Global, schema: &Schema, edit: &Edit) -> Result<(bool, u32), N
     Ok((answer.is_err(), RowMap::row_count(&rows)))
 }
 
+const ROW_MORE: &str = "/ex:sys - nothing & /ex:sys/iface[name='eth0'] - present";
+
+fn is_refused(alloc: Global, schema: &Schema) -> Result<(), Fail> {
+    let edit = edit_of(alloc, schema, ROW_MORE)?;
+    match refused(alloc, schema, &edit)? {
+        (true, 20_000) => Ok(()),
+        _ => Err(Fail::new("a row more")),
+    }
+}
+
 // A row more than a configuration may have is refused, and nothing is changed.
 #[test]
 fn too_many_rows_are_refused(rt: HostRuntime) -> Result<(), Fail> {
-    let schema = sample(rt.alloc())?;
-    let edit = edit_of(
-        rt.alloc(),
-        &schema,
-        "/ex:sys - nothing & /ex:sys/iface[name='eth0'] - present",
-    )?;
-    assert_eq!(rt; refused(rt.alloc(), &schema, &edit)?, (true, 20_000));
-    Ok(())
+    is_refused(rt.alloc(), &sample(rt.alloc())?)
 }

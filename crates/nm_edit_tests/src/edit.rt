@@ -2,8 +2,7 @@ mod below;
 mod cases;
 mod kinds;
 
-use crate::tree::sample;
-use crate::words::{default_of, edit_of, expect, filled};
+use crate::words::{Ask, are_so, default_of, edit_of, expect, fault_text, filled, part, parted};
 use nm_base::NoMemory;
 use nm_config::Config;
 use nm_edit::{Edit, EditFault, apply};
@@ -16,13 +15,23 @@ use std::test::Fail;
 fn text_of(
     alloc: Global,
     schema: &Schema,
-    answer: &Result<Config, EditFault>,
+    answer: Result<Config, EditFault>,
 ) -> Result<String, NoMemory> {
     match answer {
-        Ok(config) => write_config(alloc, schema, config),
-        Err(EditFault::Refused { tag, path }) => Ok(format!(in alloc; "{} {path}", tag.text())?),
-        Err(EditFault::NoMemory) => Err(NoMemory),
+        Ok(config) => write_config(alloc, schema, &config),
+        Err(fault) => fault_text(alloc, fault),
     }
+}
+
+fn applied(
+    alloc: Global,
+    schema: &Schema,
+    config: &Config,
+    default_operation: DefaultOperation,
+    edit: &Edit,
+) -> Result<String, NoMemory> {
+    let answer = apply(alloc, schema, config, edit, default_operation);
+    text_of(alloc, schema, answer)
 }
 
 // What an edit makes of a configuration, as it is printed.
@@ -35,11 +44,21 @@ fn made(
 ) -> Result<String, NoMemory> {
     match read_config(alloc, schema, old.as_bytes()) {
         Err(_) => Ok(String::from_str(alloc, "not read")?),
-        Ok(config) => {
-            let answer = apply(alloc, schema, &config, edit, default_operation);
-            text_of(alloc, schema, &answer)
-        }
+        Ok(config) => applied(alloc, schema, &config, default_operation, edit),
     }
+}
+
+// Fails where an edit doesn't make this of a configuration.
+fn makes(
+    alloc: Global,
+    schema: &Schema,
+    old: &str,
+    default_operation: DefaultOperation,
+    edit: &Edit,
+    expected: &str,
+) -> Result<(), Fail> {
+    let made = made(alloc, schema, old, default_operation, edit)?;
+    expect(made.as_str(), expected)
 }
 
 // ---- one edit of two configurations
@@ -52,31 +71,46 @@ struct Sides {
     without: &'static str,
 }
 
-// The default operation, what is said of the nodes, and what is made of each configuration.
-fn row_of(line: &str) -> Option<(DefaultOperation, &str, &str, &str)> {
-    let (said, rest) = line.split_once(" => ")?;
-    let (word, operations) = said.split_once(' ')?;
-    let (there, without) = rest.split_once(" => ")?;
-    Some((default_of(word)?, operations, there, without))
+// Fails where the edit doesn't make of the configurations what a line says.
+fn both_made(
+    alloc: Global,
+    schema: &Schema,
+    sides: Sides,
+    default_operation: DefaultOperation,
+    edit: &Edit,
+    line: &str,
+) -> Result<(), Fail> {
+    let there = part(line, 1);
+    let without = part(line, 2);
+    makes(alloc, schema, sides.there, default_operation, edit, there)?;
+    makes(
+        alloc,
+        schema,
+        sides.without,
+        default_operation,
+        edit,
+        without,
+    )
 }
 
-// Fails where the edit of a line doesn't make of the configurations what the line says.
-fn is_row(alloc: Global, schema: &Schema, sides: Sides, line: &str) -> Result<(), Fail> {
-    let (default_operation, operations, there, without) = row_of(line).ok_or("no row")?;
-    let nodes = filled(alloc, sides.nodes, operations)?;
-    let edit = edit_of(alloc, schema, nodes.as_str())?;
-    let once = made(alloc, schema, sides.there, default_operation, &edit)?;
-    expect(line, once.as_str(), there)?;
-    let once = made(alloc, schema, sides.without, default_operation, &edit)?;
-    expect(line, once.as_str(), without)
+fn filled_edit(alloc: Global, schema: &Schema, nodes: &str, said: &str) -> Result<Edit, Fail> {
+    let nodes = filled(alloc, nodes, said)?;
+    edit_of(alloc, schema, nodes.as_str())
 }
 
-fn are_rows(alloc: Global, sides: Sides, lines: &str) -> Result<(), Fail> {
-    let schema = sample(alloc)?;
-    for line in lines.lines().skip(1) {
-        is_row(alloc, &schema, sides, line)?;
+// The default operation and what is said of the nodes.
+fn said_of(said: &str) -> Result<(DefaultOperation, &str), Fail> {
+    let (word, operations) = parted(said, " ")?;
+    Ok((default_of(word)?, operations))
+}
+
+// A line: the default operation and what is said of the nodes, and what is made of each configuration.
+impl Ask for Sides {
+    fn is_so(&self, alloc: Global, schema: &Schema, line: &str) -> Result<(), Fail> {
+        let (default_operation, operations) = said_of(part(line, 0))?;
+        let edit = filled_edit(alloc, schema, self.nodes, operations)?;
+        both_made(alloc, schema, *self, default_operation, &edit, line)
     }
-    Ok(())
 }
 
 // What the nodes are put into that aren't there.
@@ -90,7 +124,7 @@ const LEAF: Sides = Sides {
 
 #[test]
 fn leafs_are_edited(rt: HostRuntime) -> Result<(), Fail> {
-    are_rows(rt.alloc(), LEAF, kinds::LEAF)
+    are_so(rt.alloc(), &LEAF, kinds::LEAF)
 }
 
 const ENTRY: Sides = Sides {
@@ -101,7 +135,7 @@ const ENTRY: Sides = Sides {
 
 #[test]
 fn entries_are_edited(rt: HostRuntime) -> Result<(), Fail> {
-    are_rows(rt.alloc(), ENTRY, kinds::ENTRY)
+    are_so(rt.alloc(), &ENTRY, kinds::ENTRY)
 }
 
 const VALUE: Sides = Sides {
@@ -112,7 +146,7 @@ const VALUE: Sides = Sides {
 
 #[test]
 fn values_of_leaf_lists_are_edited(rt: HostRuntime) -> Result<(), Fail> {
-    are_rows(rt.alloc(), VALUE, kinds::VALUE)
+    are_so(rt.alloc(), &VALUE, kinds::VALUE)
 }
 
 const PRESENCE: Sides = Sides {
@@ -123,7 +157,7 @@ const PRESENCE: Sides = Sides {
 
 #[test]
 fn containers_with_presence_are_edited(rt: HostRuntime) -> Result<(), Fail> {
-    are_rows(rt.alloc(), PRESENCE, kinds::PRESENCE)
+    are_so(rt.alloc(), &PRESENCE, kinds::PRESENCE)
 }
 
 const CONTAINER: Sides = Sides {
@@ -134,7 +168,7 @@ const CONTAINER: Sides = Sides {
 
 #[test]
 fn containers_without_presence_are_edited(rt: HostRuntime) -> Result<(), Fail> {
-    are_rows(rt.alloc(), CONTAINER, kinds::CONTAINER)
+    are_so(rt.alloc(), &CONTAINER, kinds::CONTAINER)
 }
 
 // An entry and a leaf in it.
@@ -146,41 +180,35 @@ const BELOW: Sides = Sides {
 
 #[test]
 fn operations_are_looked_at_below_others(rt: HostRuntime) -> Result<(), Fail> {
-    are_rows(rt.alloc(), BELOW, below::BELOW)
+    are_so(rt.alloc(), &BELOW, below::BELOW)
 }
 
 // ---- several edits
 
-// A configuration, the default operation, the nodes of an edit, and what is made: a configuration, or a tag and a path.
-fn case_of(line: &str) -> Option<(&str, DefaultOperation, &str, &str)> {
-    let (old, rest) = line.split_once(" => ")?;
-    let (word, rest) = rest.split_once(" => ")?;
-    let (nodes, expected) = rest.split_once(" => ")?;
-    Some((old, default_of(word)?, nodes, expected))
-}
+// A line: a configuration, the default operation, the nodes of an edit, and what is made: a configuration, or a tag and a path.
+struct Several;
 
-// Fails where the edit of a line doesn't make what the line says.
-fn is_case(alloc: Global, schema: &Schema, line: &str) -> Result<(), Fail> {
-    let (old, default_operation, nodes, expected) = case_of(line).ok_or("no case")?;
-    let edit = edit_of(alloc, schema, nodes)?;
-    let once = made(alloc, schema, old, default_operation, &edit)?;
-    expect(line, once.as_str(), expected)
-}
-
-fn are_cases(alloc: Global, lines: &str) -> Result<(), Fail> {
-    let schema = sample(alloc)?;
-    for line in lines.lines().skip(1) {
-        is_case(alloc, &schema, line)?;
+impl Ask for Several {
+    fn is_so(&self, alloc: Global, schema: &Schema, line: &str) -> Result<(), Fail> {
+        let operation = default_of(part(line, 1))?;
+        let edit = edit_of(alloc, schema, part(line, 2))?;
+        makes(
+            alloc,
+            schema,
+            part(line, 0),
+            operation,
+            &edit,
+            part(line, 3),
+        )
     }
-    Ok(())
 }
 
 #[test]
 fn cases_are_switched(rt: HostRuntime) -> Result<(), Fail> {
-    are_cases(rt.alloc(), cases::SWITCHED)
+    are_so(rt.alloc(), &Several, cases::SWITCHED)
 }
 
 #[test]
 fn first_refused_nodes_answer(rt: HostRuntime) -> Result<(), Fail> {
-    are_cases(rt.alloc(), cases::SEVERAL)
+    are_so(rt.alloc(), &Several, cases::SEVERAL)
 }

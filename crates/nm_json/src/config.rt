@@ -119,6 +119,15 @@ fn answer(
     Ok(config)
 }
 
+// The configuration that a JSON value holds, whose rows are looked at one by one, or the least of its faults.
+fn row_by_row(alloc: Global, schema: &Schema, value: &Json) -> Result<Config, JsonFault>
+    ensures { spec.Gives result (spec.config_read schema.now (view value.now)) }
+{
+    let Gathered { rows, mut least } = gather(alloc, schema, value)?;
+    let config = put_rows(alloc, &mut least, rows)?;
+    answer(alloc, schema, &least, config)
+}
+
 /// The configuration that a JSON value holds by a schema, or the least of its faults (RFC 7951 sections 4 to 6).
 ///
 /// Members at the top are named `module:name`; below, a name with or without the module's. Faults are ordered by their
@@ -134,9 +143,7 @@ pub fn config_of(alloc: Global, schema: &Schema, value: &Json) -> Result<Config,
         return answer(alloc, schema, &least, config);
     }
     // A row is repeated, which is seldom: the rows are gathered again and looked at one by one.
-    let Gathered { rows, mut least } = gather(alloc, schema, value)?;
-    let config = put_rows(alloc, &mut least, rows)?;
-    answer(alloc, schema, &least, config)
+    row_by_row(alloc, schema, value)
 }
 
 /// The configuration of a JSON text (RFC 8259), nested at most 127 deep. Of a member that comes twice in one object the

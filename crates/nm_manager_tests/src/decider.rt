@@ -1,7 +1,7 @@
-use crate::words::{ask_of, device_of, reply_of, verdict_of};
+use crate::words::{ask_of, device_of, passed, reply_of, verdict_of};
 use nm_base::{ChangeNo, DeviceMask, DeviceNo, SessionId};
 use nm_decider::{Course, NextAction, Stage};
-use nm_proto::{Ask, Reply};
+use nm_proto::{Ask, Reply, Verdict};
 use std::test::Fail;
 
 // The reply that fits what was asked.
@@ -42,7 +42,11 @@ fn is_so(course: &mut Course, line: &str) -> Option<bool> {
     if actor == "course" {
         return goes_on(course, words, want);
     }
-    let device = device_of(actor)?;
+    device_goes_on(course, device_of(actor)?, words, want)
+}
+
+// The same of a device.
+fn device_goes_on(course: &mut Course, device: DeviceNo, words: &str, want: &str) -> Option<bool> {
     match ask_of(words) {
         Some(ask) => asks(course, device, ask, want),
         None => acts(course, device, words, want),
@@ -61,21 +65,21 @@ fn asks(course: &mut Course, device: DeviceNo, what: Ask, want: &str) -> Option<
 // What else comes of a device.
 fn acts(course: &mut Course, device: DeviceNo, words: &str, want: &str) -> Option<bool> {
     match words {
-        "may-renew" => Some(
-            (if course.may_renew(device) {
-                "yes"
-            } else {
-                "no"
-            }) == want,
-        ),
+        "may-renew" => Some(yes_or_no(course.may_renew(device)) == want),
         "stage" => Some(want == "resync" && course.seat(device).stage == Stage::Resync),
-        "reply" => {
-            let reply = reply_of(want)?;
-            course.on_reply(device, &reply);
-            Some(true)
-        }
+        "reply" => replies(course, device, want),
         _ => Some(want == "ok" && moves(course, device, words)),
     }
+}
+
+fn yes_or_no(yes: bool) -> &'static str {
+    if yes { "yes" } else { "no" }
+}
+
+fn replies(course: &mut Course, device: DeviceNo, want: &str) -> Option<bool> {
+    let reply = reply_of(want)?;
+    course.on_reply(device, &reply);
+    Some(true)
 }
 
 // What a device is told of without an answer, and false where it can't be read.
@@ -95,14 +99,16 @@ fn moves(course: &mut Course, device: DeviceNo, word: &str) -> bool {
 fn goes_on(course: &mut Course, word: &str, want: &str) -> Option<bool> {
     match word {
         "next" => Some(course.next_action() == action_of(want)?),
-        "verdict" => Some(course.verdict() == Some(verdict_of(want)?)),
         "change" => Some(want.parse::<u32>() == Ok(course.change().get())),
-        "decided" => {
-            course.on_decided(verdict_of(want)?);
-            Some(true)
-        }
+        "verdict" => Some(course.verdict() == Some(verdict_of(want)?)),
+        "decided" => decides(course, want),
         _ => None,
     }
+}
+
+fn decides(course: &mut Course, verdict: &str) -> Option<bool> {
+    course.on_decided(verdict_of(verdict)?);
+    Some(true)
 }
 
 // An action: `wait`, `send 1 open`, `decide commit`, or `finish 3` with the mask of the devices that have kept it.
@@ -113,12 +119,17 @@ fn action_of(words: &str) -> Option<NextAction> {
     let (word, rest) = words.split_once(" ")?;
     match word {
         "decide" => Some(NextAction::Decide(verdict_of(rest)?)),
-        "finish" => Some(NextAction::Finish {
-            kept: DeviceMask(rest.parse::<u32>().ok()?),
-        }),
+        "finish" => finished(rest),
         "send" => sent_to(rest),
         _ => None,
     }
+}
+
+fn finished(kept: &str) -> Option<NextAction> {
+    let kept = kept.parse::<u32>().ok()?;
+    Some(NextAction::Finish {
+        kept: DeviceMask(kept),
+    })
 }
 
 fn sent_to(words: &str) -> Option<NextAction> {
@@ -129,9 +140,11 @@ fn sent_to(words: &str) -> Option<NextAction> {
     })
 }
 
-// Change set 1 over the devices of a mask.
-fn course_of(devices: u32) -> Option<Course> {
-    Some(Course::new(ChangeNo::new(1)?, DeviceMask(devices)))
+// Goes through a script of change set 1 over the devices of a mask. The failure is the first line that isn't so.
+fn passes(devices: u32, script: &str) -> Result<(), Fail> {
+    let change = ChangeNo::new(1).ok_or("1")?;
+    let mut course = Course::new(change, DeviceMask(devices));
+    passed(first_wrong(&mut course, script))
 }
 
 // Device 1 and then device 2, up to their confirmed commits; then by turns, since the fewest requests come first.
@@ -158,10 +171,8 @@ course next => finish 3
 "#;
 
 #[test]
-fn all_devices_commit(rt: HostRuntime) -> Result<(), Fail> {
-    let mut course = course_of(0b11).ok_or("1")?;
-    assert_eq!(rt; first_wrong(&mut course, COMMITTED), "");
-    Ok(())
+fn all_devices_commit() -> Result<(), Fail> {
+    passes(0b11, COMMITTED)
 }
 
 // A refusal is the cause, whatever breaks after it. Device 2, which was refused, is cancelled too; device 3 was never asked.
@@ -189,10 +200,8 @@ course next => finish 0
 "#;
 
 #[test]
-fn the_first_refusal_aborts(rt: HostRuntime) -> Result<(), Fail> {
-    let mut course = course_of(0b111).ok_or("1")?;
-    assert_eq!(rt; first_wrong(&mut course, REFUSED), "");
-    Ok(())
+fn the_first_refusal_aborts() -> Result<(), Fail> {
+    passes(0b111, REFUSED)
 }
 
 // What was lost is found out anew, and without a verdict the change set is aborted.
@@ -205,18 +214,17 @@ course next => send 32 resync
 course next => finish 2147483648
 "#;
 
-#[test]
-fn lost_memory_resynchronises(rt: HostRuntime) -> Result<(), Fail> {
+// The same of change set 64 over device 32, where all but the verdict was lost.
+fn passes_lost(verdict: Option<Verdict>, script: &str) -> Result<(), Fail> {
     let change = ChangeNo::new(64).ok_or("64")?;
-    let devices = DeviceMask(0x8000_0000);
-    let mut lost = Course::recovered(change, devices, None);
-    assert_eq!(rt;
-        first_wrong(&mut lost, "course next => decide forgotten"),
-        ""
-    );
-    let mut course = Course::recovered(change, devices, verdict_of("commit"));
-    assert_eq!(rt; first_wrong(&mut course, LOST), "");
-    Ok(())
+    let mut course = Course::recovered(change, DeviceMask(0x8000_0000), verdict);
+    passed(first_wrong(&mut course, script))
+}
+
+#[test]
+fn lost_memory_resynchronises() -> Result<(), Fail> {
+    passes_lost(None, "course next => decide forgotten")?;
+    passes_lost(verdict_of("commit"), LOST)
 }
 
 // A device that has acknowledged may be renewed, and a renewal that is refused is a lapse.
@@ -238,8 +246,6 @@ course next => decide lapsed 1
 "#;
 
 #[test]
-fn refused_renewals_abort(rt: HostRuntime) -> Result<(), Fail> {
-    let mut course = course_of(0b11).ok_or("1")?;
-    assert_eq!(rt; first_wrong(&mut course, RENEWED), "");
-    Ok(())
+fn refused_renewals_abort() -> Result<(), Fail> {
+    passes(0b11, RENEWED)
 }

@@ -1,6 +1,6 @@
 ghost use Rattle.std.specs.Prelude.{◌+◌, ◌≤◌};
 
-use nm_base::{ChangeNo, DeviceMask, DeviceNo, Label, Tag};
+use nm_base::{ChangeNo, DeviceMask, DeviceNo, Label, NoMemory, Tag};
 use nm_disk::{Disk, FileDisk, MemoryDisk};
 use nm_journal::{Journal, JournalFault, ends, may_follow, read_disk, read_entries};
 use nm_proto::{AbortCause, Entry, Verdict};
@@ -56,18 +56,32 @@ fn is_found(alloc: Global, disk: &mut MemoryDisk, entries: &[Entry]) -> Result<b
     if looked.as_slice() != entries {
         return Ok(false);
     }
+    reopens(alloc, disk, entries)
+}
+
+// Whether the journal is reopened with these entries.
+fn reopens<D: Disk>(alloc: Global, disk: &mut D, entries: &[Entry]) -> Result<bool, JournalFault> {
     let (_, again) = Journal::reopen(alloc, disk)?;
     Ok(again.as_slice() == entries)
+}
+
+// Whether the run writes the whole journal, which is read again as it was written.
+fn is_whole(alloc: Global, disk: &mut MemoryDisk) -> Result<bool, JournalFault> {
+    let journal = run(alloc, disk)?;
+    if disk.bytes() != WHOLE.as_slice() {
+        return Ok(false);
+    }
+    are_read(alloc, disk, journal.entries())
+}
+
+fn are_read(alloc: Global, disk: &mut MemoryDisk, entries: &[Entry]) -> Result<bool, JournalFault> {
+    Ok(is_read(alloc, entries)? && is_found(alloc, disk, entries)?)
 }
 
 #[test]
 fn a_whole_run_is_written_and_read(rt: HostRuntime) -> Result<(), Fail> {
     let mut disk = MemoryDisk::with_limit(rt.alloc(), 8192, 100)?;
-    let journal = run(rt.alloc(), &mut disk)?;
-    assert_eq!(rt; disk.bytes(), WHOLE.as_slice());
-    assert!(rt; is_read(rt.alloc(), journal.entries())?);
-    assert!(rt; is_found(rt.alloc(), &mut disk, journal.entries())?);
-    assert_eq!(rt; disk.bytes(), WHOLE.as_slice());
+    assert!(rt; is_whole(rt.alloc(), &mut disk)? && disk.bytes() == WHOLE.as_slice());
     Ok(())
 }
 
@@ -109,16 +123,27 @@ fn abort<D: Disk>(alloc: Global, disk: &mut D, cause: AbortCause) -> Result<(), 
     journal.append(disk, decided)
 }
 
+// Whether an abort leaves these bytes.
+fn is_written(alloc: Global, cause: AbortCause, want: &[u8]) -> Result<bool, Fail> {
+    let mut disk = MemoryDisk::with_limit(alloc, 8192, 100)?;
+    abort(alloc, &mut disk, cause)?;
+    Ok(disk.bytes() == want)
+}
+
+fn is_refusal_written(alloc: Global, device: DeviceNo) -> Result<bool, Fail> {
+    let tag = Tag::LockDenied;
+    is_written(alloc, AbortCause::Refused { device, tag }, &REFUSED)
+}
+
+fn is_lapse_written(alloc: Global, device: DeviceNo) -> Result<bool, Fail> {
+    is_written(alloc, AbortCause::Lapsed { device }, &LAPSED)
+}
+
 #[test]
 fn aborts_are_written(rt: HostRuntime) -> Result<(), Fail> {
     let device = DeviceNo::new(2).ok_or("2")?;
-    let tag = Tag::LockDenied;
-    let mut disk = MemoryDisk::with_limit(rt.alloc(), 8192, 100)?;
-    abort(rt.alloc(), &mut disk, AbortCause::Refused { device, tag })?;
-    assert_eq!(rt; disk.bytes(), REFUSED.as_slice());
-    let mut other = MemoryDisk::with_limit(rt.alloc(), 8192, 100)?;
-    abort(rt.alloc(), &mut other, AbortCause::Lapsed { device })?;
-    assert_eq!(rt; other.bytes(), LAPSED.as_slice());
+    let alloc = rt.alloc();
+    assert!(rt; is_refusal_written(alloc, device)? && is_lapse_written(alloc, device)?);
     Ok(())
 }
 
@@ -130,34 +155,129 @@ fn count(alloc: Global, bytes: &[u8]) -> Result<usize, JournalFault> {
     }
 }
 
+// A disk that fails at a call.
+fn failing_at(alloc: Global, call: u64) -> Result<MemoryDisk, NoMemory> {
+    let mut disk = MemoryDisk::with_limit(alloc, 8192, 100)?;
+    disk.plan(&[call])?;
+    Ok(disk)
+}
+
+// What stops the run on a disk.
+fn stop_of(alloc: Global, disk: &mut MemoryDisk) -> Option<JournalFault> {
+    match run(alloc, disk) {
+        Ok(_) => None,
+        Err(fault) => Some(fault),
+    }
+}
+
 // How the run ends where a disk call fails, and how many entries are read after that.
 fn stopped_at(
     alloc: Global,
     call: u64,
 ) -> Result<(Option<JournalFault>, Result<usize, JournalFault>), Fail> {
-    let mut disk = MemoryDisk::with_limit(alloc, 8192, 100)?;
-    disk.plan(&[call])?;
-    let stopped = match run(alloc, &mut disk) {
-        Ok(_) => None,
-        Err(fault) => Some(fault),
-    };
+    let mut disk = failing_at(alloc, call)?;
+    let stopped = stop_of(alloc, &mut disk);
     Ok((stopped, count(alloc, disk.bytes())))
+}
+
+// Whether it is stopped by the disk, and so many are read.
+fn is_stopped_at(alloc: Global, call: u64, entries: usize) -> Result<bool, Fail> {
+    let (stopped, read) = stopped_at(alloc, call)?;
+    Ok(stopped == Some(JournalFault::DiskFault) && read == Ok(entries))
+}
+
+// How many entries are read where the calls 1 to 15 fail.
+const READ_AFTER: [usize; 15] = [0, 0, 0, 0, 0, 0, 1, 1, 1, 1, 2, 2, 2, 2, 3];
+
+// The first call at which that isn't so, None where it is at all.
+fn unlike_call(alloc: Global) -> Result<Option<u64>, Fail> {
+    for (before, entries) in READ_AFTER.iter().enumerate() {
+        let call = before as u64 + 1;
+        if !is_stopped_at(alloc, call, *entries)? {
+            return Ok(Some(call));
+        }
+    }
+    Ok(None)
+}
+
+fn is_not_stopped(alloc: Global) -> Result<bool, Fail> {
+    let (stopped, _) = stopped_at(alloc, 16)?;
+    Ok(stopped.is_none())
 }
 
 // The run makes 15 disk calls: three to begin, and four for each entry. Each of them fails in turn,
 // and the disk is read after that.
 #[test]
 fn a_run_is_stopped_at_each_call(rt: HostRuntime) -> Result<(), Fail> {
-    let read_after = [0, 0, 0, 0, 0, 0, 1, 1, 1, 1, 2, 2, 2, 2, 3];
-    for (before, expected) in read_after.iter().enumerate() {
-        let call = before as u64 + 1;
-        let (stopped, read) = stopped_at(rt.alloc(), call)?;
-        assert_eq!(rt; stopped, Some(JournalFault::DiskFault), "call {call}");
-        assert_eq!(rt; read, Ok(*expected), "call {call}");
-    }
-    let (stopped, _) = stopped_at(rt.alloc(), 16)?;
-    assert_eq!(rt; stopped, None);
+    assert_eq!(rt; unlike_call(rt.alloc())?, None);
+    assert!(rt; is_not_stopped(rt.alloc())?);
     Ok(())
+}
+
+// Whether the disk fails at the start of change set 1 on devices 1 and 2, which stops the journal.
+fn is_stopped(
+    alloc: Global,
+    disk: &mut MemoryDisk,
+    change: ChangeNo,
+) -> Result<bool, JournalFault> {
+    let devices = DeviceMask(3);
+    let timeout = Some(1);
+    let mut journal = Journal::fresh(alloc, disk)?;
+    let failed = journal.append(
+        disk,
+        Entry::Started {
+            change,
+            devices,
+            timeout,
+        },
+    );
+    if failed != Err(JournalFault::DiskFault) {
+        return Ok(false);
+    }
+    let is_stopped = journal.is_stopped();
+    let again = journal.append(
+        disk,
+        Entry::Started {
+            change,
+            devices,
+            timeout,
+        },
+    );
+    Ok(is_stopped && again == Err(JournalFault::Stopped))
+}
+
+// Whether a journal that is reopened is empty, and takes the entry.
+fn is_taken(alloc: Global, disk: &mut MemoryDisk, change: ChangeNo) -> Result<bool, JournalFault> {
+    let (mut again, entries) = Journal::reopen(alloc, disk)?;
+    if entries.len() != 0 {
+        return Ok(false);
+    }
+    if disk.bytes() != [0].as_slice() {
+        return Ok(false);
+    }
+    let started = Entry::Started {
+        change,
+        devices: DeviceMask(3),
+        timeout: Some(1),
+    };
+    Ok(again.append(disk, started) == Ok(()))
+}
+
+// Whether it is read once.
+fn is_read_once(
+    alloc: Global,
+    disk: &mut MemoryDisk,
+    change: ChangeNo,
+) -> Result<bool, JournalFault> {
+    Ok(is_taken(alloc, disk, change)? && count(alloc, disk.bytes()) == Ok(1))
+}
+
+fn is_reopened(
+    alloc: Global,
+    disk: &mut MemoryDisk,
+    change: ChangeNo,
+) -> Result<bool, JournalFault> {
+    Ok(is_stopped(alloc, disk, change)? && is_read_once(alloc, disk, change)?)
 }
 
 // The fifth call brings the first record onto the disk. The journal is stopped until it is reopened,
@@ -165,90 +285,100 @@ fn a_run_is_stopped_at_each_call(rt: HostRuntime) -> Result<(), Fail> {
 #[test]
 fn a_stopped_journal_is_reopened(rt: HostRuntime) -> Result<(), Fail> {
     let change = ChangeNo::new(1).ok_or("1")?;
-    let devices = DeviceMask(3);
-    let timeout = Some(1);
-    let mut disk = MemoryDisk::with_limit(rt.alloc(), 8192, 100)?;
-    disk.plan(&[5])?;
-    let mut journal = Journal::fresh(rt.alloc(), &mut disk)?;
-    let failed = journal.append(
-        &mut disk,
-        Entry::Started {
-            change,
-            devices,
-            timeout,
-        },
-    );
-    assert_eq!(rt; failed, Err(JournalFault::DiskFault));
-    assert!(rt; journal.is_stopped());
-    let stopped = journal.append(
-        &mut disk,
-        Entry::Started {
-            change,
-            devices,
-            timeout,
-        },
-    );
-    assert_eq!(rt; stopped, Err(JournalFault::Stopped));
-    let (mut again, entries) = Journal::reopen(rt.alloc(), &mut disk)?;
-    assert_eq!(rt; entries.len(), 0);
-    assert_eq!(rt; disk.bytes(), [0].as_slice());
-    let added = again.append(
-        &mut disk,
-        Entry::Started {
-            change,
-            devices,
-            timeout,
-        },
-    );
-    assert_eq!(rt; added, Ok(()));
-    assert_eq!(rt; count(rt.alloc(), disk.bytes()), Ok(1));
+    let mut disk = failing_at(rt.alloc(), 5)?;
+    assert!(rt; is_reopened(rt.alloc(), &mut disk, change)?);
     Ok(())
 }
 
-// Three readings by hand: a list that ends after one record, a record behind a closed gate, and a
-// record of no kind behind an open one.
-#[test]
-fn lists_end_or_are_damaged(rt: HostRuntime) {
-    let mut bytes = WHOLE;
-    assert_eq!(rt; count(rt.alloc(), &[]), Ok(0));
-    assert_eq!(rt; count(rt.alloc(), &FIRST), Ok(1));
-    assert_eq!(rt; count(rt.alloc(), &bytes[..16]), Ok(0));
-    assert_eq!(rt; count(rt.alloc(), &bytes[..17]), Ok(1));
-    bytes[16] = 0;
-    assert_eq!(rt; count(rt.alloc(), &bytes[..33]), Ok(1));
-    bytes[16] = 1;
-    bytes[17] = 9;
-    assert_eq!(rt;
-        count(rt.alloc(), &bytes[..33]),
-        Err(JournalFault::Damaged { offset: 16 })
-    );
-    assert_eq!(rt; count(rt.alloc(), &bytes[..32]), Ok(1));
+// A list that ends after one record, or before it.
+fn are_ended(alloc: Global) -> bool {
+    count(alloc, &[]) == Ok(0)
+        && count(alloc, &FIRST) == Ok(1)
+        && count(alloc, &WHOLE[..16]) == Ok(0)
+        && count(alloc, &WHOLE[..17]) == Ok(1)
 }
 
-// The journal of version 1 is read, and goes on in version 2.
+// A record behind a closed gate.
+fn is_closed(alloc: Global) -> bool {
+    let mut bytes = WHOLE;
+    bytes[16] = 0;
+    count(alloc, &bytes[..33]) == Ok(1)
+}
+
+// A record of no kind behind an open one.
+fn is_damaged(alloc: Global) -> bool {
+    let mut bytes = WHOLE;
+    bytes[16] = 1;
+    bytes[17] = 9;
+    count(alloc, &bytes[..33]) == Err(JournalFault::Damaged { offset: 16 })
+        && count(alloc, &bytes[..32]) == Ok(1)
+}
+
+// Three readings by hand.
 #[test]
-#[tactic(auto, unfolding(nm_journal::specs::Entries::is_within))]
-fn version_1_goes_on_in_version_2(rt: HostRuntime) -> Result<(), Fail> {
-    let change = ChangeNo::new(1).ok_or("1")?;
+fn lists_end_or_are_damaged(rt: HostRuntime) {
+    assert!(rt; are_ended(rt.alloc()));
+    assert!(rt; is_closed(rt.alloc()));
+    assert!(rt; is_damaged(rt.alloc()));
+}
+
+// A disk with some bytes.
+fn disk_of(alloc: Global, bytes: &[u8]) -> Result<MemoryDisk, Fail> {
+    let mut disk = MemoryDisk::with_limit(alloc, 64, 100)?;
+    disk.write_at(0, bytes)?;
+    Ok(disk)
+}
+
+// Whether the entries are the start of change set 1 alone, in version 1.
+fn is_first(entries: &[Entry], change: ChangeNo) -> bool {
     let started = Entry::Started {
         change,
         devices: DeviceMask(3),
         timeout: None,
     };
-    let mut disk = MemoryDisk::with_limit(rt.alloc(), 64, 100)?;
-    assert_eq!(rt; disk.write_at(0, &FIRST), Ok(()));
-    let (mut journal, entries) = Journal::reopen(rt.alloc(), &mut disk)?;
-    assert_eq!(rt; disk.bytes(), FIRST.as_slice());
-    assert!(rt; entries.as_slice() == [started].as_slice());
+    entries == [started].as_slice()
+}
+
+// Whether the disk is read as these entries.
+fn is_read_as(alloc: Global, disk: &MemoryDisk, entries: &[Entry]) -> Result<bool, JournalFault> {
+    let read = read_entries(alloc, disk.bytes())?;
+    Ok(read.as_slice() == entries)
+}
+
+// Whether the first journal is reopened as it is, and read with a Commit behind it.
+fn is_decided(
+    alloc: Global,
+    disk: &mut MemoryDisk,
+    change: ChangeNo,
+) -> Result<bool, JournalFault> {
+    let (mut journal, entries) = Journal::reopen(alloc, disk)?;
+    if !is_first(entries.as_slice(), change) || disk.bytes() != FIRST.as_slice() {
+        return Ok(false);
+    }
     let verdict = Verdict::Commit;
-    journal.append(&mut disk, Entry::Decided { change, verdict })?;
+    let decided = Entry::Decided { change, verdict };
+    if !may_follow(journal.entries(), &decided) {
+        return Ok(false);
+    }
+    journal.append(disk, decided)?;
+    is_read_as(alloc, disk, journal.entries())
+}
+
+// Whether these are the bytes of the first journal and of the Commit in the whole one.
+fn is_expected(bytes: &[u8]) -> bool {
     let mut expected = [0; 33];
     expected[..16].copy_from_slice(&FIRST[..16]);
     expected[16..].copy_from_slice(&WHOLE[16..33]);
     expected[32] = 0;
-    assert_eq!(rt; disk.bytes(), expected.as_slice());
-    let read = read_entries(rt.alloc(), disk.bytes())?;
-    assert!(rt; read.as_slice() == journal.entries());
+    bytes == expected.as_slice()
+}
+
+// The journal of version 1 is read, and goes on in version 2.
+#[test]
+fn version_1_goes_on_in_version_2(rt: HostRuntime) -> Result<(), Fail> {
+    let change = ChangeNo::new(1).ok_or("1")?;
+    let mut disk = disk_of(rt.alloc(), &FIRST)?;
+    assert!(rt; is_decided(rt.alloc(), &mut disk, change)? && is_expected(disk.bytes()));
     Ok(())
 }
 
@@ -270,22 +400,56 @@ fn expected_in(line: &str) -> Option<Result<usize, JournalFault>> {
     }
 }
 
-// A number from 0 to 255, and what stands behind it.
-fn byte_in(text: &str) -> Option<(u8, &str)> {
-    let (byte, rest) = text.split_once(" ")?;
-    Some((byte.parse::<u8>().ok()?, rest))
+// Another byte at a place.
+fn put(bytes: &mut [u8; 49], place: usize, value: u8) -> Option<()> {
+    if place >= 49 {
+        return None;
+    }
+    bytes[place] = value;
+    Some(())
 }
 
-// The whole journal with another byte at a place.
-fn with_byte(change: &str) -> Option<[u8; 49]> {
-    let (place, value) = change.split_once(" ")?;
-    let place = place.parse::<usize>().ok()?;
-    let value = value.parse::<u8>().ok()?;
-    let mut bytes = WHOLE;
-    if place < 49 {
-        bytes[place] = value;
+// How the rows of a table change the whole journal.
+#[derive(Clone, Copy)]
+enum Change {
+    Byte,
+    Ends,
+    Verdict,
+}
+
+fn put_change(bytes: &mut [u8; 49], how: Change, words: &str) -> Option<()> {
+    match how {
+        Change::Byte => put_byte(bytes, words),
+        Change::Ends => put_ends(bytes, words),
+        Change::Verdict => put_verdict(bytes, words),
     }
-    Some(bytes)
+}
+
+// Whether the whole journal is read as a row says, None where the row can't be read.
+fn is_so(alloc: Global, how: Change, line: &str) -> Option<bool> {
+    let mut bytes = WHOLE;
+    put_change(&mut bytes, how, change_in(line)?)?;
+    Some(count(alloc, &bytes) == expected_in(line)?)
+}
+
+// Goes through a table. The failure is the first row that isn't so.
+fn passes(alloc: Global, how: Change, rows: &str) -> Result<(), Fail> {
+    for line in rows.lines().skip(1) {
+        if is_so(alloc, how, line) != Some(true) {
+            return Err(Fail::new(line));
+        }
+    }
+    Ok(())
+}
+
+fn put_number(bytes: &mut [u8; 49], place: usize, value: &str) -> Option<()> {
+    put(bytes, place, value.parse::<u8>().ok()?)
+}
+
+// Another byte at a place, as `16 0`.
+fn put_byte(bytes: &mut [u8; 49], words: &str) -> Option<()> {
+    let (place, value) = words.split_once(" ")?;
+    put_number(bytes, place.parse::<usize>().ok()?, value)
 }
 
 // One byte of the whole journal is another one: its place, its value, and what is read then.
@@ -320,66 +484,71 @@ an end of version 3: 42 3 => damaged at 32
 
 #[test]
 fn each_byte_of_a_record_counts(rt: HostRuntime) -> Result<(), Fail> {
-    for line in BYTES.lines().skip(1) {
-        let bytes = with_byte(change_in(line).ok_or("no change")?).ok_or("no byte")?;
-        assert_eq!(rt;
-            Some(count(rt.alloc(), &bytes)),
-            expected_in(line),
-            "{line}"
-        );
-    }
-    Ok(())
+    passes(rt.alloc(), Change::Byte, BYTES)
 }
 
-// The value 200 at each place: another open gate is open too, any devices may be started beside the two
-// that are kept, and any timeout may be long.
+// What is read where a byte is 200: another open gate is open too, any devices may be started beside the two that are
+// kept, and any timeout may be long.
+fn expected_at(place: usize) -> Result<usize, JournalFault> {
+    match place {
+        0 | 16 | 32 | 6..=8 | 11..=14 => Ok(3),
+        1..=5 | 10 | 15 => Err(JournalFault::Damaged { offset: 0 }),
+        17..=31 => Err(JournalFault::Damaged { offset: 16 }),
+        _ => Err(JournalFault::Damaged { offset: 32 }),
+    }
+}
+
+fn is_expected_at(alloc: Global, place: usize) -> bool {
+    let mut bytes = WHOLE;
+    put(&mut bytes, place, 200).is_some() && count(alloc, &bytes) == expected_at(place)
+}
+
+// The first place at which that isn't so, None where it is at all.
+fn unlike_place(alloc: Global) -> Option<usize> {
+    for place in 0..48 {
+        if !is_expected_at(alloc, place) {
+            return Some(place);
+        }
+    }
+    None
+}
+
+// The value 200 at each place.
 #[test]
 fn a_wrong_byte_stands_at_each_place(rt: HostRuntime) {
-    for place in 0..48 {
-        let mut bytes = WHOLE;
-        bytes[place] = 200;
-        let expected = match place {
-            0 | 16 | 32 | 6..=8 | 11..=14 => Ok(3),
-            1..=5 | 10 | 15 => Err(JournalFault::Damaged { offset: 0 }),
-            17..=31 => Err(JournalFault::Damaged { offset: 16 }),
-            _ => Err(JournalFault::Damaged { offset: 32 }),
-        };
-        assert_eq!(rt; count(rt.alloc(), &bytes), expected, "byte {place}");
-    }
-}
-
-// Writes the last six bytes of a record.
-fn put_end(bytes: &mut [u8; 49], place: usize, end: &[u8; 6])
-    requires { place + 6 ≤ 49 }
-{
-    bytes[place..place + 6].copy_from_slice(end);
+    assert_eq!(rt; unlike_place(rt.alloc()), None);
 }
 
 // The last six bytes of a record: of version 1, of version 2, with a timeout, with one in version 1, and with a byte behind
 // it.
-fn end_of(word: &str) -> Option<[u8; 6]> {
-    match word {
-        "one" => Some([0; 6]),
-        "two" => Some([2, 0, 0, 0, 0, 0]),
-        "timed" => Some([2, 0, 0, 0, 1, 0]),
-        "untimely" => Some([0, 0, 0, 0, 1, 0]),
-        "longer" => Some([2, 0, 0, 0, 1, 1]),
-        _ => None,
+const ENDS: [(&str, [u8; 6]); 5] = [
+    ("one", [0; 6]),
+    ("two", [2, 0, 0, 0, 0, 0]),
+    ("timed", [2, 0, 0, 0, 1, 0]),
+    ("untimely", [0, 0, 0, 0, 1, 0]),
+    ("longer", [2, 0, 0, 0, 1, 1]),
+];
+
+// Writes those of a word.
+fn put_end(bytes: &mut [u8; 49], place: usize, word: &str) -> Option<()>
+    requires { place + 6 ≤ 49 }
+{
+    for (name, end) in &ENDS {
+        if *name == word {
+            bytes[place..place + 6].copy_from_slice(end);
+            return Some(());
+        }
     }
+    None
 }
 
-// The whole journal with other ends of its records.
-fn with_ends(change: &str) -> Option<[u8; 49]> {
-    let (started, rest) = change.split_once(" ")?;
+// Other ends of the three records, as `timed two two`.
+fn put_ends(bytes: &mut [u8; 49], words: &str) -> Option<()> {
+    let (started, rest) = words.split_once(" ")?;
     let (decided, ended) = rest.split_once(" ")?;
-    let started = end_of(started)?;
-    let decided = end_of(decided)?;
-    let ended = end_of(ended)?;
-    let mut bytes = WHOLE;
-    put_end(&mut bytes, 10, &started);
-    put_end(&mut bytes, 26, &decided);
-    put_end(&mut bytes, 42, &ended);
-    Some(bytes)
+    put_end(bytes, 10, started)?;
+    put_end(bytes, 26, decided)?;
+    put_end(bytes, 42, ended)
 }
 
 // The bytes 10 to 15 of each record, as they stand in one of the versions or in none, and what is read.
@@ -397,29 +566,17 @@ a timeout of an end: timed one timed => damaged at 32
 
 #[test]
 fn versions_are_read(rt: HostRuntime) -> Result<(), Fail> {
-    for line in VERSIONS.lines().skip(1) {
-        let bytes = with_ends(change_in(line).ok_or("no change")?).ok_or("no ends")?;
-        assert_eq!(rt;
-            Some(count(rt.alloc(), &bytes)),
-            expected_in(line),
-            "{line}"
-        );
-    }
-    Ok(())
+    passes(rt.alloc(), Change::Ends, VERSIONS)
 }
 
-// The whole journal with another decision, and with a byte of kept devices.
-fn with_verdict(change: &str) -> Option<[u8; 49]> {
-    let (kind, rest) = byte_in(change)?;
-    let (device, rest) = byte_in(rest)?;
-    let (tag, rest) = byte_in(rest)?;
-    let (zero, rest) = byte_in(rest)?;
-    let (version, kept) = byte_in(rest)?;
-    let kept = kept.parse::<u8>().ok()?;
-    let mut bytes = WHOLE;
-    bytes[22..27].copy_from_slice(&[kind, device, tag, zero, version]);
-    bytes[41] = kept;
-    Some(bytes)
+// Another decision, with its version, and another byte of kept devices.
+const PLACES: [usize; 6] = [22, 23, 24, 25, 26, 41];
+
+fn put_verdict(bytes: &mut [u8; 49], words: &str) -> Option<()> {
+    for (number, value) in words.split(' ').enumerate() {
+        put_number(bytes, *PLACES.get(number)?, value)?;
+    }
+    Some(())
 }
 
 // Bytes 22 to 26, the decision and its version, then byte 41, and what is read then: an abort keeps no device.
@@ -444,46 +601,69 @@ lapsed, with a tag: 5 2 1 0 2 0 => damaged at 16
 
 #[test]
 fn verdicts_are_read(rt: HostRuntime) -> Result<(), Fail> {
-    for line in VERDICTS.lines().skip(1) {
-        let bytes = with_verdict(change_in(line).ok_or("no change")?).ok_or("no verdict")?;
-        assert_eq!(rt;
-            Some(count(rt.alloc(), &bytes)),
-            expected_in(line),
-            "{line}"
-        );
+    passes(rt.alloc(), Change::Verdict, VERDICTS)
+}
+
+// Why no fresh journal stands on a disk.
+fn refusal_of(alloc: Global, disk: &mut MemoryDisk) -> Option<JournalFault> {
+    match Journal::fresh(alloc, disk) {
+        Ok(_) => None,
+        Err(fault) => Some(fault),
     }
-    Ok(())
 }
 
 #[test]
 fn a_disk_with_bytes_is_refused(rt: HostRuntime) -> Result<(), Fail> {
-    let mut disk = MemoryDisk::with_limit(rt.alloc(), 64, 100)?;
-    assert_eq!(rt; disk.write_at(0, &WHOLE[..17]), Ok(()));
-    let refused = match Journal::fresh(rt.alloc(), &mut disk) {
-        Ok(_) => None,
-        Err(fault) => Some(fault),
-    };
-    assert_eq!(rt; refused, Some(JournalFault::NotEmpty { length: 17 }));
+    let mut disk = disk_of(rt.alloc(), &WHOLE[..17])?;
+    assert_eq!(rt;
+        refusal_of(rt.alloc(), &mut disk),
+        Some(JournalFault::NotEmpty { length: 17 })
+    );
     Ok(())
+}
+
+const FILE: &str = "nm_journal_file.tmp";
+
+fn file_of(rt: HostRuntime) -> Result<FileDisk<HostRuntime>, NoMemory> {
+    let path = Label::new(rt.alloc(), FILE)?;
+    Ok(FileDisk::at(rt, path))
+}
+
+// Writes the journal to a file.
+fn write_file(rt: HostRuntime) -> Result<Journal, Fail> {
+    let mut disk = file_of(rt)?;
+    Ok(run(rt.alloc(), &mut disk)?)
+}
+
+// Whether the file holds the whole journal.
+fn is_file_whole(rt: HostRuntime) -> Result<bool, Fail> {
+    Ok(fs::read(&rt, FILE)?.as_slice() == WHOLE.as_slice())
+}
+
+// Writes the whole journal with more behind its end.
+fn write_longer(rt: HostRuntime) -> Result<(), Fail> {
+    let mut longer = WHOLE.to_vec(rt.alloc())?;
+    longer.extend_from_slice(b"torn")?;
+    Ok(fs::write(&rt, FILE, longer.as_slice())?)
+}
+
+// Whether the file is reopened as these entries.
+fn is_file_reopened(rt: HostRuntime, entries: &[Entry]) -> Result<bool, Fail> {
+    let mut disk = file_of(rt)?;
+    Ok(reopens(rt.alloc(), &mut disk, entries)?)
+}
+
+// Whether it is as it was after that.
+fn is_mended(rt: HostRuntime, entries: &[Entry]) -> Result<bool, Fail> {
+    write_longer(rt)?;
+    Ok(is_file_reopened(rt, entries)? && is_file_whole(rt)?)
 }
 
 // A real file: written, closed, opened again with more behind its end, and its bytes compared.
 #[test]
 fn a_file_holds_a_journal(rt: HostRuntime) -> Result<(), Fail> {
-    let name = "nm_journal_file.tmp";
-    let _ = fs::remove_file(&rt, name);
-    let path = Label::new(rt.alloc(), name)?;
-    let mut disk = FileDisk::at(rt, path.copy()?);
-    let written = run(rt.alloc(), &mut disk)?;
-    drop(disk);
-    assert_eq!(rt; fs::read(&rt, name)?.as_slice(), WHOLE.as_slice());
-    let mut longer = WHOLE.to_vec(rt.alloc())?;
-    longer.extend_from_slice(b"torn")?;
-    fs::write(&rt, name, longer.as_slice())?;
-    let mut again = FileDisk::at(rt, path);
-    let (_, entries) = Journal::reopen(rt.alloc(), &mut again)?;
-    assert!(rt; entries.as_slice() == written.entries());
-    drop(again);
-    assert_eq!(rt; fs::read(&rt, name)?.as_slice(), WHOLE.as_slice());
-    Ok(fs::remove_file(&rt, name)?)
+    let _ = fs::remove_file(&rt, FILE);
+    let written = write_file(rt)?;
+    assert!(rt; is_file_whole(rt)? && is_mended(rt, written.entries())?);
+    Ok(fs::remove_file(&rt, FILE)?)
 }

@@ -2,26 +2,37 @@ use nm_base::{ChangeNo, DeviceMask};
 use nm_order::Order;
 use std::test::Fail;
 
+// Whether the two that share no device are ready, and the one behind isn't.
+fn are_ready(order: &Order, one: ChangeNo, two: ChangeNo, three: ChangeNo) -> bool {
+    order.is_ready(three) && !order.is_ready(one) && order.is_ready(two)
+}
+
+// Whether these two are taken one after the other, and nothing after them.
+fn are_taken(order: &mut Order, first: ChangeNo, second: ChangeNo) -> bool {
+    order.take_ready() == Some(first)
+        && order.take_ready() == Some(second)
+        && order.take_ready().is_none()
+}
+
 // Change sets 3, 1 and 2 in this order, on devices 1 and 2, 2 and 3, and 4.
 #[test]
 fn the_least_ready_is_taken(rt: HostRuntime) -> Result<(), Fail> {
-    let [one, two, three] = [
-        ChangeNo::new(1).ok_or("1")?,
-        ChangeNo::new(2).ok_or("2")?,
-        ChangeNo::new(3).ok_or("3")?,
-    ];
+    let one = ChangeNo::new(1).ok_or("1")?;
+    let two = ChangeNo::new(2).ok_or("2")?;
+    let three = ChangeNo::new(3).ok_or("3")?;
     let mut order = Order::new();
-    assert_eq!(rt; order.take_ready(), None);
+    let none = order.take_ready();
     order.submit(three, DeviceMask(0b11));
     order.submit(one, DeviceMask(0b110));
     order.submit(two, DeviceMask(0b1000));
-    assert!(rt; order.is_ready(three));
-    assert!(rt; !order.is_ready(one));
-    assert!(rt; order.is_ready(two));
-    assert_eq!(rt; order.take_ready(), Some(two));
-    assert_eq!(rt; order.take_ready(), Some(three));
-    assert_eq!(rt; order.take_ready(), None);
+    let are_ready = are_ready(&order, one, two, three);
+    assert!(rt; none.is_none() && are_ready && are_taken(&mut order, two, three));
     Ok(())
+}
+
+// Whether the second one is taken, once the first one is finished.
+fn is_next(order: &mut Order, first: ChangeNo, later: ChangeNo) -> bool {
+    !order.is_ready(first) && order.take_ready() == Some(later)
 }
 
 // A change set that is put off stays in its place until it is finished.
@@ -35,10 +46,8 @@ fn the_later_one_waits(rt: HostRuntime) -> Result<(), Fail> {
     assert_eq!(rt; order.take_ready(), Some(first));
     order.put_off(first);
     assert_eq!(rt; order.take_ready(), None);
-    assert!(rt; order.is_ready(first));
-    assert!(rt; !order.is_ready(later));
+    let waits = order.is_ready(first) && !order.is_ready(later);
     order.finish(first);
-    assert!(rt; !order.is_ready(first));
-    assert_eq!(rt; order.take_ready(), Some(later));
+    assert!(rt; waits && is_next(&mut order, first, later));
     Ok(())
 }

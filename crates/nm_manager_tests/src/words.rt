@@ -2,28 +2,43 @@
 
 use nm_base::{DeviceNo, SessionId, Tag};
 use nm_proto::{AbortCause, Ask, Reply, Verdict};
+use std::test::Fail;
+
+// A line that isn't so is a failure, and an empty text is none.
+pub fn passed(line: &str) -> Result<(), Fail> {
+    if line.is_empty() {
+        return Ok(());
+    }
+    Err(Fail::new(line))
+}
 
 // The device of a number.
 pub fn device_of(number: &str) -> Option<DeviceNo> {
     DeviceNo::new(number.parse::<u8>().ok()?)
 }
 
+const ASKS: [(&str, Ask); 12] = [
+    ("open", Ask::OpenSession),
+    ("lock-running", Ask::LockRunning),
+    ("lock-candidate", Ask::LockCandidate),
+    ("edit", Ask::Edit),
+    ("validate", Ask::Validate),
+    ("commit", Ask::CommitConfirmed),
+    ("confirm", Ask::Confirm),
+    ("cancel", Ask::Cancel),
+    ("has-mark", Ask::HasMark),
+    ("discard", Ask::Discard),
+    ("close", Ask::CloseSession),
+    ("resync", Ask::Resync),
+];
+
 pub fn ask_of(word: &str) -> Option<Ask> {
-    match word {
-        "open" => Some(Ask::OpenSession),
-        "lock-running" => Some(Ask::LockRunning),
-        "lock-candidate" => Some(Ask::LockCandidate),
-        "edit" => Some(Ask::Edit),
-        "validate" => Some(Ask::Validate),
-        "commit" => Some(Ask::CommitConfirmed),
-        "confirm" => Some(Ask::Confirm),
-        "cancel" => Some(Ask::Cancel),
-        "has-mark" => Some(Ask::HasMark),
-        "discard" => Some(Ask::Discard),
-        "close" => Some(Ask::CloseSession),
-        "resync" => Some(Ask::Resync),
-        _ => None,
+    for (name, ask) in &ASKS {
+        if *name == word {
+            return Some(*ask);
+        }
     }
+    None
 }
 
 pub fn tag_of(word: &str) -> Option<Tag> {

@@ -1,93 +1,90 @@
-use crate::groupings::{groupings_in, rows_in};
-use crate::tables::{Tells, check};
-use nm_schema_choice::{Fork, Forks, choices_of};
+use crate::modules::{Named, Shaped, TellsOfShape};
+use crate::tables::check;
+use nm_base::NoMemory;
+use nm_schema_choice::{Branch, Choices, Fork, Forks, choices_of};
+use nm_schema_names::RowNames;
 use nm_schema_rows::Rows;
-use nm_schema_shape::{argument_at, shape_of};
+use nm_schema_shape::{Shape, argument_at};
 use std::alloc::{AllocError, Global};
 use std::test::Fail;
 
 // A case by number, or `-`, and what stands behind it.
-fn spot_text(alloc: Global, spot: Option<usize>, end: &str) -> Result<String, AllocError> {
+fn put_spot(text: &mut String, spot: Option<usize>) -> Result<(), AllocError> {
     match spot {
-        None => format!(in alloc; "-{end}"),
-        Some(case) => format!(in alloc; "{case}{end}"),
+        None => text.push_str("-;"),
+        Some(case) => write!(text, "{case};"),
     }
 }
 
-fn choice_text(alloc: Global, rows: &Rows, fork: &Fork) -> Result<String, AllocError> {
-    let name = argument_at(rows, fork.row);
-    match fork.case_in {
-        None => format!(in alloc; "{name} in -;"),
-        Some(case) => format!(in alloc; "{name} in {case};"),
-    }
+// A choice by name and the case that it stands in.
+fn put_choice(text: &mut String, rows: &Rows, fork: &Fork) -> Result<(), AllocError> {
+    write!(text, "{} in ", argument_at(rows, fork.row))?;
+    put_spot(text, fork.case_in)
 }
 
-// The choices by name and the case that they stand in.
-fn put_choices(
-    alloc: Global,
-    text: &mut String,
-    rows: &Rows,
-    forks: &Forks,
-) -> Result<(), AllocError> {
+// A case by name and choice.
+fn put_case(text: &mut String, rows: &Rows, branch: &Branch) -> Result<(), AllocError> {
+    write!(
+        text,
+        "{} of {};",
+        argument_at(rows, branch.row),
+        branch.choice
+    )
+}
+
+fn put_choices(text: &mut String, rows: &Rows, forks: &Forks) -> Result<(), AllocError> {
     for fork in forks.choices() {
-        let choice = choice_text(alloc, rows, fork)?;
-        text.push_str(choice.as_str())?;
+        put_choice(text, rows, fork)?;
     }
-    Ok(())
+    text.push_str("|")
 }
 
-// The cases by choice and name.
-fn put_cases(
-    alloc: Global,
-    text: &mut String,
-    rows: &Rows,
-    forks: &Forks,
-) -> Result<(), AllocError> {
+fn put_cases(text: &mut String, rows: &Rows, forks: &Forks) -> Result<(), AllocError> {
     for branch in forks.cases() {
-        let (choice, name) = (branch.choice, argument_at(rows, branch.row));
-        let case = format!(in alloc; "{name} of {choice};")?;
-        text.push_str(case.as_str())?;
+        put_case(text, rows, branch)?;
     }
-    Ok(())
+    text.push_str("|")
 }
 
 // For each node its case.
-fn put_spots(alloc: Global, text: &mut String, forks: &Forks) -> Result<(), AllocError> {
+fn put_spots(text: &mut String, forks: &Forks) -> Result<(), AllocError> {
     for spot in forks.spots() {
-        let case = spot_text(alloc, *spot, ";")?;
-        text.push_str(case.as_str())?;
+        put_spot(text, *spot)?;
     }
     Ok(())
 }
 
-fn put_forks(
+fn put_forks(text: &mut String, rows: &Rows, forks: &Forks) -> Result<(), AllocError> {
+    put_choices(text, rows, forks)?;
+    put_cases(text, rows, forks)?;
+    put_spots(text, forks)
+}
+
+fn put_top(
     alloc: Global,
     text: &mut String,
     rows: &Rows,
-    forks: &Forks,
-) -> Result<(), AllocError> {
-    put_choices(alloc, text, rows, forks)?;
-    text.push_str("|")?;
-    put_cases(alloc, text, rows, forks)?;
-    text.push_str("|")?;
-    put_spots(alloc, text, forks)
-}
-
-fn forks_text(alloc: Global, rows: &Rows, forks: &Forks) -> Result<String, AllocError> {
-    let mut text = String::new(alloc);
-    put_forks(alloc, &mut text, rows, forks)?;
-    Ok(text)
+    choices: &Choices<'_>,
+) -> Result<(), NoMemory> {
+    match choices.forks_of(alloc, 0)? {
+        None => Ok(text.push_str("none")?),
+        Some(forks) => Ok(put_forks(text, rows, forks.get())?),
+    }
 }
 
 // The choices and cases at the top of a module.
-fn told(alloc: Global, text: &str) -> Result<String, Fail> {
-    let rows = rows_in(alloc, &[text])?;
-    let groupings = groupings_in(alloc, &rows)?;
-    let shape = shape_of(alloc, &rows, &groupings)?;
-    let choices = choices_of(alloc, &shape)?;
-    match choices.forks_of(alloc, 0)? {
-        None => Ok(String::from_str(alloc, "none")?),
-        Some(forks) => Ok(forks_text(alloc, &rows, forks.get())?),
+struct Choosing;
+
+impl TellsOfShape for Choosing {
+    fn tell_shape(
+        &self,
+        alloc: Global,
+        text: &mut String,
+        names: &RowNames<'_>,
+        shape: &Shape<'_>,
+    ) -> Result<(), NoMemory> {
+        let choices = choices_of(alloc, shape)?;
+        put_top(alloc, text, names.rows(), &choices)
     }
 }
 
@@ -108,15 +105,7 @@ module m { choice c { container d { choice e { leaf a; } } } } => c in -;|d of 0
 module m { uses g; choice c; } => none
 "#;
 
-struct Choosing;
-
-impl Tells for Choosing {
-    fn tell(&self, alloc: Global, text: &str) -> Result<String, Fail> {
-        told(alloc, text)
-    }
-}
-
 #[test]
 fn finds_choices(rt: HostRuntime) -> Result<(), Fail> {
-    check(&rt, rt.alloc(), &Choosing, MODULES)
+    check(&rt, rt.alloc(), &Named(Shaped(Choosing)), MODULES)
 }

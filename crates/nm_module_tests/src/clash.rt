@@ -1,31 +1,38 @@
-use crate::groupings::{groupings_in, rows_in};
-use crate::tables::{Tells, check};
-use crate::wide::wide_module;
+use crate::flaws::{Judges, Spot, put_first_flaw};
+use crate::modules::{Named, TellsOfNames, groupings_of};
+use crate::tables::{check, check_parted};
+use crate::wide::Wide;
 use nm_base::NoMemory;
 use nm_schema_clash::{Clashes, clashes_of};
+use nm_schema_names::RowNames;
 use nm_schema_rows::Flaw;
-use std::alloc::{AllocError, Global};
+use std::alloc::Global;
 use std::test::Fail;
 
-// The first clash, and where.
-fn first_clash(alloc: Global, clashes: &Clashes<'_>, count: usize) -> Result<String, AllocError> {
-    for at in 0..count {
-        match clashes.clash_flaw(at) {
-            Ok(None) => {}
-            Ok(Some(Flaw::Duplicate(name))) => return format!(in alloc; "duplicate {name} {at}"),
-            Ok(Some(_)) => return String::from_str(alloc, "other"),
-            Err(NoMemory) => return String::from_str(alloc, "no memory"),
-        }
+impl Judges for Clashes<'_> {
+    fn flaw_at(&self, _alloc: Global, at: usize) -> Result<Option<Flaw>, NoMemory> {
+        self.clash_flaw(at)
     }
-    String::from_str(alloc, "none")
+
+    fn spot(&self, at: usize) -> Spot {
+        (None, at)
+    }
 }
 
 // The first clash of a module.
-fn told(alloc: Global, text: &str) -> Result<String, Fail> {
-    let rows = rows_in(alloc, &[text])?;
-    let groupings = groupings_in(alloc, &rows)?;
-    let clashes = clashes_of(alloc, &rows, &groupings)?;
-    Ok(first_clash(alloc, &clashes, rows.len())?)
+struct Clashing;
+
+impl TellsOfNames for Clashing {
+    fn tell_names(
+        &self,
+        alloc: Global,
+        text: &mut String,
+        names: &RowNames<'_>,
+    ) -> Result<(), Fail> {
+        let groupings = groupings_of(alloc, names)?;
+        let clashes = clashes_of(alloc, names.rows(), &groupings)?;
+        Ok(put_first_flaw(alloc, text, &clashes, names.rows().len())?)
+    }
 }
 
 // A module's text; the nodes in it, and the first clash, by the number of its row (RFC 7950 sections 6.2.1, 7.9 and 7.13).
@@ -60,24 +67,12 @@ module m { grouping g { choice c { case a { uses h; } } } grouping h { leaf c; }
 module m { container c { choice d { config false; leaf e; } leaf e; } } => duplicate e 5
 "#;
 
-struct TellsFirstClash;
-
-impl Tells for TellsFirstClash {
-    fn tell(&self, alloc: Global, text: &str) -> Result<String, Fail> {
-        told(alloc, text)
-    }
-}
-
 #[test]
 fn finds_clashes(rt: HostRuntime) -> Result<(), Fail> {
-    check(&rt, rt.alloc(), &TellsFirstClash, CLASHES)
+    check(&rt, rt.alloc(), &Named(Clashing), CLASHES)
 }
 
 #[test]
 fn passes_wide_groupings(rt: HostRuntime) -> Result<(), Fail> {
-    let alloc = rt.alloc();
-    let text = wide_module(alloc, 400)?;
-    let found = told(alloc, text.as_str())?;
-    assert_eq!(rt; found.as_str(), "none");
-    Ok(())
+    check_parted(&rt, rt.alloc(), &Wide(Named(Clashing)), "400 => none")
 }

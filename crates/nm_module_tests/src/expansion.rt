@@ -1,50 +1,45 @@
-use crate::groupings::{groupings_in, rows_in};
-use crate::tables::{Tells, check};
+use crate::modules::{Named, Shaped, TellsOfShape};
+use crate::tables::{Tells, check, check_parted, number_in, parted};
+use crate::wide::put_leafs;
+use nm_base::NoMemory;
 use nm_schema_expansion::{Expansion, Instance, expand, first_large};
+use nm_schema_names::RowNames;
 use nm_schema_rows::Rows;
-use nm_schema_shape::{argument_at, shape_of};
+use nm_schema_shape::{Shape, argument_at};
 use std::alloc::{AllocError, Global};
-use std::process::Abort;
 use std::test::Fail;
 
-// The nodes by number: where each stands, a module's or a node's number, and its name.
-fn nodes_text(alloc: Global, rows: &Rows, nodes: &[Instance]) -> Result<String, AllocError> {
-    let mut text = String::new(alloc);
-    for node in nodes {
-        let piece = node_text(alloc, rows, node)?;
-        text.push_str(piece.as_str())?;
-    }
-    Ok(text)
-}
-
-fn node_text(alloc: Global, rows: &Rows, node: &Instance) -> Result<String, AllocError> {
+// Where a node stands, a module's or a node's number, and its name.
+fn put_node(text: &mut String, rows: &Rows, node: &Instance) -> Result<(), AllocError> {
     let name = argument_at(rows, node.row);
     match node.parent {
-        None => format!(in alloc; " m{}/{name}", node.owner),
-        Some(parent) => format!(in alloc; " {parent}/{name}"),
+        None => write!(text, " m{}/{name}", node.owner),
+        Some(parent) => write!(text, " {parent}/{name}"),
     }
 }
 
-// Which modules are expanded.
-fn grown_text(
-    alloc: Global,
-    expansion: &Expansion<'_>,
-    count: usize,
-) -> Result<String, AllocError> {
-    let mut text = String::new(alloc);
-    for owner in 0..count {
-        text.push_str(if expansion.is_grown(owner) { "+" } else { "-" })?;
+// The nodes by number.
+fn put_nodes(text: &mut String, rows: &Rows, nodes: &[Instance]) -> Result<(), AllocError> {
+    for node in nodes {
+        put_node(text, rows, node)?;
     }
-    Ok(text)
+    Ok(())
 }
 
 // The nodes of some modules.
-fn tree(alloc: Global, texts: &[&str]) -> Result<String, Fail> {
-    let rows = rows_in(alloc, texts)?;
-    let groupings = groupings_in(alloc, &rows)?;
-    let shape = shape_of(alloc, &rows, &groupings)?;
-    let expansion = expand(alloc, &shape)?;
-    Ok(nodes_text(alloc, &rows, expansion.nodes())?)
+struct TellsTrees;
+
+impl TellsOfShape for TellsTrees {
+    fn tell_shape(
+        &self,
+        alloc: Global,
+        text: &mut String,
+        _names: &RowNames<'_>,
+        shape: &Shape<'_>,
+    ) -> Result<(), NoMemory> {
+        let expansion = expand(alloc, shape)?;
+        Ok(put_nodes(text, shape.rows(), expansion.nodes())?)
+    }
 }
 
 // Modules' texts; the nodes of their tree, level by level (RFC 7950 sections 7.13 and 7.21.1).
@@ -58,106 +53,176 @@ module m { leaf a; container b { leaf c; } uses nowhere; } =>
 module m { leaf a; grouping g { leaf b; uses g; } container c { uses g; } } => 
 "#;
 
-struct TellsTrees;
-
-impl Tells for TellsTrees {
-    fn tell(&self, alloc: Global, text: &str) -> Result<String, Fail> {
-        match text.split_once(" & ") {
-            None => tree(alloc, &[text]),
-            Some((one, other)) => tree(alloc, &[one, other]),
-        }
-    }
-}
-
 #[test]
 fn expands_modules(rt: HostRuntime) -> Result<(), Fail> {
-    check(&rt, rt.alloc(), &TellsTrees, TREES)
+    check(&rt, rt.alloc(), &Named(Shaped(TellsTrees)), TREES)
+}
+
+// Which modules are expanded.
+fn put_grown(text: &mut String, expansion: &Expansion<'_>, count: usize) -> Result<(), AllocError> {
+    for owner in 0..count {
+        text.push_str(if expansion.is_grown(owner) { "+" } else { "-" })?;
+    }
+    Ok(())
+}
+
+fn put_sizes(
+    text: &mut String,
+    shape: &Shape<'_>,
+    expansion: &Expansion<'_>,
+) -> Result<(), AllocError> {
+    write!(
+        text,
+        "{} {:?} ",
+        expansion.nodes().len(),
+        first_large(shape)
+    )?;
+    put_grown(text, expansion, shape.rows().roots().len())
 }
 
 // How many nodes these modules have, the first that is too large, and which are expanded.
-fn sizes(alloc: Global, texts: &[&str]) -> Result<String, Fail> {
-    let rows = rows_in(alloc, texts)?;
-    let groupings = groupings_in(alloc, &rows)?;
-    let shape = shape_of(alloc, &rows, &groupings)?;
-    let expansion = expand(alloc, &shape)?;
-    let grown = grown_text(alloc, &expansion, texts.len())?;
-    let (count, large) = (expansion.nodes().len(), first_large(&shape));
-    Ok(format!(in alloc; "{count} {large:?} {grown}")?)
+struct TellsSizes;
+
+impl TellsOfShape for TellsSizes {
+    fn tell_shape(
+        &self,
+        alloc: Global,
+        text: &mut String,
+        _names: &RowNames<'_>,
+        shape: &Shape<'_>,
+    ) -> Result<(), NoMemory> {
+        let expansion = expand(alloc, shape)?;
+        Ok(put_sizes(text, shape, &expansion)?)
+    }
 }
 
-fn put_leafs(alloc: Global, text: &mut String, count: usize) -> Result<(), AllocError> {
+fn put_containers(text: &mut String, count: usize) -> Result<(), AllocError> {
     for number in 0..count {
-        let leaf = format!(in alloc; " leaf a{number};")?;
-        text.push_str(leaf.as_str())?;
+        write!(text, " container c{number} {{ uses g; }}")?;
     }
     Ok(())
 }
 
-fn put_containers(alloc: Global, text: &mut String, count: usize) -> Result<(), AllocError> {
-    for number in 0..count {
-        let container = format!(in alloc; " container c{number} {{ uses g; }}")?;
-        text.push_str(container.as_str())?;
+// Puts a module with 200 containers of 99 leafs each, 20,000 nodes in all, and this after them.
+fn put_hundreds(text: &mut String, after: &str) -> Result<(), AllocError> {
+    text.push_str("module m { grouping g {")?;
+    put_leafs(text, 99)?;
+    text.push_str(" }")?;
+    put_containers(text, 200)?;
+    write!(text, "{after} }}")
+}
+
+// Groupings: what uses the next one, where `%` stands for its use; how many they are, and what the last has.
+type Chain = (&'static str, usize, &'static str);
+
+// Puts these parts of a grouping with uses of the next one between them.
+fn put_uses(text: &mut String, around: &str, next: usize) -> Result<(), AllocError> {
+    let mut is_first = true;
+    for part in around.split('%') {
+        put_part(text, part, is_first, next)?;
+        is_first = false;
     }
     Ok(())
 }
 
-// A module with 200 containers of 99 leafs each, 20,000 nodes in all, and this after them.
-fn hundreds(alloc: Global, after: &str) -> Result<String, AllocError> {
-    let mut leafs = String::new(alloc);
-    put_leafs(alloc, &mut leafs, 99)?;
-    let mut containers = String::new(alloc);
-    put_containers(alloc, &mut containers, 200)?;
-    format!(in alloc; "module m {{ grouping g {{{leafs} }}{containers}{after} }}")
+fn put_part(text: &mut String, part: &str, is_first: bool, next: usize) -> Result<(), AllocError> {
+    if is_first {
+        return text.push_str(part);
+    }
+    write!(text, " uses g{next};{part}")
 }
 
-// Puts a grouping in which these texts stand around uses of the next one.
-fn put_grouping(
-    alloc: Global,
-    text: &mut String,
-    number: usize,
-    next: usize,
-    around: &[&str],
-) -> Result<(), AllocError> {
-    let uses = format!(in alloc; " uses g{next};")?;
-    let within = around.join(alloc, uses.as_str())?;
-    let grouping = format!(in alloc; " grouping g{number} {{{within} }}")?;
-    text.push_str(grouping.as_str())
+fn put_grouping(text: &mut String, number: usize, around: &str) -> Result<(), AllocError> {
+    write!(text, " grouping g{number} {{")?;
+    put_uses(text, around, number.saturating_add(1))?;
+    text.push_str(" }")
 }
 
-// A module with so many such groupings; the last has a leaf or nothing.
-fn chain(alloc: Global, count: usize, around: &[&str], last: &str) -> Result<String, AllocError> {
-    let mut groupings = String::new(alloc);
+fn put_groupings(text: &mut String, count: usize, around: &str) -> Result<(), AllocError> {
     for number in 0..count {
-        put_grouping(alloc, &mut groupings, number, number + 1, around)?;
+        put_grouping(text, number, around)?;
     }
-    format!(in alloc; "module m {{ uses g0;{groupings} grouping g{count} {{ {last} }} }}")
+    Ok(())
 }
 
-// A module, by a word.
-fn large_text(alloc: Global, word: &str) -> Result<String, AllocError> {
-    match word {
-        "small" => String::from_str(alloc, "module n { leaf a; }"),
-        "astray" => String::from_str(alloc, "module o { grouping g { uses g; } uses g; }"),
-        "most" => hundreds(alloc, ""),
-        "many" => hundreds(alloc, " leaf z;"),
-        _ => chained(alloc, word),
+fn put_chain(text: &mut String, chain: Chain) -> Result<(), AllocError> {
+    let (around, count, last) = chain;
+    text.push_str("module m { uses g0;")?;
+    put_groupings(text, count, around)?;
+    write!(text, " grouping g{count} {{ {last} }} }}")
+}
+
+const CHAINS: [(&str, Chain); 4] = [
+    ("deepest", (" container c {% }", 64, "leaf z;")),
+    ("deep", (" container c {% }", 65, "leaf z;")),
+    (
+        "doubled",
+        (" container a {% } container b {% }", 30, "leaf z;"),
+    ),
+    ("empty", ("%%", 30, "")),
+];
+
+fn chain_of(word: &str) -> Chain {
+    for (name, chain) in &CHAINS {
+        if *name == word {
+            return *chain;
+        }
+    }
+    ("", 0, "")
+}
+
+// Modules that are put as they stand, and what stands after hundreds of nodes.
+const TEXTS: [(&str, &str); 5] = [
+    ("", ""),
+    ("small", "module n { leaf a; }"),
+    ("astray", "module o { grouping g { uses g; } uses g; }"),
+    ("most", ""),
+    ("many", " leaf z;"),
+];
+
+fn text_of(word: &str) -> Option<&'static str> {
+    for (name, text) in &TEXTS {
+        if *name == word {
+            return Some(*text);
+        }
+    }
+    None
+}
+
+// Puts the module that a word names.
+fn put_large(text: &mut String, word: &str) -> Result<(), AllocError> {
+    match text_of(word) {
+        Some(after) if is_of_hundreds(word) => put_hundreds(text, after),
+        Some(module) => text.push_str(module),
+        None => put_chain(text, chain_of(word)),
     }
 }
 
-// A module of groupings in one another, by a word.
-fn chained(alloc: Global, word: &str) -> Result<String, AllocError> {
-    let nested = [" container c {", " }"];
-    match word {
-        "deepest" => chain(alloc, 64, &nested, "leaf z;"),
-        "deep" => chain(alloc, 65, &nested, "leaf z;"),
-        "doubled" => doubled(alloc),
-        _ => chain(alloc, 30, &["", "", ""], ""),
-    }
+fn is_of_hundreds(word: &str) -> bool {
+    word == "most" || word == "many"
 }
 
-fn doubled(alloc: Global) -> Result<String, AllocError> {
-    let twice = [" container a {", " } container b {", " }"];
-    chain(alloc, 30, &twice, "leaf z;")
+fn put_next(text: &mut String, word: &str) -> Result<(), AllocError> {
+    put_large(text, word)?;
+    text.push_str(" & ")
+}
+
+// The texts of the modules that words name.
+fn large_texts(alloc: Global, words: &str) -> Result<String, AllocError> {
+    let mut text = String::new(alloc);
+    for word in words.split(' ') {
+        put_next(&mut text, word)?;
+    }
+    Ok(text)
+}
+
+struct Limits;
+
+impl Tells for Limits {
+    fn tell(&self, alloc: Global, text: &mut String, asked: &str) -> Result<(), Fail> {
+        let texts = large_texts(alloc, asked)?;
+        Named(Shaped(TellsSizes)).tell(alloc, text, texts.as_str())
+    }
 }
 
 // Modules; how many nodes, the first that is too large, and which are expanded (this project's own limits: 20,000 nodes, 64 above one).
@@ -173,54 +238,79 @@ empty small => 1 None ++
  => 0 None 
 "#;
 
-// The texts of the modules that words name.
-fn large_texts(alloc: Global, words: &str) -> Result<Vec<String>, AllocError> {
-    let mut texts = Vec::new(alloc);
-    for word in words.split(' ') {
-        if word != "" {
-            texts.push(large_text(alloc, word)?)?;
-        }
-    }
-    Ok(texts)
-}
-
-fn all_texts<'a>(alloc: Global, texts: &'a [String]) -> Result<Vec<&'a str>, AllocError> {
-    let mut all = Vec::new(alloc);
-    for text in texts {
-        all.push(text.as_str())?;
-    }
-    Ok(all)
-}
-
-struct Limits;
-
-impl Tells for Limits {
-    fn tell(&self, alloc: Global, text: &str) -> Result<String, Fail> {
-        let texts = large_texts(alloc, text)?;
-        let all = all_texts(alloc, &texts)?;
-        sizes(alloc, &all)
-    }
-}
-
 #[test]
 fn keeps_to_limits(rt: HostRuntime) -> Result<(), Fail> {
     check(&rt, rt.alloc(), &Limits, SIZES)
 }
 
-// What is asked of a tree; what is found.
-fn found<'a>(
-    alloc: Global,
-    expansion: &Expansion<'a>,
+// What is asked of a tree: whether at its top, where, and a name.
+#[derive(Drop, Clone, Copy)]
+struct Asked<'a> {
     is_top: bool,
     at: usize,
     name: &'a str,
-) -> Result<String, AllocError> {
-    if is_top {
-        let one = expansion.top_named(at, name);
-        return format!(in alloc; "{:?} {one:?}", expansion.tops(at));
+}
+
+fn asked_in(text: &str) -> Asked<'_> {
+    let (place, rest) = parted(text, " ");
+    let (at, name) = parted(rest, " ");
+    Asked {
+        is_top: place == "top",
+        at: number_in(at),
+        name,
     }
-    let one = expansion.child_named(at, name);
-    format!(in alloc; "{:?} {one:?}", expansion.children(at))
+}
+
+fn put_top<'a>(
+    text: &mut String,
+    expansion: &Expansion<'a>,
+    at: usize,
+    name: &'a str,
+) -> Result<(), AllocError> {
+    write!(
+        text,
+        "{:?} {:?}",
+        expansion.tops(at),
+        expansion.top_named(at, name)
+    )
+}
+
+fn put_child<'a>(
+    text: &mut String,
+    expansion: &Expansion<'a>,
+    at: usize,
+    name: &'a str,
+) -> Result<(), AllocError> {
+    write!(
+        text,
+        "{:?} {:?}",
+        expansion.children(at),
+        expansion.child_named(at, name)
+    )
+}
+
+fn put_asked<'a>(
+    text: &mut String,
+    expansion: &Expansion<'a>,
+    asked: Asked<'a>,
+) -> Result<(), AllocError> {
+    if asked.is_top {
+        return put_top(text, expansion, asked.at, asked.name);
+    }
+    put_child(text, expansion, asked.at, asked.name)
+}
+
+impl TellsOfShape for Asked<'_> {
+    fn tell_shape(
+        &self,
+        alloc: Global,
+        text: &mut String,
+        _names: &RowNames<'_>,
+        shape: &Shape<'_>,
+    ) -> Result<(), NoMemory> {
+        let expansion = expand(alloc, shape)?;
+        Ok(put_asked(text, &expansion, *self)?)
+    }
 }
 
 // What is asked of a tree: whether at its top, where, and a name; what is found.
@@ -238,45 +328,25 @@ child 6 b => [8] Some(8)
 child 9 a => [] None
 "#;
 
-fn is_found<'a>(alloc: Global, expansion: &Expansion<'a>, row: &'a str) -> Result<bool, Fail> {
-    let (asked, expected) = row.split_once(" => ").ok_or("no row")?;
-    let (place, rest) = asked.split_once(" ").ok_or("no place")?;
-    let (at, name) = rest.split_once(" ").ok_or("no name")?;
-    let at = at.parse::<usize>()?;
-    let told = found(alloc, expansion, place == "top", at, name)?;
-    Ok(told.as_str() == expected)
-}
+struct Finding;
 
-fn check_found<'a>(
-    rt: &impl Abort,
-    alloc: Global,
-    expansion: &Expansion<'a>,
-    rows: &'a str,
-) -> Result<(), Fail> {
-    for row in rows.lines().skip(1) {
-        assert!(rt; is_found(alloc, expansion, row)?, "{row}");
+impl Tells for Finding {
+    fn tell(&self, alloc: Global, text: &mut String, asked: &str) -> Result<(), Fail> {
+        let (two, _) = parted(TWO, " => ");
+        Named(Shaped(asked_in(asked))).tell(alloc, text, two)
     }
-    Ok(())
-}
-
-const TWO: [&str; 2] = [
-    "module m { grouping g { leaf a; leaf b; } container c { uses g; container a { leaf b; } } leaf a; }",
-    "module n { leaf a; list l { leaf b; } }",
-];
-
-#[test]
-fn numbers_nodes(rt: HostRuntime) -> Result<(), Fail> {
-    let nodes = tree(rt.alloc(), &TWO)?;
-    assert_eq!(rt; nodes.as_str(), " m0/c m0/a m1/a m1/l 0/a 0/b 0/a 3/b 6/b");
-    Ok(())
 }
 
 #[test]
 fn finds_nodes(rt: HostRuntime) -> Result<(), Fail> {
-    let alloc = rt.alloc();
-    let rows = rows_in(alloc, &TWO)?;
-    let groupings = groupings_in(alloc, &rows)?;
-    let shape = shape_of(alloc, &rows, &groupings)?;
-    let expansion = expand(alloc, &shape)?;
-    check_found(&rt, alloc, &expansion, FOUND)
+    check(&rt, rt.alloc(), &Finding, FOUND)
+}
+
+// Two modules, and their nodes.
+const TWO: &str =
+    "module m { grouping g { leaf a; leaf b; } container c { uses g; container a { leaf b; } } leaf a; } & module n { leaf a; list l { leaf b; } } =>  m0/c m0/a m1/a m1/l 0/a 0/b 0/a 3/b 6/b";
+
+#[test]
+fn numbers_nodes(rt: HostRuntime) -> Result<(), Fail> {
+    check_parted(&rt, rt.alloc(), &Named(Shaped(TellsTrees)), TWO)
 }

@@ -1,6 +1,6 @@
-use crate::flaws::flaw_parts;
-use crate::groupings::rows_in;
-use crate::tables::{Tells, check};
+use crate::flaws::{Judges, Spot, put_first_flaw};
+use crate::modules::rows_in;
+use crate::tables::{Tells, check, check_parted};
 use nm_base::{Label, NoMemory};
 use nm_schema_rows::{
     Flaw, Row, Rows, Word, grammar_flaw, is_builtin, is_identifier, is_reference, name_of,
@@ -61,8 +61,8 @@ Leaf => unknown
 struct TellsKeywords;
 
 impl Tells for TellsKeywords {
-    fn tell(&self, alloc: Global, text: &str) -> Result<String, Fail> {
-        Ok(String::from_str(alloc, kind_name(word_of(text)))?)
+    fn tell(&self, _alloc: Global, text: &mut String, asked: &str) -> Result<(), Fail> {
+        Ok(text.push_str(kind_name(word_of(asked)))?)
     }
 }
 
@@ -95,9 +95,9 @@ p:int8 => false true false
 struct TellsNames;
 
 impl Tells for TellsNames {
-    fn tell(&self, alloc: Global, text: &str) -> Result<String, Fail> {
-        let (identifier, reference) = (is_identifier(text), is_reference(text));
-        Ok(format!(in alloc; "{identifier} {reference} {}", is_builtin(text))?)
+    fn tell(&self, _alloc: Global, text: &mut String, asked: &str) -> Result<(), Fail> {
+        let (identifier, reference) = (is_identifier(asked), is_reference(asked));
+        Ok(write!(text, "{identifier} {reference} {}", is_builtin(asked))?)
     }
 }
 
@@ -117,9 +117,9 @@ p:a:b => p a:b
 struct TellsParts;
 
 impl Tells for TellsParts {
-    fn tell(&self, alloc: Global, text: &str) -> Result<String, Fail> {
-        let prefix = prefix_of(text).unwrap_or("none");
-        Ok(format!(in alloc; "{prefix} {}", name_of(text))?)
+    fn tell(&self, _alloc: Global, text: &mut String, asked: &str) -> Result<(), Fail> {
+        let prefix = prefix_of(asked).unwrap_or("none");
+        Ok(write!(text, "{prefix} {}", name_of(asked))?)
     }
 }
 
@@ -129,30 +129,27 @@ fn parts_names(rt: HostRuntime) -> Result<(), Fail> {
 }
 
 // A row as its module, its number, its parent, its keyword and its place.
-fn row_text(alloc: Global, at: usize, row: &Row) -> Result<String, AllocError> {
-    let (module, keyword, place) = (row.module, &row.keyword, row.place);
+fn put_row(text: &mut String, at: usize, row: &Row) -> Result<(), AllocError> {
+    write!(text, "{}:{at} ", row.module)?;
     match row.parent {
-        None => format!(in alloc; "{module}:{at} - {keyword} {place};"),
-        Some(parent) => format!(in alloc; "{module}:{at} {parent} {keyword} {place};"),
+        None => text.push_str("-")?,
+        Some(parent) => write!(text, "{parent}")?,
     }
+    write!(text, " {} {};", row.keyword, row.place)
 }
 
-fn show_row(alloc: Global, out: &mut String, rows: &Rows, at: usize) -> Result<(), AllocError> {
+fn put_row_at(text: &mut String, rows: &Rows, at: usize) -> Result<(), AllocError> {
     match rows.row(at) {
         None => Ok(()),
-        Some(row) => {
-            let text = row_text(alloc, at, row)?;
-            out.push_str(text.as_str())
-        }
+        Some(row) => put_row(text, at, row),
     }
 }
 
-fn shown(alloc: Global, rows: &Rows) -> Result<String, AllocError> {
-    let mut out = String::new(alloc);
+fn put_rows(text: &mut String, rows: &Rows) -> Result<(), AllocError> {
     for at in 0..rows.len() {
-        show_row(alloc, &mut out, rows, at)?;
+        put_row_at(text, rows, at)?;
     }
-    Ok(out)
+    Ok(())
 }
 
 // Worked out by hand: skipped statements and what is below them have no rows, nor has what is below unknown ones.
@@ -166,25 +163,15 @@ module a { list l { leaf x { type t { range r; } } key x; } } & module b; => 0:0
 struct Making;
 
 impl Tells for Making {
-    fn tell(&self, alloc: Global, text: &str) -> Result<String, Fail> {
-        let (one, other) = text.split_once(" & ").ok_or("no module")?;
-        let rows = rows_in(alloc, &[one, other])?;
-        Ok(shown(alloc, &rows)?)
+    fn tell(&self, alloc: Global, text: &mut String, asked: &str) -> Result<(), Fail> {
+        let rows = rows_in(alloc, asked)?;
+        Ok(put_rows(text, &rows)?)
     }
 }
 
 #[test]
 fn makes_rows(rt: HostRuntime) -> Result<(), Fail> {
     check(&rt, rt.alloc(), &Making, ROWS)
-}
-
-fn places_text(alloc: Global, rows: &Rows) -> Result<String, AllocError> {
-    format!(in alloc;
-        "{:?} {:?} {:?}",
-        rows.roots(),
-        rows.below(0),
-        rows.below(5)
-    )
 }
 
 fn finds_first(rows: &Rows) -> bool {
@@ -194,41 +181,60 @@ fn finds_first(rows: &Rows) -> bool {
         && rows.first_in(None, Word::Module) == Some(0)
 }
 
+fn finds_all(rows: &Rows) -> bool {
+    !rows.is_empty() && rows.len() == 5 && finds_first(rows)
+}
+
+fn put_places(text: &mut String, rows: &Rows) -> Result<(), AllocError> {
+    write!(text, "{} {:?} ", finds_all(rows), rows.roots())?;
+    write!(text, "{:?} {:?}", rows.below(0), rows.below(5))
+}
+
+// Whether its rows are found, the outermost rows, those in the first, and those in one that isn't there.
+struct Finding;
+
+impl Tells for Finding {
+    fn tell(&self, alloc: Global, text: &mut String, asked: &str) -> Result<(), Fail> {
+        let rows = rows_in(alloc, asked)?;
+        Ok(put_places(text, &rows)?)
+    }
+}
+
+const FOUND: &str = "module a { prefix a; leaf x { type t; } leaf y; } => true [0] [1, 2, 4] []";
+
 #[test]
 fn finds_rows(rt: HostRuntime) -> Result<(), Fail> {
-    let text = "module a { prefix a; leaf x { type t; } leaf y; }";
-    let rows = rows_in(rt.alloc(), &[text])?;
-    assert!(rt; !rows.is_empty() && rows.len() == 5 && finds_first(&rows));
-    assert_eq!(rt;
-        places_text(rt.alloc(), &rows)?.as_str(),
-        "[0] [1, 2, 4] []"
-    );
-    Ok(())
+    check_parted(&rt, rt.alloc(), &Finding, FOUND)
 }
 
-fn flaw_text(alloc: Global, flaw: &Flaw, place: u32) -> Result<String, AllocError> {
-    let (word, name) = flaw_parts(flaw);
-    format!(in alloc; "{word} {name} {place}")
+// Rows, whose places count from behind so many bytes.
+#[derive(Drop)]
+struct Behind<'a> {
+    rows: &'a Rows,
+    before: u32,
 }
 
-// The first flaw in a module as its kind, its name and its place behind so many bytes.
-fn first_flaw(alloc: Global, rows: &Rows, before: u32) -> Result<String, AllocError> {
-    for at in 0..rows.len() {
-        let Some(row) = rows.row(at) else {
-            return String::from_str(alloc, "no row");
-        };
-        match grammar_flaw(alloc, rows, at) {
-            Ok(None) => {}
-            Ok(Some(flaw)) => return flaw_text(alloc, &flaw, row.place.saturating_sub(before)),
-            Err(NoMemory) => return String::from_str(alloc, "no memory"),
+impl Judges for Behind<'_> {
+    fn flaw_at(&self, alloc: Global, at: usize) -> Result<Option<Flaw>, NoMemory> {
+        grammar_flaw(alloc, self.rows, at)
+    }
+
+    fn spot(&self, at: usize) -> Spot {
+        match self.rows.row(at) {
+            None => (None, at),
+            Some(row) => (None, row.place.saturating_sub(self.before) as usize),
         }
     }
-    String::from_str(alloc, "none")
 }
 
-fn flaw_in(alloc: Global, text: &str, before: u32) -> Result<String, Fail> {
-    let rows = rows_in(alloc, &[text])?;
-    Ok(first_flaw(alloc, &rows, before)?)
+// Puts the first flaw in rows as its kind, its name and its place behind so many bytes.
+fn put_flaw(alloc: Global, text: &mut String, rows: &Rows, before: u32) -> Result<(), NoMemory> {
+    put_first_flaw(alloc, text, &Behind { rows, before }, rows.len())
+}
+
+fn put_flaw_in(alloc: Global, text: &mut String, module: &str, before: u32) -> Result<(), Fail> {
+    let rows = rows_in(alloc, module)?;
+    Ok(put_flaw(alloc, text, &rows, before)?)
 }
 
 // Each is what stands within a module `m`, behind its namespace and prefix. Places count from there.
@@ -326,9 +332,9 @@ module n { namespace n; prefix n; } => unknown module 0
 struct TellsWithin;
 
 impl Tells for TellsWithin {
-    fn tell(&self, alloc: Global, text: &str) -> Result<String, Fail> {
-        let whole = format!(in alloc; "module m{{namespace n;prefix m;{text}}}")?;
-        flaw_in(alloc, whole.as_str(), 30)
+    fn tell(&self, alloc: Global, text: &mut String, asked: &str) -> Result<(), Fail> {
+        let whole = format!(in alloc; "module m{{namespace n;prefix m;{asked}}}")?;
+        put_flaw_in(alloc, text, whole.as_str(), 30)
     }
 }
 
@@ -353,8 +359,8 @@ module m{belongs-to n;namespace n;prefix p;} => unsupported belongs-to 9
 struct TellsModules;
 
 impl Tells for TellsModules {
-    fn tell(&self, alloc: Global, text: &str) -> Result<String, Fail> {
-        flaw_in(alloc, text, 0)
+    fn tell(&self, alloc: Global, text: &mut String, asked: &str) -> Result<(), Fail> {
+        put_flaw_in(alloc, text, asked, 0)
     }
 }
 
@@ -381,14 +387,18 @@ fn bare(alloc: Global, keyword: &str) -> Result<Statement, NoMemory> {
     })
 }
 
+fn bare_rows(alloc: Global, keyword: &str) -> Result<Rows, NoMemory> {
+    let statement = bare(alloc, keyword)?;
+    rows_of(alloc, &[statement])
+}
+
 // The first flaw of such a statement.
 struct TellsOutermost;
 
 impl Tells for TellsOutermost {
-    fn tell(&self, alloc: Global, text: &str) -> Result<String, Fail> {
-        let statement = bare(alloc, text)?;
-        let rows = rows_of(alloc, &[statement])?;
-        Ok(first_flaw(alloc, &rows, 0)?)
+    fn tell(&self, alloc: Global, text: &mut String, asked: &str) -> Result<(), Fail> {
+        let rows = bare_rows(alloc, asked)?;
+        Ok(put_flaw(alloc, text, &rows, 0)?)
     }
 }
 

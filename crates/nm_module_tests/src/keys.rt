@@ -1,25 +1,17 @@
 ghost use Rattle.std.specs.Prelude.{◌≡◌};
 
-use crate::groupings::{groupings_of, rows_in};
-use crate::tables::{Tells, check, check_parted};
+use crate::flaws::put_flaw;
+use crate::modules::{Named, Shaped, TellsOfShape};
+use crate::tables::{check, check_both, check_parted};
 use nm_base::NoMemory;
 use nm_schema_keys::{
-    Keys, Unique, Uniques, flawed_uniques, key_flaw, key_leafs, keys_of, unique_flaw, uniques_of,
+    Unique, flawed_uniques, key_flaw, key_leafs, keys_of, unique_flaw, uniques_of,
 };
 use nm_schema_names::RowNames;
 use nm_schema_rows::{Flaw, Rows, Word};
-use nm_schema_shape::{Shape, shape_of};
+use nm_schema_shape::Shape;
 use std::alloc::{AllocError, Global};
 use std::test::Fail;
-
-fn flaw_text(alloc: Global, flaw: &Flaw, at: usize) -> Result<String, AllocError> {
-    match flaw {
-        Flaw::Duplicate(name) => format!(in alloc; "duplicate {name} {at}"),
-        Flaw::BadReference(name) => format!(in alloc; "bad-reference {name} {at}"),
-        Flaw::BadArgument(name) => format!(in alloc; "bad-argument {name} {at}"),
-        _ => String::from_str(alloc, "other"),
-    }
-}
 
 fn row_flaw(
     alloc: Global,
@@ -35,84 +27,123 @@ fn row_flaw(
     unique_flaw(alloc, names, shape, at)
 }
 
+// Puts the flaw of a row, if it has one.
+fn has_flaw(
+    alloc: Global,
+    text: &mut String,
+    names: &RowNames<'_>,
+    shape: &Shape<'_>,
+    at: usize,
+) -> Result<bool, NoMemory>
+    requires { names.now ≡ shape.now.rows }
+{
+    match row_flaw(alloc, names, shape, at)? {
+        None => Ok(false),
+        Some(flaw) => {
+            put_flaw(text, &flaw, (None, at))?;
+            Ok(true)
+        }
+    }
+}
+
 // The first flaw, and the number of its row.
-fn first_flaw(alloc: Global, names: &RowNames<'_>, shape: &Shape<'_>) -> Result<String, AllocError>
+fn put_first_flaw(
+    alloc: Global,
+    text: &mut String,
+    names: &RowNames<'_>,
+    shape: &Shape<'_>,
+) -> Result<(), NoMemory>
     requires { names.now ≡ shape.now.rows }
 {
     for at in 0..names.rows().len() {
-        match row_flaw(alloc, names, shape, at) {
-            Ok(None) => {}
-            Ok(Some(flaw)) => return flaw_text(alloc, &flaw, at),
-            Err(NoMemory) => return String::from_str(alloc, "no memory"),
+        if has_flaw(alloc, text, names, shape, at)? {
+            return Ok(text.push_str("; ")?);
         }
     }
-    String::from_str(alloc, "none")
+    Ok(text.push_str("none; ")?)
 }
 
 // The first row of a list.
 fn list_in(rows: &Rows) -> usize {
     for at in 0..rows.len() {
-        if let Some(row) = rows.row(at)
-            && row.word.same(Word::List)
-        {
+        if is_list(rows, at) {
             return at;
         }
     }
     rows.len()
 }
 
-fn keys_text(alloc: Global, keys: &Option<Keys>) -> Result<String, AllocError> {
-    match keys {
-        None => String::from_str(alloc, "none"),
-        Some(keys) => format!(in alloc; "{:?}", keys.as_slice()),
+fn is_list(rows: &Rows, at: usize) -> bool {
+    match rows.row(at) {
+        None => false,
+        Some(row) => row.word.same(Word::List),
     }
-}
-
-fn uniques_text(alloc: Global, uniques: &Option<Uniques>) -> Result<String, AllocError> {
-    let Some(uniques) = uniques else {
-        return String::from_str(alloc, "none");
-    };
-    let mut text = String::new(alloc);
-    for unique in uniques.as_slice() {
-        let ways = ways_text(alloc, unique)?;
-        text.push_str(ways.as_str())?;
-    }
-    Ok(text)
 }
 
 // The ways to the leafs that are unique together.
-fn ways_text(alloc: Global, unique: &Unique) -> Result<String, AllocError> {
-    let mut text = String::new(alloc);
+fn put_unique(text: &mut String, unique: &Unique) -> Result<(), AllocError> {
+    text.push_str("(")?;
     for way in unique.ways() {
-        let way = format!(in alloc; "{:?}", way.as_slice())?;
-        text.push_str(way.as_str())?;
+        write!(text, "{:?}", way.as_slice())?;
     }
-    format!(in alloc; "({text})")
+    text.push_str(")")
+}
+
+fn put_uniques(text: &mut String, uniques: &[Unique]) -> Result<(), AllocError> {
+    for unique in uniques {
+        put_unique(text, unique)?;
+    }
+    Ok(())
+}
+
+// The keys of a list.
+fn put_keys(
+    alloc: Global,
+    text: &mut String,
+    names: &RowNames<'_>,
+    shape: &Shape<'_>,
+    list: usize,
+) -> Result<(), NoMemory>
+    requires { names.now ≡ shape.now.rows }
+{
+    match keys_of(alloc, names, shape, list)? {
+        None => Ok(text.push_str("none; ")?),
+        Some(keys) => Ok(write!(text, "{:?}; ", keys.as_slice())?),
+    }
+}
+
+// What is unique in a list.
+fn put_uniques_of(
+    alloc: Global,
+    text: &mut String,
+    names: &RowNames<'_>,
+    shape: &Shape<'_>,
+    list: usize,
+) -> Result<(), NoMemory>
+    requires { names.now ≡ shape.now.rows }
+{
+    match uniques_of(alloc, names, shape, list)? {
+        None => Ok(text.push_str("none")?),
+        Some(uniques) => Ok(put_uniques(text, uniques.as_slice())?),
+    }
 }
 
 // The first flaw of some rows, the keys of the first list, and what is unique in it.
-fn told(alloc: Global, names: &RowNames<'_>, shape: &Shape<'_>) -> Result<String, Fail>
-    requires { names.now ≡ shape.now.rows }
-{
-    let list = list_in(names.rows());
-    let flaw = first_flaw(alloc, names, shape)?;
-    let keys = keys_text(alloc, &keys_of(alloc, names, shape, list)?)?;
-    let uniques = uniques_text(alloc, &uniques_of(alloc, names, shape, list)?)?;
-    Ok(format!(in alloc; "{flaw}; {keys}; {uniques}")?)
-}
+struct TellsLists;
 
-// The same of all rows that have names.
-fn told_by(alloc: Global, names: &RowNames<'_>) -> Result<String, Fail> {
-    let groupings = groupings_of(alloc, names)?;
-    let shape = shape_of(alloc, names.rows(), &groupings)?;
-    told(alloc, names, &shape)
-}
-
-// The same of the text of a module.
-fn told_of(alloc: Global, text: &str) -> Result<String, Fail> {
-    let rows = rows_in(alloc, &[text])?;
-    let names = RowNames::new(alloc, &rows)?;
-    told_by(alloc, &names)
+impl TellsOfShape for TellsLists {
+    fn tell_shape(
+        &self,
+        alloc: Global,
+        text: &mut String,
+        names: &RowNames<'_>,
+        shape: &Shape<'_>,
+    ) -> Result<(), NoMemory> {
+        let list = list_in(names.rows());
+        put_first_flaw(alloc, text, names, shape)?;
+        put_keys(alloc, text, names, shape, list)?;
+        put_uniques_of(alloc, text, names, shape, list)
+    }
 }
 
 // A module's text, and what is told of it: a flaw has the number of its row (RFC 7950 sections 7.8.2, 7.8.3 and 14).
@@ -158,70 +189,66 @@ module m { prefix p; grouping g { container c { leaf d; } } list l { unique "c/d
 const IN_LINES: &str =
     "module m { prefix p; list l { key \"  b\n\ta \"; leaf a; leaf b; } } => none; [5, 4]; ";
 
-struct TellsLists;
-
-impl Tells for TellsLists {
-    fn tell(&self, alloc: Global, text: &str) -> Result<String, Fail> {
-        told_of(alloc, text)
-    }
-}
-
 #[test]
 fn reads_lists(rt: HostRuntime) -> Result<(), Fail> {
-    check(&rt, rt.alloc(), &TellsLists, LISTS)?;
-    check_parted(&rt, rt.alloc(), &TellsLists, IN_LINES)
-}
-
-// For each row whether it is a key.
-fn keys_by(alloc: Global, names: &RowNames<'_>) -> Result<Vec<bool>, Fail> {
-    let groupings = groupings_of(alloc, names)?;
-    let shape = shape_of(alloc, names.rows(), &groupings)?;
-    Ok(key_leafs(alloc, names, &shape)?)
-}
-
-fn keys_in(alloc: Global, text: &str) -> Result<Vec<bool>, Fail> {
-    let rows = rows_in(alloc, &[text])?;
-    let names = RowNames::new(alloc, &rows)?;
-    keys_by(alloc, &names)
-}
-
-#[test]
-fn marks_keys(rt: HostRuntime) -> Result<(), Fail> {
-    let text =
-        "module m { prefix p; grouping g { leaf a; leaf b; } list l { key a; uses g; leaf c; } list k { key c; leaf c; } }";
-    let marks = keys_in(rt.alloc(), text)?;
-    let found = marked(rt.alloc(), &marks)?;
-    assert!(rt; marks.len() == 12 && found.as_str() == "[3, 11]");
-    Ok(())
+    check_both(&rt, rt.alloc(), &Named(Shaped(TellsLists)), LISTS, IN_LINES)
 }
 
 // The numbers of the rows that are marked.
-fn marked(alloc: Global, marks: &[bool]) -> Result<String, AllocError> {
+fn marked(alloc: Global, marks: &[bool]) -> Result<Vec<usize>, AllocError> {
     let mut numbers = Vec::new(alloc);
     for at in 0..marks.len() {
         if marks[at] {
             numbers.push(at)?;
         }
     }
-    format!(in alloc; "{:?}", numbers.as_slice())
+    Ok(numbers)
+}
+
+fn put_marks(alloc: Global, text: &mut String, marks: &[bool]) -> Result<(), AllocError> {
+    let numbers = marked(alloc, marks)?;
+    write!(text, "{:?}", numbers.as_slice())
+}
+
+// How many rows there are, and which of them are keys.
+struct KeyMarks;
+
+impl TellsOfShape for KeyMarks {
+    fn tell_shape(
+        &self,
+        alloc: Global,
+        text: &mut String,
+        names: &RowNames<'_>,
+        shape: &Shape<'_>,
+    ) -> Result<(), NoMemory> {
+        let marks = key_leafs(alloc, names, shape)?;
+        write!(text, "{} ", marks.len())?;
+        Ok(put_marks(alloc, text, &marks)?)
+    }
+}
+
+const MARKED: &str =
+    "module m { prefix p; grouping g { leaf a; leaf b; } list l { key a; uses g; leaf c; } list k { key c; leaf c; } } => 12 [3, 11]";
+
+#[test]
+fn marks_keys(rt: HostRuntime) -> Result<(), Fail> {
+    check_parted(&rt, rt.alloc(), &Named(Shaped(KeyMarks)), MARKED)
 }
 
 // The rows that are marked as `unique` statements with a flaw.
-fn flawed_by(alloc: Global, names: &RowNames<'_>) -> Result<Vec<bool>, Fail> {
-    let groupings = groupings_of(alloc, names)?;
-    let shape = shape_of(alloc, names.rows(), &groupings)?;
-    Ok(flawed_uniques(alloc, names, &shape)?)
-}
+struct FlawMarks;
 
-fn flaw_marks(alloc: Global, text: &str) -> Result<Vec<bool>, Fail> {
-    let rows = rows_in(alloc, &[text])?;
-    let names = RowNames::new(alloc, &rows)?;
-    flawed_by(alloc, &names)
-}
-
-fn flawed_in(alloc: Global, text: &str) -> Result<String, Fail> {
-    let marks = flaw_marks(alloc, text)?;
-    Ok(marked(alloc, &marks)?)
+impl TellsOfShape for FlawMarks {
+    fn tell_shape(
+        &self,
+        alloc: Global,
+        text: &mut String,
+        names: &RowNames<'_>,
+        shape: &Shape<'_>,
+    ) -> Result<(), NoMemory> {
+        let marks = flawed_uniques(alloc, names, shape)?;
+        Ok(put_marks(alloc, text, &marks)?)
+    }
 }
 
 // A module's text, and the rows of its `unique` statements that have a flaw (RFC 7950 section 7.8.3).
@@ -231,15 +258,7 @@ module m { prefix p; list l { unique a; unique "c/d"; unique "c/d"; leaf a { con
 module m { prefix p; grouping g { container c { leaf d; } } list l { unique "c/d"; uses g; unique "c/c"; } list k { uses g; unique "d/c"; unique "c/d"; } list n { unique x; uses nowhere; } } => [8, 11]
 "#;
 
-struct TellsFlawMarks;
-
-impl Tells for TellsFlawMarks {
-    fn tell(&self, alloc: Global, text: &str) -> Result<String, Fail> {
-        flawed_in(alloc, text)
-    }
-}
-
 #[test]
 fn marks_flaws(rt: HostRuntime) -> Result<(), Fail> {
-    check(&rt, rt.alloc(), &TellsFlawMarks, FLAWED)
+    check(&rt, rt.alloc(), &Named(Shaped(FlawMarks)), FLAWED)
 }

@@ -14,9 +14,9 @@ mod flaws;
 #[cfg(test)]
 mod grammar;
 #[cfg(test)]
-mod groupings;
-#[cfg(test)]
 mod keys;
+#[cfg(test)]
+mod modules;
 #[cfg(test)]
 mod names;
 #[cfg(test)]

@@ -1,46 +1,36 @@
-use crate::flaws::flaw_parts;
-use crate::groupings::rows_in;
-use crate::tables::{Tells, check};
+use crate::flaws::{Judges, Spot, put_first_flaw};
+use crate::modules::{Named, TellsOfNames};
+use crate::tables::{Tells, check, check_parted, number_in, parted};
 use nm_base::NoMemory;
 use nm_schema_names::{RowNames, is_marker};
-use nm_schema_rows::{Flaw, Rows, Word};
+use nm_schema_rows::{Flaw, Word};
 use std::alloc::{AllocError, Global};
 use std::test::Fail;
 
-fn flaw_text(alloc: Global, flaw: &Flaw, owner: usize, place: u32) -> Result<String, AllocError> {
-    let (word, name) = flaw_parts(flaw);
-    format!(in alloc; "{word} {name} {owner}:{place}")
+impl Judges for RowNames<'_> {
+    fn flaw_at(&self, _alloc: Global, at: usize) -> Result<Option<Flaw>, NoMemory> {
+        self.name_flaw(at)
+    }
+
+    fn spot(&self, at: usize) -> Spot {
+        match self.rows().row(at) {
+            None => (None, at),
+            Some(row) => (Some(row.module), row.place as usize),
+        }
+    }
 }
 
 // The first flaw of two modules as its kind, its name, its module and its place.
-fn first_flaw(alloc: Global, names: &RowNames<'_>) -> Result<String, AllocError> {
-    let rows = names.rows();
-    for at in 0..rows.len() {
-        let Some(row) = rows.row(at) else {
-            return String::from_str(alloc, "no row");
-        };
-        match names.name_flaw(at) {
-            Ok(None) => {}
-            Ok(Some(flaw)) => return flaw_text(alloc, &flaw, row.module, row.place),
-            Err(NoMemory) => return String::from_str(alloc, "no memory"),
-        }
-    }
-    String::from_str(alloc, "none")
-}
+struct Judging;
 
-// The rows of two modules.
-fn rows_of_two(alloc: Global, text: &str) -> Result<Rows, Fail> {
-    let (one, other) = text.split_once(" & ").ok_or("no module")?;
-    rows_in(alloc, &[one, other])
-}
-
-struct TellsFirstFlaw;
-
-impl Tells for TellsFirstFlaw {
-    fn tell(&self, alloc: Global, text: &str) -> Result<String, Fail> {
-        let rows = rows_of_two(alloc, text)?;
-        let names = RowNames::new(alloc, &rows)?;
-        Ok(first_flaw(alloc, &names)?)
+impl TellsOfNames for Judging {
+    fn tell_names(
+        &self,
+        alloc: Global,
+        text: &mut String,
+        names: &RowNames<'_>,
+    ) -> Result<(), Fail> {
+        Ok(put_first_flaw(alloc, text, names, names.rows().len())?)
     }
 }
 
@@ -77,7 +67,7 @@ module { uses; } & module { type; } => none
 
 #[test]
 fn finds_flaws(rt: HostRuntime) -> Result<(), Fail> {
-    check(&rt, rt.alloc(), &TellsFirstFlaw, FLAWS)
+    check(&rt, rt.alloc(), &Named(Judging), FLAWS)
 }
 
 // RFC 7950 section 5.5, rows counted by hand: a row, and what it leads to.
@@ -91,16 +81,28 @@ const LEADS: &str = r#"
 2 module a { leaf x { type int8; } } & module b; => None
 "#;
 
+// What a row leads to.
+#[derive(Drop)]
+struct LeadsAt(usize);
+
+impl TellsOfNames for LeadsAt {
+    fn tell_names(
+        &self,
+        _alloc: Global,
+        text: &mut String,
+        names: &RowNames<'_>,
+    ) -> Result<(), Fail> {
+        Ok(write!(text, "{:?}", names.leads_to(self.0))?)
+    }
+}
+
 // In each row the number of a row, and two modules.
 struct Leading;
 
 impl Tells for Leading {
-    fn tell(&self, alloc: Global, text: &str) -> Result<String, Fail> {
-        let (at, modules) = text.split_once(" ").ok_or("no number")?;
-        let at = at.parse::<usize>()?;
-        let rows = rows_of_two(alloc, modules)?;
-        let names = RowNames::new(alloc, &rows)?;
-        Ok(format!(in alloc; "{:?}", names.leads_to(at))?)
+    fn tell(&self, alloc: Global, text: &mut String, asked: &str) -> Result<(), Fail> {
+        let (at, modules) = parted(asked, " ");
+        Named(LeadsAt(number_in(at))).tell(alloc, text, modules)
     }
 }
 
@@ -109,8 +111,9 @@ fn leads(rt: HostRuntime) -> Result<(), Fail> {
     check(&rt, rt.alloc(), &Leading, LEADS)
 }
 
+// Two modules of which all is found.
 const TWO: &str =
-    "module a { prefix p; import b { prefix q; } leaf x { type t; } leaf x; } & module b { grouping g { leaf x; } }";
+    "module a { prefix p; import b { prefix q; } leaf x { type t; } leaf x; } & module b { grouping g { leaf x; } } => true";
 
 fn finds_leafs(names: &RowNames<'_>) -> bool {
     names.named(Some(0), Word::Leaf, "x") == Some(4)
@@ -126,12 +129,24 @@ fn finds_within(names: &RowNames<'_>) -> bool {
         && names.definition(4, Word::Grouping, "q:g") == Some(8)
 }
 
+// Whether the nodes are found.
+struct FindsNodes;
+
+impl TellsOfNames for FindsNodes {
+    fn tell_names(
+        &self,
+        _alloc: Global,
+        text: &mut String,
+        names: &RowNames<'_>,
+    ) -> Result<(), Fail> {
+        let is_found = finds_leafs(names) && finds_within(names);
+        Ok(write!(text, "{is_found}")?)
+    }
+}
+
 #[test]
 fn finds_names(rt: HostRuntime) -> Result<(), Fail> {
-    let rows = rows_of_two(rt.alloc(), TWO)?;
-    let names = RowNames::new(rt.alloc(), &rows)?;
-    assert!(rt; finds_leafs(&names) && finds_within(&names));
-    Ok(())
+    check_parted(&rt, rt.alloc(), &Named(FindsNodes), TWO)
 }
 
 fn finds_tops(names: &RowNames<'_>) -> bool {
@@ -150,44 +165,39 @@ fn finds_prefixes(names: &RowNames<'_>) -> bool {
         && names.prefix_leads(1, "q") == None
 }
 
+// Whether the modules and their prefixes are found.
+struct FindsModules;
+
+impl TellsOfNames for FindsModules {
+    fn tell_names(
+        &self,
+        _alloc: Global,
+        text: &mut String,
+        names: &RowNames<'_>,
+    ) -> Result<(), Fail> {
+        let is_found = finds_tops(names) && finds_prefixes(names) && is_marker("netm-marker");
+        Ok(write!(text, "{is_found}")?)
+    }
+}
+
 #[test]
 fn finds_modules(rt: HostRuntime) -> Result<(), Fail> {
-    let rows = rows_of_two(rt.alloc(), TWO)?;
-    let names = RowNames::new(rt.alloc(), &rows)?;
-    assert!(rt; finds_tops(&names) && finds_prefixes(&names) && is_marker("netm-marker"));
-    Ok(())
+    check_parted(&rt, rt.alloc(), &Named(FindsModules), TWO)
 }
 
-fn put_next(alloc: Global, out: &mut String, next: usize) -> Result<(), AllocError> {
-    let text = format!(in alloc; " {next}")?;
-    out.push_str(text.as_str())
-}
-
-fn nexts_text(alloc: Global, row: &Vec<usize>) -> Result<String, AllocError> {
-    let mut out = String::new(alloc);
+fn put_row(text: &mut String, at: usize, row: &[usize]) -> Result<(), AllocError> {
+    write!(text, "{at}:")?;
     for next in row {
-        put_next(alloc, &mut out, *next)?;
+        write!(text, " {next}")?;
     }
-    Ok(out)
+    text.push_str(";")
 }
 
-fn show_row(
-    alloc: Global,
-    out: &mut String,
-    at: usize,
-    row: &Vec<usize>,
-) -> Result<(), AllocError> {
-    let nexts = nexts_text(alloc, row)?;
-    let text = format!(in alloc; "{at}:{nexts};")?;
-    out.push_str(text.as_str())
-}
-
-fn shown(alloc: Global, graph: &Vec<Vec<usize>>) -> Result<String, AllocError> {
-    let mut out = String::new(alloc);
+fn put_graph(text: &mut String, graph: &[Vec<usize>]) -> Result<(), AllocError> {
     for (at, row) in graph.iter().enumerate() {
-        show_row(alloc, &mut out, at, row)?;
+        put_row(text, at, row)?;
     }
-    Ok(out)
+    Ok(())
 }
 
 // Worked out by hand: what each row leads to.
@@ -198,16 +208,19 @@ module a { import b { prefix b; } leaf-list x { type b:t; } container y { uses b
 
 struct TellsGraphs;
 
-impl Tells for TellsGraphs {
-    fn tell(&self, alloc: Global, text: &str) -> Result<String, Fail> {
-        let rows = rows_of_two(alloc, text)?;
-        let names = RowNames::new(alloc, &rows)?;
+impl TellsOfNames for TellsGraphs {
+    fn tell_names(
+        &self,
+        alloc: Global,
+        text: &mut String,
+        names: &RowNames<'_>,
+    ) -> Result<(), Fail> {
         let graph = names.successors(alloc)?;
-        Ok(shown(alloc, &graph)?)
+        Ok(put_graph(text, &graph)?)
     }
 }
 
 #[test]
 fn makes_graphs(rt: HostRuntime) -> Result<(), Fail> {
-    check(&rt, rt.alloc(), &TellsGraphs, GRAPHS)
+    check(&rt, rt.alloc(), &Named(TellsGraphs), GRAPHS)
 }

@@ -1,45 +1,40 @@
-use crate::groupings::{groupings_in, rows_in};
-use crate::tables::{Tells, check};
-use crate::wide::wide_module;
+use crate::flaws::{Judges, Spot, put_first_flaw};
+use crate::modules::{Named, Shaped, TellsOfShape};
+use crate::tables::{Tells, check, check_parted, number_in};
+use crate::wide::Wide;
 use nm_base::NoMemory;
+use nm_schema_names::RowNames;
 use nm_schema_rows::Flaw;
-use nm_schema_shape::{Nodes, Shape, shape_of};
+use nm_schema_shape::{Nodes, Shape};
 use std::alloc::{AllocError, Global};
 use std::test::Fail;
 
-// What a flaw says, and where.
-fn flaw_text(alloc: Global, flaw: &Flaw, at: usize) -> Result<String, AllocError> {
-    match flaw {
-        Flaw::BadArgument(name) => format!(in alloc; "bad-argument {name} {at}"),
-        _ => String::from_str(alloc, "other"),
-    }
-}
-
-// The first flaw of a row.
-fn row_flaw(alloc: Global, shape: &Shape<'_>, at: usize) -> Result<Option<Flaw>, NoMemory> {
-    if let Some(flaw) = shape.config_flaw(alloc, at)? {
-        return Ok(Some(flaw));
-    }
-    shape.list_flaw(alloc, at)
-}
-
-fn first_flaw(alloc: Global, shape: &Shape<'_>, count: usize) -> Result<String, AllocError> {
-    for at in 0..count {
-        match row_flaw(alloc, shape, at) {
-            Ok(None) => {}
-            Ok(Some(flaw)) => return flaw_text(alloc, &flaw, at),
-            Err(NoMemory) => return String::from_str(alloc, "no memory"),
+impl Judges for Shape<'_> {
+    fn flaw_at(&self, alloc: Global, at: usize) -> Result<Option<Flaw>, NoMemory> {
+        if let Some(flaw) = self.config_flaw(alloc, at)? {
+            return Ok(Some(flaw));
         }
+        self.list_flaw(alloc, at)
     }
-    String::from_str(alloc, "none")
+
+    fn spot(&self, at: usize) -> Spot {
+        (None, at)
+    }
 }
 
 // The first flaw of a module.
-fn flaw_in(alloc: Global, text: &str) -> Result<String, Fail> {
-    let rows = rows_in(alloc, &[text])?;
-    let groupings = groupings_in(alloc, &rows)?;
-    let shape = shape_of(alloc, &rows, &groupings)?;
-    Ok(first_flaw(alloc, &shape, rows.len())?)
+struct Judging;
+
+impl TellsOfShape for Judging {
+    fn tell_shape(
+        &self,
+        alloc: Global,
+        text: &mut String,
+        _names: &RowNames<'_>,
+        shape: &Shape<'_>,
+    ) -> Result<(), NoMemory> {
+        put_first_flaw(alloc, text, shape, shape.rows().len())
+    }
 }
 
 // A module's text; the nodes in it, and the first flaw, by the number of its row (RFC 7950 sections 7.8.2 and 7.21.1).
@@ -57,25 +52,61 @@ module m { choice c { config false; list l { leaf a; } } } => none
 module m { choice c { list l { leaf a; } } } => bad-argument key 2
 "#;
 
-struct TellsFirstFlaw;
+#[test]
+fn finds_flaws(rt: HostRuntime) -> Result<(), Fail> {
+    check(&rt, rt.alloc(), &Named(Shaped(Judging)), FLAWS)
+}
 
-impl Tells for TellsFirstFlaw {
-    fn tell(&self, alloc: Global, text: &str) -> Result<String, Fail> {
-        flaw_in(alloc, text)
+// The rows of some nodes.
+fn put_nodes(text: &mut String, nodes: Option<&Nodes>) -> Result<(), AllocError> {
+    match nodes {
+        None => text.push_str("none"),
+        Some(nodes) => write!(text, "{:?}", nodes.as_slice()),
+    }
+}
+
+// A module's text; the members of the module that are neither state nor in a choice that is, and those that stand in no choice
+// (RFC 7950 sections 7.8.2, 7.9, 7.13 and 7.21.1).
+const PASSED: &str = r#"
+module m { leaf a; choice c { leaf b; } leaf d { config false; } } => [1, 3] [1, 4]
+module m { choice c { config false; leaf a; case d { uses g; } } grouping g { leaf b; } leaf e; } => [8] [8]
+module m { uses g; grouping g { leaf a; choice c { leaf b; } } } => [3, 5] [3]
+module m { choice c { case d { uses nowhere; } } leaf a; } => none [4]
+module m { leaf a; uses g; grouping g { leaf b; container k { leaf c; } } } => [1, 4, 5] [1, 4, 5]
+module m { leaf a { config false; } leaf b; } => [3] [1, 3]
+"#;
+
+// The members of a module that neither are state nor in a choice that is.
+fn put_kept(alloc: Global, text: &mut String, shape: &Shape<'_>) -> Result<(), NoMemory> {
+    let kept = shape.kept_members(alloc, 0)?;
+    Ok(put_nodes(text, kept.as_ref())?)
+}
+
+// The members of a module that stand in no choice.
+fn put_plain(alloc: Global, text: &mut String, shape: &Shape<'_>) -> Result<(), NoMemory> {
+    let plain = shape.plain_members(alloc, 0)?;
+    Ok(put_nodes(text, plain.as_ref())?)
+}
+
+struct Passing;
+
+impl TellsOfShape for Passing {
+    fn tell_shape(
+        &self,
+        alloc: Global,
+        text: &mut String,
+        _names: &RowNames<'_>,
+        shape: &Shape<'_>,
+    ) -> Result<(), NoMemory> {
+        put_kept(alloc, text, shape)?;
+        text.push_str(" ")?;
+        put_plain(alloc, text, shape)
     }
 }
 
 #[test]
-fn finds_flaws(rt: HostRuntime) -> Result<(), Fail> {
-    check(&rt, rt.alloc(), &TellsFirstFlaw, FLAWS)
-}
-
-// The rows of some nodes.
-fn listed(alloc: Global, nodes: Option<&Nodes>) -> Result<String, AllocError> {
-    match nodes {
-        None => String::from_str(alloc, "none"),
-        Some(nodes) => format!(in alloc; "{:?}", nodes.as_slice()),
-    }
+fn passes_choices(rt: HostRuntime) -> Result<(), Fail> {
+    check(&rt, rt.alloc(), &Named(Shaped(Passing)), PASSED)
 }
 
 // A module's text; the nodes that stand in it, how many nodes are below it, and how many stand one in another.
@@ -92,51 +123,6 @@ module m { choice c { leaf a; case d { container e { leaf f; } } } leaf g; } => 
 module m { choice c { config false; leaf a; } leaf b; } => [3, 4] Some((Some(1), Some(1)))
 "#;
 
-// A module's text; the members of the module that are neither state nor in a choice that is, and those that stand in no choice
-// (RFC 7950 sections 7.8.2, 7.9, 7.13 and 7.21.1).
-const PASSED: &str = r#"
-module m { leaf a; choice c { leaf b; } leaf d { config false; } } => [1, 3] [1, 4]
-module m { choice c { config false; leaf a; case d { uses g; } } grouping g { leaf b; } leaf e; } => [8] [8]
-module m { uses g; grouping g { leaf a; choice c { leaf b; } } } => [3, 5] [3]
-module m { choice c { case d { uses nowhere; } } leaf a; } => none [4]
-module m { leaf a; uses g; grouping g { leaf b; container k { leaf c; } } } => [1, 4, 5] [1, 4, 5]
-module m { leaf a { config false; } leaf b; } => [3] [1, 3]
-"#;
-
-fn passed_text(alloc: Global, shape: &Shape<'_>) -> Result<String, NoMemory> {
-    let kept = kept_text(alloc, shape)?;
-    let plain = plain_text(alloc, shape)?;
-    Ok(format!(in alloc; "{kept} {plain}")?)
-}
-
-// The members of a module that neither are state nor in a choice that is.
-fn kept_text(alloc: Global, shape: &Shape<'_>) -> Result<String, NoMemory> {
-    let kept = shape.kept_members(alloc, 0)?;
-    Ok(listed(alloc, kept.as_ref())?)
-}
-
-// The members of a module that stand in no choice.
-fn plain_text(alloc: Global, shape: &Shape<'_>) -> Result<String, NoMemory> {
-    let plain = shape.plain_members(alloc, 0)?;
-    Ok(listed(alloc, plain.as_ref())?)
-}
-
-struct Passing;
-
-impl Tells for Passing {
-    fn tell(&self, alloc: Global, text: &str) -> Result<String, Fail> {
-        let rows = rows_in(alloc, &[text])?;
-        let groupings = groupings_in(alloc, &rows)?;
-        let shape = shape_of(alloc, &rows, &groupings)?;
-        Ok(passed_text(alloc, &shape)?)
-    }
-}
-
-#[test]
-fn passes_choices(rt: HostRuntime) -> Result<(), Fail> {
-    check(&rt, rt.alloc(), &Passing, PASSED)
-}
-
 // How many nodes stand in a module, and how many of them one in another.
 type Size = (Option<usize>, Option<usize>);
 
@@ -147,27 +133,30 @@ fn size_of(shape: &Shape<'_>) -> Option<Size> {
     None
 }
 
-// The nodes that stand in a module, and its size.
-fn measured_text(alloc: Global, shape: &Shape<'_>) -> Result<String, NoMemory> {
+// The nodes that stand in a module.
+fn put_members(alloc: Global, text: &mut String, shape: &Shape<'_>) -> Result<(), NoMemory> {
     let members = shape.members(alloc, 0)?;
-    let nodes = listed(alloc, members.as_ref())?;
-    Ok(format!(in alloc; "{nodes} {:?}", size_of(shape))?)
+    Ok(put_nodes(text, members.as_ref())?)
 }
 
 struct Measuring;
 
-impl Tells for Measuring {
-    fn tell(&self, alloc: Global, text: &str) -> Result<String, Fail> {
-        let rows = rows_in(alloc, &[text])?;
-        let groupings = groupings_in(alloc, &rows)?;
-        let shape = shape_of(alloc, &rows, &groupings)?;
-        Ok(measured_text(alloc, &shape)?)
+impl TellsOfShape for Measuring {
+    fn tell_shape(
+        &self,
+        alloc: Global,
+        text: &mut String,
+        _names: &RowNames<'_>,
+        shape: &Shape<'_>,
+    ) -> Result<(), NoMemory> {
+        put_members(alloc, text, shape)?;
+        Ok(write!(text, " {:?}", size_of(shape))?)
     }
 }
 
 #[test]
 fn measures(rt: HostRuntime) -> Result<(), Fail> {
-    check(&rt, rt.alloc(), &Measuring, SIZES)
+    check(&rt, rt.alloc(), &Named(Shaped(Measuring)), SIZES)
 }
 
 // A row; where it leads, the nodes that it brings, whether it is configuration, and whether it is in state.
@@ -181,46 +170,64 @@ const LEADS: &str = r#"
 7 => [] none false false
 "#;
 
+// What is told of a row.
 #[derive(Drop)]
-struct Leading<'a> {
-    shape: &'a Shape<'a>,
+struct LeadsAt(usize);
+
+impl TellsOfShape for LeadsAt {
+    fn tell_shape(
+        &self,
+        alloc: Global,
+        text: &mut String,
+        _names: &RowNames<'_>,
+        shape: &Shape<'_>,
+    ) -> Result<(), NoMemory> {
+        let at = self.0;
+        write!(text, "{:?} ", shape.leads_to(at))?;
+        put_nodes(text, shape.brought(at))?;
+        Ok(put_marks(text, shape, at)?)
+    }
 }
 
-impl Tells for Leading<'_> {
-    fn tell(&self, alloc: Global, text: &str) -> Result<String, Fail> {
-        let at = text.parse::<usize>()?;
-        let shape = self.shape;
-        let brought = listed(alloc, shape.brought(at))?;
-        let (is_configuration, is_in_state) = (shape.is_configuration(at), shape.is_in_state(at));
-        Ok(format!(in alloc;
-            "{:?} {brought} {is_configuration} {is_in_state}",
-            shape.leads_to(at)
-        )?)
+fn put_marks(text: &mut String, shape: &Shape<'_>, at: usize) -> Result<(), AllocError> {
+    let (is_configuration, is_in_state) = (shape.is_configuration(at), shape.is_in_state(at));
+    write!(text, " {is_configuration} {is_in_state}")
+}
+
+struct Leading;
+
+impl Tells for Leading {
+    fn tell(&self, alloc: Global, text: &mut String, asked: &str) -> Result<(), Fail> {
+        Named(Shaped(LeadsAt(number_in(asked)))).tell(alloc, text, LED)
+    }
+}
+
+const LED: &str =
+    "module m { grouping g { leaf a; } container c { config false; uses g; } leaf b; }";
+
+#[test]
+fn leads(rt: HostRuntime) -> Result<(), Fail> {
+    check(&rt, rt.alloc(), &Leading, LEADS)
+}
+
+// The size of a module.
+struct Sizing;
+
+impl TellsOfShape for Sizing {
+    fn tell_shape(
+        &self,
+        alloc: Global,
+        text: &mut String,
+        _names: &RowNames<'_>,
+        shape: &Shape<'_>,
+    ) -> Result<(), NoMemory> {
+        Ok(write!(text, "{:?}", size_of(shape))?)
     }
 }
 
 #[test]
-fn leads(rt: HostRuntime) -> Result<(), Fail> {
-    let alloc = rt.alloc();
-    let text = "module m { grouping g { leaf a; } container c { config false; uses g; } leaf b; }";
-    let rows = rows_in(alloc, &[text])?;
-    let groupings = groupings_in(alloc, &rows)?;
-    let shape = shape_of(alloc, &rows, &groupings)?;
-    check(&rt, alloc, &Leading { shape: &shape }, LEADS)
-}
-
-// The size of a module.
-fn wide_size(alloc: Global) -> Result<Option<Size>, Fail> {
-    let text = wide_module(alloc, 400)?;
-    let rows = rows_in(alloc, &[text.as_str()])?;
-    let groupings = groupings_in(alloc, &rows)?;
-    let shape = shape_of(alloc, &rows, &groupings)?;
-    Ok(size_of(&shape))
-}
-
-#[test]
 fn shapes_wide_groupings(rt: HostRuntime) -> Result<(), Fail> {
-    let size = wide_size(rt.alloc())?;
-    assert_eq!(rt; size, Some((Some(20001), Some(2))));
-    Ok(())
+    check_parted(&rt, rt.alloc(), &Wide(Named(Shaped(Sizing))), WIDE_SIZE)
 }
+
+const WIDE_SIZE: &str = "400 => Some((Some(20001), Some(2)))";

@@ -6,14 +6,42 @@ use std::test::Fail;
 
 /// What is asked in the rows of a table.
 pub trait Tells {
-    /// What is told of a text.
-    fn tell(&self, alloc: Global, text: &str) -> Result<String, Fail>;
+    /// Puts what is told of what is asked.
+    fn tell(&self, alloc: Global, text: &mut String, asked: &str) -> Result<(), Fail>;
+}
+
+/// The two parts of a row; all of it and nothing where nothing parts it.
+pub fn parted<'a>(row: &'a str, by: &str) -> (&'a str, &'a str) {
+    match row.split_once(by) {
+        Some(pair) => pair,
+        None => (row, ""),
+    }
+}
+
+/// A number as it is spelt, or 0.
+pub fn number_in(text: &str) -> usize {
+    match text.parse::<usize>() {
+        Ok(number) => number,
+        Err(_) => 0,
+    }
+}
+
+// The row with what is told now.
+fn told_row<T: Tells>(alloc: Global, tells: &T, row: &str) -> Result<String, Fail> {
+    let mut text = String::new(alloc);
+    put_told(alloc, &mut text, tells, row)?;
+    Ok(text)
+}
+
+fn put_told<T: Tells>(alloc: Global, text: &mut String, tells: &T, row: &str) -> Result<(), Fail> {
+    let (asked, _) = parted(row, " => ");
+    write!(text, "{asked} => ")?;
+    tells.tell(alloc, text, asked)
 }
 
 fn check_row<T: Tells>(rt: &impl Abort, alloc: Global, tells: &T, row: &str) -> Result<(), Fail> {
-    let (text, expected) = row.split_once(" => ").ok_or("no row")?;
-    let found = tells.tell(alloc, text)?;
-    assert_eq!(rt; found.as_str(), expected, "{text}");
+    let told = told_row(alloc, tells, row)?;
+    assert_eq!(rt; told.as_str(), row);
     Ok(())
 }
 
@@ -36,4 +64,16 @@ pub fn check_parted<T: Tells>(
         check_row(rt, alloc, tells, row)?;
     }
     Ok(())
+}
+
+/// The same of rows in lines, and then of rows that a line can't hold.
+pub fn check_both<T: Tells>(
+    rt: &impl Abort,
+    alloc: Global,
+    tells: &T,
+    rows: &str,
+    parted: &str,
+) -> Result<(), Fail> {
+    check(rt, alloc, tells, rows)?;
+    check_parted(rt, alloc, tells, parted)
 }

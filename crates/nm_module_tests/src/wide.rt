@@ -1,30 +1,49 @@
+//! Modules with many nodes.
+
+use crate::tables::{Tells, number_in};
 use std::alloc::{AllocError, Global};
+use std::test::Fail;
 
 // Puts so many leafs.
-fn put_leafs(alloc: Global, text: &mut String, count: usize) -> Result<(), AllocError> {
+pub fn put_leafs(text: &mut String, count: usize) -> Result<(), AllocError> {
     for number in 0..count {
-        let leaf = format!(in alloc; " leaf l{number};")?;
-        text.push_str(leaf.as_str())?;
+        write!(text, " leaf l{number};")?;
     }
     Ok(())
 }
 
 // Puts so many containers that use a grouping, each with a leaf of its own before and after it.
-fn put_containers(alloc: Global, text: &mut String, count: usize) -> Result<(), AllocError> {
+fn put_containers(text: &mut String, count: usize) -> Result<(), AllocError> {
     for number in 0..count {
-        let container = format!(in alloc;
+        write!(
+            text,
             " container c{number} {{ leaf a{number}; uses g; leaf b{number}; }}"
         )?;
-        text.push_str(container.as_str())?;
     }
     Ok(())
 }
 
+fn put_wide(text: &mut String, count: usize) -> Result<(), AllocError> {
+    text.push_str("module m { grouping g {")?;
+    put_leafs(text, count)?;
+    text.push_str(" }")?;
+    put_containers(text, count)?;
+    text.push_str(" }")
+}
+
 // A module with a grouping of many leafs and many containers that use it.
-pub fn wide_module(alloc: Global, count: usize) -> Result<String, AllocError> {
-    let mut leafs = String::new(alloc);
-    put_leafs(alloc, &mut leafs, count)?;
-    let mut containers = String::new(alloc);
-    put_containers(alloc, &mut containers, count)?;
-    format!(in alloc; "module m {{ grouping g {{{leafs} }}{containers} }}")
+fn wide_module(alloc: Global, count: usize) -> Result<String, AllocError> {
+    let mut text = String::new(alloc);
+    put_wide(&mut text, count)?;
+    Ok(text)
+}
+
+/// What is told of such a module, by how many there are.
+pub struct Wide<T>(pub T);
+
+impl<T: Tells> Tells for Wide<T> {
+    fn tell(&self, alloc: Global, text: &mut String, asked: &str) -> Result<(), Fail> {
+        let module = wide_module(alloc, number_in(asked))?;
+        self.0.tell(alloc, text, module.as_str())
+    }
 }

@@ -1,4 +1,4 @@
-use crate::tables::{Tells, check, check_parted};
+use crate::tables::{Tells, check, check_both, check_parted, number_in, parted};
 use nm_yang::{Statement, YangFault, YangKind, read_module, write_module};
 use std::alloc::{AllocError, Global};
 use std::test::Fail;
@@ -19,43 +19,48 @@ fn kind_name(kind: YangKind) -> &'static str {
     }
 }
 
-fn head(alloc: Global, statement: &Statement) -> Result<String, AllocError> {
-    let (place, keyword) = (statement.place, &statement.keyword);
+// A statement's place and keyword behind what opens it, and `=` and the argument between `[` and `]`.
+fn put_head(text: &mut String, open: &str, statement: &Statement) -> Result<(), AllocError> {
+    write!(text, "{open}{} {}", statement.place, statement.keyword)?;
     match &statement.argument {
-        None => format!(in alloc; "{place} {keyword}"),
-        Some(argument) => format!(in alloc; "{place} {keyword}=[{argument}]"),
+        None => Ok(()),
+        Some(argument) => write!(text, "=[{argument}]"),
     }
 }
 
-// A statement as `place keyword`, `=` and the argument between `[` and `]`, and what is within it in parentheses.
-fn show(alloc: Global, out: &mut String, statement: &Statement) -> Result<(), AllocError> {
-    let head = head(alloc, statement)?;
-    out.push_str(head.as_str())?;
+// A statement between what opens and closes it, and what is within it in parentheses.
+fn put_statement(
+    text: &mut String,
+    open: &str,
+    statement: &Statement,
+    close: &str,
+) -> Result<(), AllocError> {
+    put_head(text, open, statement)?;
     for child in &statement.below {
-        out.push_str("(")?;
-        show(alloc, out, child)?;
-        out.push_str(")")?;
+        put_statement(text, "(", child, ")")?;
     }
-    Ok(())
+    text.push_str(close)
 }
 
-fn outcome(alloc: Global, text: &[u8]) -> Result<String, AllocError> {
-    match read_module(alloc, text) {
-        Ok(statement) => {
-            let mut out = String::new(alloc);
-            show(alloc, &mut out, &statement)?;
-            Ok(out)
-        }
-        Err(YangFault::Bad { place, kind }) => format!(in alloc; "{} {}", kind_name(kind), place),
-        Err(YangFault::NoMemory) => String::from_str(alloc, "no memory"),
+fn put_fault(text: &mut String, fault: YangFault) -> Result<(), AllocError> {
+    match fault {
+        YangFault::Bad { place, kind } => write!(text, "{} {place}", kind_name(kind)),
+        YangFault::NoMemory => text.push_str("no memory"),
+    }
+}
+
+fn put_outcome(alloc: Global, text: &mut String, bytes: &[u8]) -> Result<(), AllocError> {
+    match read_module(alloc, bytes) {
+        Ok(statement) => put_statement(text, "", &statement, ""),
+        Err(fault) => put_fault(text, fault),
     }
 }
 
 struct TellsOutcome;
 
 impl Tells for TellsOutcome {
-    fn tell(&self, alloc: Global, text: &str) -> Result<String, Fail> {
-        Ok(outcome(alloc, text.as_bytes())?)
+    fn tell(&self, alloc: Global, text: &mut String, asked: &str) -> Result<(), Fail> {
+        Ok(put_outcome(alloc, text, asked.as_bytes())?)
     }
 }
 
@@ -280,8 +285,7 @@ const WRITTEN: &str = "module m; => module \"m\";\
 
 #[test]
 fn reads_blanks(rt: HostRuntime) -> Result<(), Fail> {
-    check(&rt, rt.alloc(), &TellsOutcome, BLANKS)?;
-    check_parted(&rt, rt.alloc(), &TellsOutcome, BLANKS_IN_LINES)
+    check_both(&rt, rt.alloc(), &TellsOutcome, BLANKS, BLANKS_IN_LINES)
 }
 
 #[test]
@@ -291,20 +295,17 @@ fn reads_keywords(rt: HostRuntime) -> Result<(), Fail> {
 
 #[test]
 fn reads_words(rt: HostRuntime) -> Result<(), Fail> {
-    check(&rt, rt.alloc(), &TellsOutcome, WORDS)?;
-    check_parted(&rt, rt.alloc(), &TellsOutcome, WORDS_IN_LINES)
+    check_both(&rt, rt.alloc(), &TellsOutcome, WORDS, WORDS_IN_LINES)
 }
 
 #[test]
 fn reads_quotes(rt: HostRuntime) -> Result<(), Fail> {
-    check(&rt, rt.alloc(), &TellsOutcome, QUOTES)?;
-    check_parted(&rt, rt.alloc(), &TellsOutcome, QUOTES_IN_LINES)
+    check_both(&rt, rt.alloc(), &TellsOutcome, QUOTES, QUOTES_IN_LINES)
 }
 
 #[test]
 fn reads_escapes(rt: HostRuntime) -> Result<(), Fail> {
-    check(&rt, rt.alloc(), &TellsOutcome, ESCAPES)?;
-    check_parted(&rt, rt.alloc(), &TellsOutcome, ESCAPES_IN_LINES)
+    check_both(&rt, rt.alloc(), &TellsOutcome, ESCAPES, ESCAPES_IN_LINES)
 }
 
 #[test]
@@ -317,25 +318,46 @@ fn reads_statements(rt: HostRuntime) -> Result<(), Fail> {
     check_parted(&rt, rt.alloc(), &TellsOutcome, STATEMENTS)
 }
 
+fn is_outcome(alloc: Global, bytes: &[u8], expected: &str) -> Result<bool, AllocError> {
+    let mut found = String::new(alloc);
+    put_outcome(alloc, &mut found, bytes)?;
+    Ok(found.as_str() == expected)
+}
+
+// What is expected of the first bytes with another outcome.
+fn first_wrong(alloc: Global) -> Result<&'static str, AllocError> {
+    for (bytes, expected) in &BYTES {
+        if !is_outcome(alloc, bytes, expected)? {
+            return Ok(*expected);
+        }
+    }
+    Ok("none")
+}
+
 #[test]
 fn reads_bytes(rt: HostRuntime) -> Result<(), Fail> {
-    for (bytes, expected) in &BYTES {
-        let found = outcome(rt.alloc(), bytes)?;
-        assert_eq!(rt; found.as_str(), *expected);
-    }
+    assert_eq!(rt; first_wrong(rt.alloc())?, "none");
     Ok(())
+}
+
+fn put_text(text: &mut String, bytes: &[u8]) -> Result<(), Fail> {
+    match str::from_utf8(bytes) {
+        Ok(written) => Ok(text.push_str(written)?),
+        Err(_) => Err(Fail::new("no text")),
+    }
+}
+
+fn put_written(alloc: Global, text: &mut String, statement: &Statement) -> Result<(), Fail> {
+    let bytes = write_module(alloc, statement)?;
+    put_text(text, &bytes)
 }
 
 struct Writing;
 
 impl Tells for Writing {
-    fn tell(&self, alloc: Global, text: &str) -> Result<String, Fail> {
-        let statement = read_module(alloc, text.as_bytes())?;
-        let written = write_module(alloc, &statement)?;
-        match str::from_utf8(written.as_slice()) {
-            Ok(text) => Ok(String::from_str(alloc, text)?),
-            Err(_) => Err(Fail::new("no text")),
-        }
+    fn tell(&self, alloc: Global, text: &mut String, asked: &str) -> Result<(), Fail> {
+        let statement = read_module(alloc, asked.as_bytes())?;
+        put_written(alloc, text, &statement)
     }
 }
 
@@ -344,12 +366,18 @@ fn writes(rt: HostRuntime) -> Result<(), Fail> {
     check_parted(&rt, rt.alloc(), &Writing, WRITTEN)
 }
 
+// So many times the same.
+fn fill(text: &mut String, filling: &str, count: usize) -> Result<(), AllocError> {
+    for _ in 0..count {
+        text.push_str(filling)?;
+    }
+    Ok(())
+}
+
 // `module m {` and so many times `x:a {`.
 fn nested(alloc: Global, count: usize) -> Result<String, AllocError> {
     let mut text = String::from_str(alloc, "module m {")?;
-    for _ in 0..count {
-        text.push_str("x:a {")?;
-    }
+    fill(&mut text, "x:a {", count)?;
     Ok(text)
 }
 
@@ -357,9 +385,9 @@ fn nested(alloc: Global, count: usize) -> Result<String, AllocError> {
 struct Nesting;
 
 impl Tells for Nesting {
-    fn tell(&self, alloc: Global, text: &str) -> Result<String, Fail> {
-        let nested = nested(alloc, text.parse::<usize>()?)?;
-        Ok(outcome(alloc, nested.as_bytes())?)
+    fn tell(&self, alloc: Global, text: &mut String, asked: &str) -> Result<(), Fail> {
+        let nested = nested(alloc, number_in(asked))?;
+        Ok(put_outcome(alloc, text, nested.as_bytes())?)
     }
 }
 
@@ -373,32 +401,34 @@ fn limits_depth(rt: HostRuntime) -> Result<(), Fail> {
     check(&rt, rt.alloc(), &Nesting, DEPTHS)
 }
 
-// A text filled up to a length, and then more.
-fn padded(
-    alloc: Global,
-    text: &str,
+// Puts a start, fills it up to a length, and puts more.
+fn put_filled(
+    text: &mut String,
+    start: &str,
     filling: &str,
     length: usize,
     more: &str,
-) -> Result<String, AllocError> {
-    let mut out = String::from_str(alloc, text)?;
-    for _ in text.len()..length {
-        out.push_str(filling)?;
-    }
-    out.push_str(more)?;
-    Ok(out)
+) -> Result<(), AllocError> {
+    text.push_str(start)?;
+    fill(text, filling, length.saturating_sub(start.len()))?;
+    text.push_str(more)
 }
 
-// In each row a length, what fills, and a text and more, which `...` parts.
+// In each row a length, what fills, and a start and more, which `...` parts.
+fn put_row(text: &mut String, row: &str) -> Result<(), AllocError> {
+    let (length, rest) = parted(row, "|");
+    let (filling, rest) = parted(rest, "|");
+    let (start, more) = parted(rest, "...");
+    put_filled(text, start, filling, number_in(length), more)
+}
+
 struct Filling;
 
 impl Tells for Filling {
-    fn tell(&self, alloc: Global, text: &str) -> Result<String, Fail> {
-        let (length, rest) = text.split_once("|").ok_or("no length")?;
-        let (filling, rest) = rest.split_once("|").ok_or("no filling")?;
-        let (start, more) = rest.split_once("...").ok_or("no more")?;
-        let whole = padded(alloc, start, filling, length.parse::<usize>()?, more)?;
-        Ok(outcome(alloc, whole.as_bytes())?)
+    fn tell(&self, alloc: Global, text: &mut String, asked: &str) -> Result<(), Fail> {
+        let mut whole = String::new(alloc);
+        put_row(&mut whole, asked)?;
+        Ok(put_outcome(alloc, text, whole.as_bytes())?)
     }
 }
 
@@ -433,14 +463,10 @@ fn limits_word(rt: HostRuntime) -> Result<(), Fail> {
 }
 
 // Keywords that come again, that take the place of one another (`list` and `length` do), and that are too long to be remembered.
+const AGAIN: &str =
+    "module m {leaf a;leaf a;list b;length b;list b;length b;leaf a;more-than-the-thirty-two-bytes-of-one;more-than-the-thirty-two-bytes-of-one;} => 0 module=[m](10 leaf=[a])(17 leaf=[a])(24 list=[b])(31 length=[b])(40 list=[b])(47 length=[b])(56 leaf=[a])(63 more-than-the-thirty-two-bytes-of-one)(101 more-than-the-thirty-two-bytes-of-one)";
+
 #[test]
 fn keywords_come_again(rt: HostRuntime) -> Result<(), Fail> {
-    let text =
-        "module m {leaf a;leaf a;list b;length b;list b;length b;leaf a;more-than-the-thirty-two-bytes-of-one;more-than-the-thirty-two-bytes-of-one;}";
-    let found = outcome(rt.alloc(), text.as_bytes())?;
-    assert_eq!(rt;
-        found.as_str(),
-        "0 module=[m](10 leaf=[a])(17 leaf=[a])(24 list=[b])(31 length=[b])(40 list=[b])(47 length=[b])(56 leaf=[a])(63 more-than-the-thirty-two-bytes-of-one)(101 more-than-the-thirty-two-bytes-of-one)"
-    );
-    Ok(())
+    check_parted(&rt, rt.alloc(), &TellsOutcome, AGAIN)
 }

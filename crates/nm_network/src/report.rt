@@ -143,7 +143,6 @@ fn is_committed(entries: &[Entry], change: ChangeNo) -> bool
 }
 
 // What is reported of a change set comes to the rest.
-#[tactic(auto, unfolding(crate::specs::Report::differing, crate::specs::Report::unsettling))]
 fn push_change<C: Content>(
     alloc: Global,
     report: &mut Report,

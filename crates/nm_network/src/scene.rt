@@ -1,7 +1,7 @@
 //! What stands at a moment, and what each elementary event does to it. It is apart from the trail, so that the trail's room
 //! outlasts an event.
 
-ghost use Rattle.std.specs.Prelude.{◌≡◌, ◌≤◌, ◌<◌, ◌+◌, ◌^◌, ℕ, length, map, replicate, [], None, false, IfOk};
+ghost use Rattle.std.specs.Prelude.{◌≡◌, ◌≤◌, ◌<◌, ◌+◌, ◌^◌, ◌++◌, ◌∷◌, ℕ, length, map, replicate, [], None, false, IfOk, OnOk};
 ghost use Rattle.std.specs.List.{All};
 ghost use Rattle.nm_manager.specs.Requests.{IsWellFormed};
 ghost use Rattle.nm_history.specs.History.{recorded};
@@ -412,7 +412,18 @@ fn fresh_devices<C: Content>(
 {
     let mut devices = Vec::new(alloc);
     while let Some(config) = running.take_first() {
-        devices.push(Recorded::new(alloc, config))?;
+        push_fresh(alloc, &mut devices, config)?;
     }
     Ok(devices)
+}
+
+fn push_fresh<C: Content>(
+    alloc: Global,
+    devices: &mut Vec<Recorded<C>>,
+    config: C::Config,
+) -> Result<(), NoMemory>
+    ensures { OnOk result (devices.new.items ≡ devices.old.items ++ (recorded config ∷ [])) }
+{
+    devices.push(Recorded::new(alloc, config))?;
+    Ok(())
 }

@@ -41,7 +41,17 @@ fn acts(locks: &mut GlobalLocks, session: SessionId, words: &str, want: &str) ->
         return Some(want == "ok");
     }
     let (word, store) = words.split_once(" ")?;
-    let store = store_of(store)?;
+    does(locks, session, word, store_of(store)?, want)
+}
+
+// What it does with a datastore's lock.
+fn does(
+    locks: &mut GlobalLocks,
+    session: SessionId,
+    word: &str,
+    store: Store,
+    want: &str,
+) -> Option<bool> {
     match word {
         "takes" => Some(is_taken(locks.take(store, session), want)),
         "gives" => Some(is_answer(locks.give_back(store, session), want)),

@@ -1,5 +1,5 @@
-use crate::script::{is_answer, number_after, parts_of, session_of};
-use nm_base::SessionId;
+use crate::script::{is_answer, number_after, parts_of, passed, session_of};
+use nm_base::{NoMemory, SessionId};
 use nm_partial::*;
 use nm_proto::{FlatConfig, FlatContent, FlatNode, NumberMap};
 use std::alloc::Global;
@@ -14,13 +14,17 @@ fn nodes_of(alloc: Global, keys: &str) -> Result<Vec<FlatNode>, Fail> {
     Ok(nodes)
 }
 
-// A configuration whose cells of these keys all are 1.
-fn config_of(alloc: Global, keys: &str) -> Result<FlatConfig, Fail> {
+// The cells of some keys, which all are 1.
+fn cells_of(alloc: Global, keys: &str) -> Result<NumberMap<u64>, Fail> {
     let mut cells = NumberMap::new(alloc);
     for key in keys.split(' ') {
         cells.insert(key.parse::<u32>()?, 1)?;
     }
-    Ok(FlatConfig::new(alloc, cells))
+    Ok(cells)
+}
+
+fn config_of(alloc: Global, keys: &str) -> Result<FlatConfig, Fail> {
+    Ok(FlatConfig::new(alloc, cells_of(alloc, keys)?))
 }
 
 // The first line of a script that isn't so, and an empty text where all are.
@@ -35,6 +39,21 @@ fn first_wrong<'a>(
         }
     }
     Ok("")
+}
+
+// Goes through a script. The failure is the first line that isn't so.
+fn goes_on(
+    alloc: Global,
+    partials: &mut PartialLocks<FlatContent>,
+    script: &str,
+) -> Result<(), Fail> {
+    passed(first_wrong(alloc, partials, script)?)
+}
+
+// The same without locks at first.
+fn passes(alloc: Global, script: &str) -> Result<(), Fail> {
+    let mut partials = PartialLocks::new(alloc);
+    goes_on(alloc, &mut partials, script)
 }
 
 // Whether a line is so. An empty one is.
@@ -53,6 +72,30 @@ fn is_so(
     }
 }
 
+// Whether a session that takes a partial lock of some keys is answered so.
+fn locks(
+    alloc: Global,
+    partials: &mut PartialLocks<FlatContent>,
+    session: SessionId,
+    keys: &str,
+    want: &str,
+) -> Result<bool, Fail> {
+    let nodes = nodes_of(alloc, keys)?;
+    let granted = partials.grant(&FlatContent::new(alloc), session, nodes);
+    Ok(is_granted(&granted, want))
+}
+
+// The same of one that gives the lock with an id back.
+fn releases(
+    partials: &mut PartialLocks<FlatContent>,
+    session: SessionId,
+    id: &str,
+    want: &str,
+) -> Result<bool, Fail> {
+    let released = partials.release(session, id.parse::<u32>()?);
+    Ok(is_answer(released, want))
+}
+
 // What a session does.
 fn acts(
     alloc: Global,
@@ -61,21 +104,15 @@ fn acts(
     words: &str,
     want: &str,
 ) -> Result<bool, Fail> {
-    if words == "ends" {
-        partials.drop_session(session);
-        return Ok(want == "ok");
-    }
-    let (word, keys) = words.split_once(" ").ok_or("no word")?;
+    let (word, rest) = words.split_once(" ").unwrap_or((words, ""));
     match word {
-        "locks" => {
-            let granted = partials.grant(&FlatContent::new(alloc), session, nodes_of(alloc, keys)?);
-            Ok(is_granted(&granted, want))
+        "ends" => {
+            partials.drop_session(session);
+            Ok(want == "ok")
         }
-        "releases" => {
-            let released = partials.release(session, keys.parse::<u32>()?);
-            Ok(is_answer(released, want))
-        }
-        "changes" => is_guarded(alloc, partials, session, keys, want),
+        "locks" => locks(alloc, partials, session, rest, want),
+        "releases" => releases(partials, session, rest, want),
+        "changes" => changes(alloc, partials, session, rest, want),
         _ => Ok(false),
     }
 }
@@ -101,14 +138,24 @@ fn is_guarded(
     alloc: Global,
     partials: &PartialLocks<FlatContent>,
     session: SessionId,
+    old: &FlatConfig,
+    new: &str,
+) -> Result<bool, Fail> {
+    let new = config_of(alloc, new)?;
+    Ok(partials.guards(&FlatContent::new(alloc), session, old, &new))
+}
+
+// Whether a session that changes `7 8 to 8` is answered so.
+fn changes(
+    alloc: Global,
+    partials: &PartialLocks<FlatContent>,
+    session: SessionId,
     keys: &str,
     want: &str,
 ) -> Result<bool, Fail> {
-    let (old, new) = keys.split_once(" to ").ok_or("no change")?;
+    let (old, new) = keys.split_once(" to ").unwrap_or((keys, ""));
     let old = config_of(alloc, old)?;
-    let new = config_of(alloc, new)?;
-    let guards = partials.guards(&FlatContent::new(alloc), session, &old, &new);
-    Ok(is_answer(guards, want))
+    Ok(is_answer(is_guarded(alloc, partials, session, &old, new)?, want))
 }
 
 // How many partial locks there are and whose the least is, and their end.
@@ -125,12 +172,7 @@ fn is_seen(
             partials.clear();
             Ok(want == "ok")
         }
-        _ => keep(
-            alloc,
-            partials,
-            words.strip_prefix("keep ").ok_or("no word")?,
-            want,
-        ),
+        _ => keep(alloc, partials, words, want),
     }
 }
 
@@ -141,13 +183,14 @@ fn is_owner(owner: Option<SessionId>, want: &str) -> bool {
     }
 }
 
-// Only these keys are left.
+// Only the keys behind `keep` are left.
 fn keep(
     alloc: Global,
     partials: &mut PartialLocks<FlatContent>,
-    keys: &str,
+    words: &str,
     want: &str,
 ) -> Result<bool, Fail> {
+    let keys = words.strip_prefix("keep ").ok_or("no word")?;
     let running = config_of(alloc, keys)?;
     partials.forget_absent(&FlatContent::new(alloc), &running);
     Ok(want == "ok")
@@ -175,22 +218,42 @@ all least => nobody
 
 #[test]
 fn overlaps_name_the_least_owner(rt: HostRuntime) -> Result<(), Fail> {
-    let mut partials = PartialLocks::new(rt.alloc());
-    assert_eq!(rt; first_wrong(rt.alloc(), &mut partials, OVERLAPS)?, "");
-    Ok(())
+    passes(rt.alloc(), OVERLAPS)
+}
+
+// Whether session 1 is granted a partial lock of a key with this id.
+fn grants(
+    alloc: Global,
+    partials: &mut PartialLocks<FlatContent>,
+    alice: SessionId,
+    id: u32,
+) -> Result<bool, NoMemory> {
+    let mut nodes = Vec::new(alloc);
+    nodes.push(FlatNode(id))?;
+    Ok(partials.grant(&FlatContent::new(alloc), alice, nodes) == Ok(id))
 }
 
 // Session 1 takes a partial lock for each of 64 keys.
-fn fill(alloc: Global, partials: &mut PartialLocks<FlatContent>) -> Result<bool, Fail> {
-    let alice = SessionId::new(1).ok_or("1")?;
+fn fill(
+    alloc: Global,
+    partials: &mut PartialLocks<FlatContent>,
+    alice: SessionId,
+) -> Result<bool, Fail> {
     for id in 1..65 {
-        let mut nodes = Vec::new(alloc);
-        nodes.push(FlatNode(id))?;
-        if partials.grant(&FlatContent::new(alloc), alice, nodes) != Ok(id) {
+        if !grants(alloc, partials, alice, id)? {
             return Ok(false);
         }
     }
     Ok(true)
+}
+
+// Goes through a script after that.
+fn passes_filled(alloc: Global, alice: SessionId, script: &str) -> Result<(), Fail> {
+    let mut partials = PartialLocks::new(alloc);
+    if !fill(alloc, &mut partials, alice)? {
+        return Err(Fail::new("not filled"));
+    }
+    goes_on(alloc, &mut partials, script)
 }
 
 // 64 partial locks may stand at once. A release makes room, and not for the released id again.
@@ -206,10 +269,8 @@ all count => 63
 
 #[test]
 fn ids_are_never_used_again(rt: HostRuntime) -> Result<(), Fail> {
-    let mut partials = PartialLocks::new(rt.alloc());
-    assert!(rt; fill(rt.alloc(), &mut partials)?);
-    assert_eq!(rt; first_wrong(rt.alloc(), &mut partials, FILLED)?, "");
-    Ok(())
+    let alice = SessionId::new(1).ok_or("1")?;
+    passes_filled(rt.alloc(), alice, FILLED)
 }
 
 // A change of a cell is kept from all but who locked its key, and a key that is gone leaves its lock.
@@ -227,7 +288,5 @@ all least => 1
 
 #[test]
 fn locked_cells_are_guarded(rt: HostRuntime) -> Result<(), Fail> {
-    let mut partials = PartialLocks::new(rt.alloc());
-    assert_eq!(rt; first_wrong(rt.alloc(), &mut partials, GUARDED)?, "");
-    Ok(())
+    passes(rt.alloc(), GUARDED)
 }

@@ -1,4 +1,4 @@
-use crate::script::session_of;
+use crate::script::{passed, session_of};
 use nm_base::{Label, NoMemory, SessionId, Tag};
 use nm_pending::*;
 use nm_proto::{FlatConfig, FlatContent, NumberMap};
@@ -39,17 +39,48 @@ fn wanted_in(line: &str) -> Option<(&str, &str)> {
     wanted.split_once(" ")
 }
 
-// What a commit and a cancel are answered where session 1 has begun.
-fn answers(alloc: Global, line: &str) -> Result<(&'static str, &'static str), Fail> {
+// Whether a commit and a cancel are answered so.
+fn are_answered(
+    pending: &Option<Pending<FlatContent>>,
+    session: SessionId,
+    named: &Option<Label>,
+    line: &str,
+) -> bool {
+    wanted_in(line)
+        == Some((
+            word_of(commit_refusal(pending, session, named)),
+            word_of(cancel_refusal(pending, session, named)),
+        ))
+}
+
+// Whether they are answered as a row says, where session 1 has begun under this token.
+fn is_row(
+    alloc: Global,
+    token: &str,
+    session: SessionId,
+    named: &str,
+    line: &str,
+) -> Result<bool, Fail> {
     let alice = SessionId::new(1).ok_or("1")?;
-    let (token, session, named) = asked_in(line).ok_or("no row")?;
-    let session = session_of(session).ok_or("no session")?;
     let named = label_of(alloc, named)?;
     let pending = Some(begin(alloc, alice, token)?);
-    Ok((
-        word_of(commit_refusal(&pending, session, &named)),
-        word_of(cancel_refusal(&pending, session, &named)),
-    ))
+    Ok(are_answered(&pending, session, &named, line))
+}
+
+fn is_so(alloc: Global, line: &str) -> Result<bool, Fail> {
+    let (token, session, named) = asked_in(line).ok_or("no row")?;
+    let session = session_of(session).ok_or("no session")?;
+    is_row(alloc, token, session, named, line)
+}
+
+// The first row that isn't so, and an empty text where all are.
+fn first_wrong(alloc: Global, rows: &str) -> Result<&str, Fail> {
+    for line in rows.lines().skip(1) {
+        if !is_so(alloc, line)? {
+            return Ok(line);
+        }
+    }
+    Ok("")
 }
 
 // RFC 6241 section 8.4: a token that is pending has to be named, and without one the issuer goes on alone.
@@ -64,13 +95,22 @@ x 1 - => invalid-value invalid-value
 
 #[test]
 fn tokens_and_issuers_go_on(rt: HostRuntime) -> Result<(), Fail> {
-    for line in ROWS.lines().skip(1) {
-        let (commit, cancel) = wanted_in(line).ok_or("nothing wanted")?;
-        let (committed, cancelled) = answers(rt.alloc(), line)?;
-        assert_eq!(rt; committed, commit, "{line}");
-        assert_eq!(rt; cancelled, cancel, "{line}");
-    }
-    Ok(())
+    passed(first_wrong(rt.alloc(), ROWS)?)
+}
+
+// Whether a commit goes on and there is nothing to cancel.
+fn goes_on(nothing: &Option<Pending<FlatContent>>, alice: SessionId) -> bool {
+    commit_refusal(nothing, alice, &None).is_none()
+        && cancel_refusal(nothing, alice, &None) == Some(Tag::OperationFailed)
+}
+
+// Whether nobody is a stranger, and nothing ends.
+fn has_no_strangers(
+    nothing: &Option<Pending<FlatContent>>,
+    alice: SessionId,
+    bob: SessionId,
+) -> bool {
+    !is_stranger(nothing, bob) && !ends_with(nothing, alice) && !ends_at(nothing, 600)
 }
 
 // Where nothing is pending, a commit goes on and there is nothing to cancel.
@@ -79,23 +119,22 @@ fn nothing_has_no_strangers(rt: HostRuntime) -> Result<(), Fail> {
     let alice = SessionId::new(1).ok_or("1")?;
     let bob = SessionId::new(2).ok_or("2")?;
     let nothing: Option<Pending<FlatContent>> = None;
-    assert_eq!(rt; commit_refusal(&nothing, alice, &None), None);
-    assert_eq!(rt;
-        cancel_refusal(&nothing, alice, &None),
-        Some(Tag::OperationFailed)
-    );
-    assert!(rt; !is_stranger(&nothing, bob));
-    assert!(rt; !ends_with(&nothing, alice));
-    assert!(rt; !ends_at(&nothing, 600));
+    assert!(rt; goes_on(&nothing, alice) && has_no_strangers(&nothing, alice, bob));
     Ok(())
 }
 
-// What session 1 begins without a token, over `{"7":1}`.
-fn begun(alloc: Global, alice: SessionId) -> Result<Pending<FlatContent>, NoMemory> {
+// The configuration `{"7":1}`.
+fn seven(alloc: Global) -> Result<FlatConfig, NoMemory> {
     let mut cells = NumberMap::new(alloc);
     cells.insert(7, 1)?;
+    Ok(FlatConfig::new(alloc, cells))
+}
+
+// What session 1 begins without a token, over it.
+fn begun(alloc: Global, alice: SessionId) -> Result<Pending<FlatContent>, NoMemory> {
+    let before = seven(alloc)?;
     let mut pending = begin(alloc, alice, "-")?;
-    pending.before = Some(FlatConfig::new(alloc, cells));
+    pending.before = Some(before);
     Ok(pending)
 }
 
@@ -133,16 +172,32 @@ fn is_undone(pending: Pending<FlatContent>) -> bool {
     }
 }
 
+// Whether the deadline is set anew, once it was the first one.
+fn is_set_anew(
+    alloc: Global,
+    pending: &mut Pending<FlatContent>,
+    alice: SessionId,
+    bob: SessionId,
+) -> Result<bool, NoMemory> {
+    if !is_fresh(pending, alice, bob) {
+        return Ok(false);
+    }
+    follow(alloc, pending, alice, bob)?;
+    Ok(is_followed(pending, alice, bob))
+}
+
+// Whether what was before stays.
+fn stays(alloc: Global, alice: SessionId, bob: SessionId) -> Result<bool, NoMemory> {
+    let mut pending = begun(alloc, alice)?;
+    Ok(is_set_anew(alloc, &mut pending, alice, bob)? && is_undone(pending))
+}
+
 // RFC 6241 section 8.4.1: a follow-up sets the deadline anew and adds an author, and what was before stays.
 #[test]
 fn follow_ups_set_the_deadline(rt: HostRuntime) -> Result<(), Fail> {
     let alice = SessionId::new(1).ok_or("1")?;
     let bob = SessionId::new(2).ok_or("2")?;
-    let mut pending = begun(rt.alloc(), alice)?;
-    assert!(rt; is_fresh(&pending, alice, bob));
-    follow(rt.alloc(), &mut pending, alice, bob)?;
-    assert!(rt; is_followed(&pending, alice, bob));
-    assert!(rt; is_undone(pending));
+    assert!(rt; stays(rt.alloc(), alice, bob)?);
     Ok(())
 }
 

@@ -1,5 +1,6 @@
-ghost use Rattle.std.specs.Prelude.{◌≡◌, ◌+◌, length};
+ghost use Rattle.std.specs.Prelude.{◌≡◌, ◌+◌, ◌∷◌, [], length};
 
+use crate::script::passed;
 use nm_base::{ChangeNo, DeviceNo, EditNo, Label, SessionId, Tag};
 use nm_chronicle::{BookShare, Chronicle, Shares, SlotShares};
 use nm_history::{DeviceEvent, Noted};
@@ -122,22 +123,41 @@ fn entries_of(alloc: Global, steps: &str) -> Result<Vec<Noted>, Fail> {
     Ok(entries)
 }
 
-// Change set 1, with one edit for device 1.
-fn plan_of(alloc: Global) -> Result<ChangePlan, Fail> {
+// Change set 1 and device 1.
+#[derive(Clone, Copy)]
+struct Numbers {
+    change: ChangeNo,
+    device: DeviceNo,
+}
+
+fn numbered() -> Option<Numbers> {
+    Some(Numbers {
+        change: ChangeNo::new(1)?,
+        device: DeviceNo::new(1)?,
+    })
+}
+
+// One edit for a device.
+fn planned_edits(alloc: Global, device: DeviceNo) -> Result<Listed<PlannedEdit>, Fail> {
     let mut edits = Listed::new(alloc);
     edits.push(PlannedEdit {
-        device: DeviceNo::new(1).ok_or("1")?,
+        device,
         edit: EditNo(0),
         default_operation: DefaultOperation::Merge,
     })?;
+    Ok(edits)
+}
+
+// Change set 1, with one edit for device 1.
+fn plan_of(alloc: Global, device: DeviceNo) -> Result<ChangePlan, Fail> {
     Ok(ChangePlan {
         timeout: 600,
-        edits,
+        edits: planned_edits(alloc, device)?,
     })
 }
 
 // The phase of change set 1 at device 1, by the device and by the board, and how many calls the board couldn't take.
-#[derive(Clone, Copy, Debug, PartialEq, Eq)]
+#[derive(Clone, Copy)]
 struct Told {
     phase: u8,
     board: u8,
@@ -145,17 +165,12 @@ struct Told {
 }
 
 impl Told {
-    fn of<N: RunPlans>(
-        phases: &Phases<N>,
-        board: &Chronicle<N>,
-        change: ChangeNo,
-        device: DeviceNo,
-    ) -> Result<Told, Fail> {
-        let line = board.board().line(change).ok_or("no line")?;
-        Ok(Told {
-            phase: phases.phase(change),
-            board: line.phase(device),
-            strays: board.strays().len(),
+    fn of<N: RunPlans>(begun: &Begun<N>, numbers: &Numbers) -> Option<Told> {
+        let line = begun.board.board().line(numbers.change)?;
+        Some(Told {
+            phase: begun.phases.phase(numbers.change),
+            board: line.phase(numbers.device),
+            strays: begun.board.strays().len(),
         })
     }
 }
@@ -163,56 +178,63 @@ impl Told {
 // At most four steps happen at the device.
 fn go<N: RunPlans>(
     alloc: Global,
-    phases: &mut Phases<N>,
-    board: &mut Chronicle<N>,
+    begun: &mut Begun<N>,
     device: DeviceNo,
     steps: &str,
 ) -> Result<(), Fail> {
     let entries = entries_of(alloc, steps)?;
     if entries.len() > 4 {
-        return Err("too many")?;
+        return Err(Fail::new("too many"));
     }
-    board.room()?;
-    phases.tell(board, device, entries.as_slice());
+    begun.board.room()?;
+    begun
+        .phases
+        .tell(&mut begun.board, device, entries.as_slice());
     Ok(())
 }
 
 // The device is asked for the confirmed commit.
-fn ask<N: RunPlans>(
-    board: &mut Chronicle<N>,
-    slot: &mut SlotShares<N>,
-    change: ChangeNo,
-    device: DeviceNo,
-) -> Result<(), Fail> {
-    if slot.asked() > 9 {
-        return Err("asked too often")?;
+fn ask<N: RunPlans>(begun: &mut Begun<N>, numbers: &Numbers) -> Result<(), Fail> {
+    if begun.slot.asked() > 9 {
+        return Err(Fail::new("asked too often"));
     }
-    board.room()?;
-    board.asked(change, device, slot);
+    begun.board.room()?;
+    begun
+        .board
+        .asked(numbers.change, numbers.device, &mut begun.slot);
     Ok(())
 }
 
 // A verdict is decided: Commit once the device has acknowledged.
 fn decide<N: RunPlans>(
-    board: &mut Chronicle<N>,
-    slot: &mut SlotShares<N>,
-    book: &mut BookShare<N>,
-    change: ChangeNo,
-    device: DeviceNo,
+    begun: &mut Begun<N>,
+    numbers: &Numbers,
     verdict: Verdict,
 ) -> Result<(), Fail> {
-    if slot.acked() > 9 {
-        return Err("acknowledged too often")?;
+    if begun.slot.acked() > 9 {
+        return Err(Fail::new("acknowledged too often"));
     }
-    if slot.verdict().is_some() {
-        return Err("decided before")?;
+    if begun.slot.verdict().is_some() {
+        return Err(Fail::new("decided before"));
     }
-    board.room()?;
+    begun.board.room()?;
     if verdict.same(&Verdict::Commit) {
-        board.acked(change, device, slot);
+        begun
+            .board
+            .acked(numbers.change, numbers.device, &mut begun.slot);
     }
-    board.decided(change, verdict, slot, book);
+    begun
+        .board
+        .decided(numbers.change, verdict, &mut begun.slot, &mut begun.book);
     Ok(())
+}
+
+// The verdict of a word is decided, where there is one.
+fn judge<N: RunPlans>(begun: &mut Begun<N>, numbers: &Numbers, word: &str) -> Result<(), Fail> {
+    match verdict_of(word).ok_or("no verdict")? {
+        Some(verdict) => decide(begun, numbers, verdict),
+        None => Ok(()),
+    }
 }
 
 // The beginning of a run over device 1 and change set 1.
@@ -224,6 +246,23 @@ struct Begun<N: RunPlans> {
     phases: Phases<N>,
 }
 
+// The slot of change set 1, the journal's share, and the phases at device 1.
+fn parted<N: RunPlans>(
+    alloc: Global,
+    shares: Shares<N>,
+) -> Result<(SlotShares<N>, BookShare<N>, Phases<N>), Fail>
+    requires { shares.cells.items ≡ 0 ∷ [] }
+{
+    let Shares {
+        mut slots,
+        mut cells,
+        book,
+    } = shares;
+    let slot = slots.pop().ok_or("a slot")?;
+    let share = cells.pop().ok_or("a share")?;
+    Ok((slot, book, Phases::new(alloc, share)?))
+}
+
 fn begin<N: RunPlans>(alloc: Global, blank: Blank, changes: &[ChangePlan]) -> Result<Begun<N>, Fail>
     requires name { blank.name ≡ N.name }
     requires parts { blank.parts ≡ N.parts }
@@ -232,13 +271,7 @@ fn begin<N: RunPlans>(alloc: Global, blank: Blank, changes: &[ChangePlan]) -> Re
     requires devices { 1 ≡ N.devices }
 {
     let (board, shares) = Chronicle::<N>::reserve(alloc, blank, changes, 1)?;
-    let Shares {
-        mut slots,
-        mut cells,
-        book,
-    } = shares;
-    let slot = slots.pop().ok_or("a slot")?;
-    let phases = Phases::new(alloc, cells.pop().ok_or("a share")?)?;
+    let (slot, book, phases) = parted(alloc, shares)?;
     Ok(Begun {
         board,
         slot,
@@ -247,12 +280,27 @@ fn begin<N: RunPlans>(alloc: Global, blank: Blank, changes: &[ChangePlan]) -> Re
     })
 }
 
-// What is told of change set 1 after a history, with a verdict in it where there is one.
+// A history happens, with a verdict in it where there is one. Gives what is told of change set 1 after it.
+fn happen<N: RunPlans>(
+    alloc: Global,
+    begun: &mut Begun<N>,
+    history: &History<'_>,
+    numbers: &Numbers,
+) -> Result<Told, Fail> {
+    ask(begun, numbers)?;
+    go(alloc, begun, numbers.device, history.before)?;
+    judge(begun, numbers, history.verdict)?;
+    go(alloc, begun, numbers.device, history.after)?;
+    Ok(Told::of(begun, numbers).ok_or("no line")?)
+}
+
+// The same at the beginning of a run.
 fn story<N: RunPlans>(
     alloc: Global,
     blank: Blank,
     changes: &[ChangePlan],
     history: &History<'_>,
+    numbers: &Numbers,
 ) -> Result<Told, Fail>
     requires name { blank.name ≡ N.name }
     requires parts { blank.parts ≡ N.parts }
@@ -260,28 +308,14 @@ fn story<N: RunPlans>(
     requires changes { changes.now ≡ N.changes }
     requires devices { 1 ≡ N.devices }
 {
-    let change = ChangeNo::new(1).ok_or("1")?;
-    let device = DeviceNo::new(1).ok_or("1")?;
-    let verdict = verdict_of(history.verdict).ok_or("no verdict")?;
-    let Begun {
-        mut board,
-        mut slot,
-        mut book,
-        mut phases,
-    } = begin::<N>(alloc, blank, changes)?;
-    ask(&mut board, &mut slot, change, device)?;
-    go(alloc, &mut phases, &mut board, device, history.before)?;
-    if let Some(verdict) = verdict {
-        decide(&mut board, &mut slot, &mut book, change, device, verdict)?;
-    }
-    go(alloc, &mut phases, &mut board, device, history.after)?;
-    Told::of(&phases, &board, change, device)
+    let mut begun = begin::<N>(alloc, blank, changes)?;
+    happen(alloc, &mut begun, history, numbers)
 }
 
 // The same in a run over device 1 and change set 1.
-fn run(alloc: Global, history: &History<'_>) -> Result<Told, Fail> {
-    let changes = [plan_of(alloc)?];
-    story::<Brand>(alloc, Blank::new(3), &changes, history)
+fn run(alloc: Global, history: &History<'_>, numbers: &Numbers) -> Result<Told, Fail> {
+    let changes = [plan_of(alloc, numbers.device)?];
+    story::<Brand>(alloc, Blank::new(3), &changes, history, numbers)
 }
 
 // What happens, a verdict, and what happens after it.
@@ -302,9 +336,8 @@ fn verdict_of(word: &str) -> Option<Option<Verdict>> {
     }
 }
 
-// The history of a row.
-fn history_of(line: &str) -> Option<History<'_>> {
-    let (history, _) = line.split_once(" => ")?;
+// The history of a row's first half.
+fn history_of(history: &str) -> Option<History<'_>> {
     let (before, rest) = history.split_once(" | ")?;
     let (verdict, after) = rest.split_once(" | ")?;
     Some(History {
@@ -314,16 +347,36 @@ fn history_of(line: &str) -> Option<History<'_>> {
     })
 }
 
-// What is to be told: the phase by the device, the phase by the board, and the number of strays.
-fn wanted_in(line: &str) -> Option<Told> {
-    let (_, wanted) = line.split_once(" => ")?;
+fn is_number(text: &str, number: u64) -> bool {
+    text.parse::<u64>() == Ok(number)
+}
+
+// Whether this is told: the phase by the device, the phase by the board, and the number of strays.
+fn is_told(told: &Told, wanted: &str) -> Option<bool> {
     let (phase, rest) = wanted.split_once(" ")?;
     let (board, strays) = rest.split_once(" ")?;
-    Some(Told {
-        phase: phase.parse::<u8>().ok()?,
-        board: board.parse::<u8>().ok()?,
-        strays: strays.parse::<usize>().ok()?,
-    })
+    Some(
+        is_number(phase, u64::from(told.phase))
+            && is_number(board, u64::from(told.board))
+            && is_number(strays, told.strays as u64),
+    )
+}
+
+// Whether a row is so, None where it can't be read.
+fn is_row(alloc: Global, line: &str, numbers: &Numbers) -> Result<Option<bool>, Fail> {
+    let (history, wanted) = line.split_once(" => ").unwrap_or((line, ""));
+    let history = history_of(history).ok_or("no history")?;
+    Ok(is_told(&run(alloc, &history, numbers)?, wanted))
+}
+
+// The first row that isn't so, and an empty text where all are.
+fn first_wrong<'a>(alloc: Global, rows: &'a str, numbers: &Numbers) -> Result<&'a str, Fail> {
+    for line in rows.lines().skip(1) {
+        if is_row(alloc, line, numbers)? != Some(true) {
+            return Ok(line);
+        }
+    }
+    Ok("")
 }
 
 // The first confirmed commit that is done under the token while nothing waits begins, and what ends it stays (RFC 6241
@@ -359,10 +412,6 @@ begin | commit | cancel => 4 1 1
 
 #[test]
 fn phases_go_along_histories(rt: HostRuntime) -> Result<(), Fail> {
-    for line in HISTORIES.lines().skip(1) {
-        let history = history_of(line).ok_or("no history")?;
-        let wanted = wanted_in(line).ok_or("nothing wanted")?;
-        assert_eq!(rt; run(rt.alloc(), &history)?, wanted, "{line}");
-    }
-    Ok(())
+    let numbers = numbered().ok_or("numbers")?;
+    passed(first_wrong(rt.alloc(), HISTORIES, &numbers)?)
 }

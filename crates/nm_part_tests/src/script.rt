@@ -13,21 +13,26 @@ use nm_proto::{
 use std::alloc::Global;
 use std::test::Fail;
 
-// A device that runs `{"7":1}`.
+// The configuration `{"7":1}`.
+fn seven(alloc: Global) -> Result<FlatConfig, NoMemory> {
+    let mut cells = NumberMap::new(alloc);
+    cells.insert(7, 1)?;
+    Ok(FlatConfig::new(alloc, cells))
+}
+
+// A device that runs it.
 fn device_of(alloc: Global) -> Result<Recorded<FlatContent>, Fail>
     ensures sound { IfOk result (λ device. IsSound flat_meaning device.device) }
 {
-    let mut cells = NumberMap::new(alloc);
-    cells.insert(7, 1)?;
-    let running = FlatConfig::new(alloc, cells);
+    let running = seven(alloc)?;
     match FlatContent::new(alloc).check(&running) {
         Ok(()) => Ok(Recorded::new(alloc, running)),
-        Err(_) => Err("not valid")?,
+        Err(_) => Err(Fail::new("not valid")),
     }
 }
 
 // The first line of a script that isn't so, and an empty text where all are.
-pub fn first_wrong(alloc: Global, script: &str) -> Result<&str, Fail> {
+fn first_wrong(alloc: Global, script: &str) -> Result<&str, Fail> {
     let mut device = device_of(alloc)?;
     for line in script.lines() {
         if !is_so(alloc, &mut device, line)? {
@@ -35,6 +40,19 @@ pub fn first_wrong(alloc: Global, script: &str) -> Result<&str, Fail> {
         }
     }
     Ok("")
+}
+
+// Goes through a script. The failure is the first line that isn't so.
+pub fn passes(alloc: Global, script: &str) -> Result<(), Fail> {
+    passed(first_wrong(alloc, script)?)
+}
+
+// A line that isn't so is a failure, and an empty text is none.
+pub fn passed(line: &str) -> Result<(), Fail> {
+    if line.is_empty() {
+        return Ok(());
+    }
+    Err(Fail::new(line))
 }
 
 // The actor, what the actor does, and what is to come of it.
@@ -97,6 +115,46 @@ fn session_after(word: &str, words: &str) -> Option<SessionId> {
     session_of(words.strip_prefix(word)?)
 }
 
+// Whether a restart undoes what it should.
+fn restarts(alloc: Global, device: &mut Recorded<FlatContent>, want: &str) -> Result<bool, NoMemory>
+    requires sound { IsSound flat_meaning device.old.device }
+    ensures sound { IsSound flat_meaning device.new.device }
+{
+    let undone = device.restart(&FlatContent::new(alloc))?;
+    Ok(is_undoing(Some(undone), want))
+}
+
+// The same of some seconds.
+fn advances(
+    alloc: Global,
+    device: &mut Recorded<FlatContent>,
+    seconds: u32,
+    want: &str,
+) -> Result<bool, NoMemory>
+    requires sound { IsSound flat_meaning device.old.device }
+    requires in_time { IsInTime device.old.device.clock }
+    ensures sound { IsSound flat_meaning device.new.device }
+{
+    let undone = device.advance(&FlatContent::new(alloc), seconds)?;
+    Ok(is_undoing(Some(undone), want))
+}
+
+// The same of a session's loss.
+fn loses(
+    alloc: Global,
+    device: &mut Recorded<FlatContent>,
+    words: &str,
+    want: &str,
+) -> Result<bool, NoMemory>
+    requires sound { IsSound flat_meaning device.old.device }
+    ensures sound { IsSound flat_meaning device.new.device }
+{
+    let Some(session) = session_after("lose ", words) else {
+        return Ok(false);
+    };
+    Ok(is_undoing(device.lose(&FlatContent::new(alloc), session)?, want))
+}
+
 // Whether an event at the device undoes what it should.
 fn happens(
     alloc: Global,
@@ -108,18 +166,12 @@ fn happens(
     requires in_time { IsInTime device.old.device.clock }
     ensures sound { IsSound flat_meaning device.new.device }
 {
-    let content = FlatContent::new(alloc);
     if words == "restart" {
-        let undone = device.restart(&content)?;
-        return Ok(is_undoing(Some(undone), want));
+        return restarts(alloc, device, want);
     }
-    if let Some(seconds) = number_after("advance ", words) {
-        let undone = device.advance(&content, seconds)?;
-        return Ok(is_undoing(Some(undone), want));
-    }
-    match session_after("lose ", words) {
-        Some(session) => Ok(is_undoing(device.lose(&content, session)?, want)),
-        None => Ok(false),
+    match number_after("advance ", words) {
+        Some(seconds) => advances(alloc, device, seconds, want),
+        None => loses(alloc, device, words, want),
     }
 }
 

@@ -1,9 +1,10 @@
-use crate::script::{is_answer, session_of};
+use crate::script::{is_answer, passed, session_of};
 use nm_base::{Label, SessionId};
 use nm_sessions::*;
 use std::alloc::Global;
 use std::test::Fail;
 use std::thread;
+use std::thread::Threads;
 
 // Opens a session of a user.
 fn enter(sessions: &mut Sessions, alloc: Global, user: &str) -> Result<SessionId, EnterFault> {
@@ -38,10 +39,17 @@ fn is_so(sessions: &mut Sessions, alloc: Global, line: &str) -> Option<bool> {
     let (word, rest) = words.split_once(" ")?;
     match word {
         "enter" => Some(enters(sessions, alloc, rest, want)),
-        "leave" => Some(is_answer(sessions.leave(session_of(rest)?), want)),
-        "open" => Some(is_answer(sessions.is_open(session_of(rest)?), want)),
-        "user" => Some(is_user(sessions, session_of(rest)?, want)),
         "all" => all(sessions, rest, want),
+        _ => acts(sessions, word, session_of(rest)?, want),
+    }
+}
+
+// What comes of a session.
+fn acts(sessions: &mut Sessions, word: &str, session: SessionId, want: &str) -> Option<bool> {
+    match word {
+        "leave" => Some(is_answer(sessions.leave(session), want)),
+        "open" => Some(is_answer(sessions.is_open(session), want)),
+        "user" => Some(is_user(sessions, session, want)),
         _ => None,
     }
 }
@@ -91,8 +99,7 @@ all count => 64
 fn ids_are_never_used_again(rt: HostRuntime) -> Result<(), Fail> {
     let mut sessions = Sessions::new(rt.alloc());
     assert!(rt; fill(&mut sessions, rt.alloc())?);
-    assert_eq!(rt; first_wrong(&mut sessions, rt.alloc(), FILLED), "");
-    Ok(())
+    passed(first_wrong(&mut sessions, rt.alloc(), FILLED))
 }
 
 // One user may have several sessions, and the end of one leaves the others.
@@ -111,9 +118,23 @@ enter bob => 4
 "#;
 
 #[test]
-fn sessions_have_their_users(rt: HostRuntime) {
+fn sessions_have_their_users(rt: HostRuntime) -> Result<(), Fail> {
     let mut sessions = Sessions::new(rt.alloc());
-    assert_eq!(rt; first_wrong(&mut sessions, rt.alloc(), USERS), "");
+    passed(first_wrong(&mut sessions, rt.alloc(), USERS))
+}
+
+fn are_shared<R: Threads>(rt: &R, sessions: &Sessions, session: SessionId) -> bool {
+    let (there, here) = thread::join(
+        rt,
+        || sessions.is_open(session),
+        || sessions.is_open(session),
+    );
+    there && here
+}
+
+fn are_sent<R: Threads>(rt: &R, sessions: Sessions, session: SessionId) -> bool {
+    let (sessions, ()) = thread::join(rt, move || sessions, || ());
+    sessions.is_open(session)
 }
 
 // Sessions can be shared with a thread, sent to it and sent back.
@@ -121,13 +142,6 @@ fn sessions_have_their_users(rt: HostRuntime) {
 fn sessions_cross_threads(rt: HostRuntime) -> Result<(), Fail> {
     let mut sessions = Sessions::new(rt.alloc());
     let session = enter(&mut sessions, rt.alloc(), "alice")?;
-    let (there, here) = thread::join(
-        &rt,
-        || sessions.is_open(session),
-        || sessions.is_open(session),
-    );
-    assert!(rt; there && here);
-    let (sessions, ()) = thread::join(&rt, move || sessions, || ());
-    assert!(rt; sessions.is_open(session));
+    assert!(rt; are_shared(&rt, &sessions, session) && are_sent(&rt, sessions, session));
     Ok(())
 }

@@ -1,27 +1,39 @@
-use crate::script::first_wrong;
+use crate::script::passes;
 use nm_proto::FlatContent;
 use nm_standing::*;
 use std::test::Fail;
+
+fn session_laws(content: &FlatContent) {
+    laws::numbers_stay(content);
+    laws::users_stay(content);
+    laws::sessions_stand(content);
+    laws::strangers_stay_out(content);
+}
+
+fn configuration_laws(content: &FlatContent) {
+    laws::running_moves(content);
+    laws::marks_stay(content);
+    laws::tokens_stand(content);
+    laws::histories_tell_pending(content);
+    laws::histories_tell_tokens(content);
+}
+
+fn request_laws(content: &FlatContent) {
+    laws::openings_do(content);
+    laws::requests_do(content);
+    laws::endings_do(content);
+    laws::commits_do(content);
+    laws::answers_change_nothing(content);
+    laws::histories_follow_requests(content);
+}
 
 // The laws are functions that do nothing.
 #[test]
 fn laws_do_nothing(rt: HostRuntime) {
     let content = FlatContent::new(rt.alloc());
-    laws::numbers_stay(&content);
-    laws::users_stay(&content);
-    laws::sessions_stand(&content);
-    laws::strangers_stay_out(&content);
-    laws::running_moves(&content);
-    laws::marks_stay(&content);
-    laws::tokens_stand(&content);
-    laws::histories_tell_pending(&content);
-    laws::histories_tell_tokens(&content);
-    laws::openings_do(&content);
-    laws::requests_do(&content);
-    laws::endings_do(&content);
-    laws::commits_do(&content);
-    laws::answers_change_nothing(&content);
-    laws::histories_follow_requests(&content);
+    session_laws(&content);
+    configuration_laws(&content);
+    request_laws(&content);
     laws::outcomes_need_commits();
 }
 
@@ -39,8 +51,7 @@ device lose 2 => kept
 
 #[test]
 fn locks_stand_while_others_act(rt: HostRuntime) -> Result<(), Fail> {
-    assert_eq!(rt; first_wrong(rt.alloc(), LOCKS)?, "");
-    Ok(())
+    passes(rt.alloc(), LOCKS)
 }
 
 // A reserved token is the manager's alone: another user's commit and cancel that name it change nothing of what waits
@@ -59,6 +70,5 @@ see outcome netm:1 => undone by timer
 
 #[test]
 fn tokens_stand_till_a_timer(rt: HostRuntime) -> Result<(), Fail> {
-    assert_eq!(rt; first_wrong(rt.alloc(), TOKENS)?, "");
-    Ok(())
+    passes(rt.alloc(), TOKENS)
 }

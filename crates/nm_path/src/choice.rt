@@ -1,12 +1,13 @@
 //! What predicates choose.
 
-ghost use Rattle.std.specs.Prelude.{◌≡◌, codes, None, Some, MatchOption, slice_get};
+ghost use Rattle.std.specs.Prelude.{◌≡◌, codes, None, Some, IfOk, MatchOption, slice_get};
 ghost use Rattle.nm_types.specs.Chosen.{choice_of};
 ghost use Rattle.nm_path.specs.Spelling as spelling_spec;
 ghost use Rattle.nm_path.specs.Reading as spec;
 
 use crate::fault::PathFault;
 use crate::form::{Predicate, Written};
+use nm_base::{Label, NoMemory};
 use nm_tree::{NodeKind, Schema};
 use nm_types::{Chosen, LeafType, Step, Value, ValueFault, read_value};
 use std::alloc::Global;
@@ -155,6 +156,17 @@ fn chosen_of(
     }
 }
 
+// A step to a node.
+fn step_to(module: &Label, name: &Label, chosen: Chosen) -> Result<Step, NoMemory>
+    ensures { IfOk result (λ step. step ≡ record { «module» = «module».now; name = name.now; chosen = choice_of chosen }) }
+{
+    Ok(Step {
+        module: module.copy()?,
+        name: name.copy()?,
+        chosen,
+    })
+}
+
 /// The step of a path that a written step is, which leads to a node.
 pub fn step_of(alloc: Global, schema: &Schema, at: usize, step: &Written) -> Result<Step, PathFault>
     ensures { spec.Gives (λ s. s) result (spec.step_by schema.now.nodes at step.now (slice_get schema.now.nodes at)) }
@@ -166,9 +178,5 @@ pub fn step_of(alloc: Global, schema: &Schema, at: usize, step: &Written) -> Res
         Ok(chosen) => chosen,
         Err(error) => return Err(error),
     };
-    Ok(Step {
-        module: node.module.copy()?,
-        name: step.name.copy()?,
-        chosen,
-    })
+    Ok(step_to(&node.module, &step.name, chosen)?)
 }

@@ -1,3 +1,4 @@
 pub mod Maps
 pub mod MarkLemmas
+pub mod Requests
 pub mod Events

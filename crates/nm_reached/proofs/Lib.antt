@@ -1,3 +1,4 @@
+pub mod Steps
 pub mod Paths
 pub mod Reaching
 pub mod Knowing

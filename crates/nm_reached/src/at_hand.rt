@@ -1,7 +1,7 @@
 //! Claims that one look-up answers: an entry whose one key has the value that is claimed, or a leaf, right where the way down
 //! from the place leads. Where few rows claim, or each has its own place, this is far less than to keep all values of their target.
 
-ghost use Rattle.std.specs.Prelude.{◌≡◌, ◌-◌, true, false, IfOk, length};
+ghost use Rattle.std.specs.Prelude.{◌≡◌, ◌-◌, [], ◌∷◌, true, false, IfOk, length};
 ghost use Rattle.nm_rules.specs.Values as value_spec;
 ghost use Rattle.nm_tree.specs.Nodes.{same_parent};
 ghost use Rattle.nm_reached.specs.Known as spec;
@@ -25,13 +25,21 @@ pub fn steps_left(path: &Path, up: usize) -> usize
     path.steps.len().saturating_sub(up)
 }
 
+// A value alone.
+fn one_value(alloc: Global, value: &Value) -> Result<Vec<Value>, NoMemory>
+    ensures { IfOk result (λ values. values.items ≡ value.now ∷ []) }
+{
+    let mut values = Vec::with_capacity(alloc, 1)?;
+    values.push(value.copy()?)?;
+    Ok(values)
+}
+
 // The step to the entry of a list whose one key has a value.
 fn step_to(alloc: Global, schema: &Schema, list: usize, value: &Value) -> Result<Step, NoMemory>
     ensures { IfOk result (λ step. step ≡ spec.step_to schema.now list value.now) }
 {
+    let values = one_value(alloc, value)?;
     let whole = bare(alloc, schema, list)?;
-    let mut values = Vec::with_capacity(alloc, 1)?;
-    values.push(value.copy()?)?;
     Ok(Step {
         module: whole.module,
         name: whole.name,

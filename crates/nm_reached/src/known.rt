@@ -146,6 +146,25 @@ fn keep_defaults<M: RowMap>(
     Ok(())
 }
 
+// Keeps all values of a node for the places of so many steps.
+fn keep_target<M: RowMap>(
+    alloc: Global,
+    schema: &Schema,
+    config: &M,
+    grouped: &Grouped<'_>,
+    at: usize,
+    depth: usize,
+    kept: &mut Config,
+) -> Result<(), NoMemory>
+    requires { group.IsGrouped schema.now (M.rows config.now) grouped.now }
+    ensures { OnOk result (kept.new ≡ spec.with_target schema.now (M.rows config.now) at depth kept.old) }
+{
+    keep_rows(alloc, schema, config, grouped, at, depth, kept)?;
+    keep_keys(alloc, schema, config, grouped, at, depth, kept)?;
+    keep_defaults(alloc, schema, config, grouped, at, depth, kept)?;
+    Ok(())
+}
+
 // Keeps all values of a node for the places of so many steps, unless they are kept already.
 fn know<M: RowMap>(
     alloc: Global,
@@ -160,13 +179,10 @@ fn know<M: RowMap>(
     ensures { OnOk result (kept.new ≡ spec.with_known schema.now (M.rows config.now) at depth kept.old) }
 {
     let mark = mark_of(alloc, at, depth)?;
-    let before = kept.put(mark, Value::Present)?;
-    if before.is_some() {
+    if kept.put(mark, Value::Present)?.is_some() {
         return Ok(());
     }
-    keep_rows(alloc, schema, config, grouped, at, depth, kept)?;
-    keep_keys(alloc, schema, config, grouped, at, depth, kept)?;
-    keep_defaults(alloc, schema, config, grouped, at, depth, kept)?;
+    keep_target(alloc, schema, config, grouped, at, depth, kept)?;
     Ok(())
 }
 

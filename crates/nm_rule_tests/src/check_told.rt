@@ -2,7 +2,7 @@
 
 ghost use Rattle.nm_path.specs.Sound.{IsSound};
 
-use crate::sample::{config_of, expect, schema_of, with_more};
+use crate::sample::{config_of, expect, parted, schema_of, with_more};
 use nm_base::NoMemory;
 use nm_check::check_rows;
 use nm_proto::CheckFault;
@@ -22,23 +22,48 @@ pub fn answer_text(alloc: Global, answer: Result<(), CheckFault>) -> Result<Stri
     }
 }
 
+// What is told of the text of a configuration.
+fn told_of(alloc: Global, schema: &Schema, text: &str) -> Result<String, Fail>
+    requires { IsSound schema.now.nodes }
+{
+    let config = config_of(alloc, schema, text)?;
+    Ok(answer_text(alloc, check_rows(alloc, schema, &config))?)
+}
+
 // Whether a line `CONFIGURATION => ANSWER` is so.
 fn is_told(alloc: Global, schema: &Schema, line: &str) -> Result<(), Fail>
     requires { IsSound schema.now.nodes }
 {
-    let (text, expected) = line.split_once(" => ").ok_or("no line")?;
-    let config = config_of(alloc, schema, text)?;
-    let told = answer_text(alloc, check_rows(alloc, schema, &config))?;
+    let (text, expected) = parted(line, " => ");
+    let told = told_of(alloc, schema, text)?;
     expect(line, told.as_str(), expected)
+}
+
+fn lines_are_told(alloc: Global, schema: &Schema, lines: &str) -> Result<(), Fail>
+    requires { IsSound schema.now.nodes }
+{
+    for line in lines.lines().skip(1) {
+        is_told(alloc, schema, line)?;
+    }
+    Ok(())
 }
 
 // Whether each of these lines is so for a module.
 fn are_told(alloc: Global, module: &str, lines: &str) -> Result<(), Fail> {
     let schema = schema_of(alloc, module)?;
-    for line in lines.lines().skip(1) {
-        is_told(alloc, &schema, line)?;
-    }
-    Ok(())
+    lines_are_told(alloc, &schema, lines)
+}
+
+// The same for a module with more behind one of its statements.
+fn are_told_with(
+    alloc: Global,
+    module: &str,
+    place: &str,
+    more: &str,
+    lines: &str,
+) -> Result<(), Fail> {
+    let module = with_more(alloc, module, place, more)?;
+    are_told(alloc, module.as_str(), lines)
 }
 
 // A configuration and what else is wrong with it, and the violation by the tags of RFC 7950 section 15 and the order of the rules: each alone, and before
@@ -74,8 +99,7 @@ const CHOSEN: &str = r#"
 #[test]
 fn missing_choices_are_told(rt: HostRuntime) -> Result<(), Fail> {
     let choice = " choice how { mandatory true; }";
-    let module = with_more(rt.alloc(), MODULE, "prefix ek;", choice)?;
-    are_told(rt.alloc(), module.as_str(), CHOSEN)
+    are_told_with(rt.alloc(), MODULE, "prefix ek;", choice, CHOSEN)
 }
 
 // ---- two cases
@@ -95,9 +119,18 @@ const MANDATORY_TOLD: &str = r#"
 {"ec:ip":true,"ec:vpn":true} => not valid with data-missing at /ec:must
 "#;
 
+fn cases_are_told(alloc: Global) -> Result<(), Fail> {
+    are_told(alloc, CASES, CASES_TOLD)?;
+    are_told_with(
+        alloc,
+        CASES,
+        "choice must {",
+        " mandatory true;",
+        MANDATORY_TOLD,
+    )
+}
+
 #[test]
 fn two_cases_are_told(rt: HostRuntime) -> Result<(), Fail> {
-    are_told(rt.alloc(), CASES, CASES_TOLD)?;
-    let module = with_more(rt.alloc(), CASES, "choice must {", " mandatory true;")?;
-    are_told(rt.alloc(), module.as_str(), MANDATORY_TOLD)
+    cases_are_told(rt.alloc())
 }

@@ -10,7 +10,7 @@ ghost use Rattle.nm_reads.specs.Reaches.{Covers};
 ghost use Rattle.nm_rule_tests.specs.Elsewhere as spec;
 
 use crate::check_told::answer_text;
-use crate::sample::{expect, schema_of};
+use crate::sample::{expect, parted, schema_of};
 use nm_base::{NoMemory, Steps};
 use nm_check::check_rows;
 use nm_check::laws::told_rightly;
@@ -22,7 +22,7 @@ use nm_proto::CheckFault;
 use nm_rules::laws::configs_stand;
 use nm_tree::Schema;
 use nm_types::Path;
-use std::alloc::Global;
+use std::alloc::{AllocError, Global};
 use std::marker::Brand;
 use std::sync::ledger::{Blank, Ledger};
 use std::test::Fail;
@@ -122,15 +122,20 @@ const TOLD: &str = r#"
 {"em:west":1} => {"em:west":2} => /em:west => valid
 "#;
 
-// The path of a text alone, and the top where none is read.
+// The path of a text, and the top where none is read.
+fn path_or_top(alloc: Global, schema: &Schema, text: &str) -> Path {
+    match read_path(alloc, schema, text) {
+        Ok(path) => path,
+        Err(_) => Path {
+            steps: Vec::new(alloc),
+        },
+    }
+}
+
+// The same alone.
 fn paths_of(alloc: Global, schema: &Schema, text: &str) -> Result<Vec<Path>, NoMemory> {
     let mut paths = Vec::new(alloc);
-    match read_path(alloc, schema, text) {
-        Ok(path) => paths.push(path)?,
-        Err(_) => paths.push(Path {
-            steps: Vec::new(alloc),
-        })?,
-    }
+    paths.push(path_or_top(alloc, schema, text))?;
     Ok(paths)
 }
 
@@ -176,8 +181,8 @@ fn told_of(
     answer_text(alloc, answer)
 }
 
-// Whether the check of what was touched tells what is expected, and a whole check too.
-fn both_tell(
+// Whether the check of what was touched tells what is expected.
+fn touched_tells(
     alloc: Global,
     schema: &Schema,
     base: &Config,
@@ -190,97 +195,141 @@ fn both_tell(
     requires next { StandsIn schema.now next.now }
 {
     let told = told_of(alloc, schema, base, next, touched)?;
-    expect("what was touched", told.as_str(), expected)?;
+    expect("what was touched", told.as_str(), expected)
+}
+
+// The same where a text has the path.
+fn part_tells(
+    alloc: Global,
+    schema: &Schema,
+    base: &Config,
+    next: &Config,
+    touched: &str,
+    expected: &str,
+) -> Result<(), Fail>
+    requires sound { IsSound schema.now.nodes }
+    requires base { StandsIn schema.now base.now }
+    requires next { StandsIn schema.now next.now }
+{
+    let touched = paths_of(alloc, schema, touched)?;
+    touched_tells(alloc, schema, base, next, &touched, expected)
+}
+
+// Whether a whole check tells what is expected.
+fn whole_tells(alloc: Global, schema: &Schema, next: &Config, expected: &str) -> Result<(), Fail>
+    requires { IsSound schema.now.nodes }
+{
     let told = answer_text(alloc, check_rows(alloc, schema, next))?;
     expect("the whole", told.as_str(), expected)
 }
 
-// The same of texts.
-fn is_told(
+// Whether both do, of two configurations and what a line says behind them.
+fn both_tell(
     alloc: Global,
     schema: &Schema,
-    base: &str,
-    next: &str,
-    touched: &str,
-    expected: &str,
+    base: &Config,
+    next: &Config,
+    line: &str,
 ) -> Result<(), Fail>
-    requires { IsSound schema.now.nodes }
+    requires sound { IsSound schema.now.nodes }
+    requires base { StandsIn schema.now base.now }
+    requires next { StandsIn schema.now next.now }
 {
-    let base = config_of(alloc, schema, base)?;
-    let next = config_of(alloc, schema, next)?;
-    let touched = paths_of(alloc, schema, touched)?;
-    both_tell(alloc, schema, &base, &next, &touched, expected)
+    let (touched, expected) = parted(line, " => ");
+    part_tells(alloc, schema, base, next, touched, expected)?;
+    whole_tells(alloc, schema, next, expected)
 }
 
-// The base, the next one, the path and what is expected of a line.
-fn case_of(line: &str) -> Option<(&str, &str, &str, &str)> {
-    let (base, rest) = line.split_once(" => ")?;
-    let (next, rest) = rest.split_once(" => ")?;
-    let (touched, expected) = rest.split_once(" => ")?;
-    Some((base, next, touched, expected))
+// The same of a configuration and what a line says behind it.
+fn next_is_told(alloc: Global, schema: &Schema, base: &Config, line: &str) -> Result<(), Fail>
+    requires sound { IsSound schema.now.nodes }
+    requires base { StandsIn schema.now base.now }
+{
+    let (next, rest) = parted(line, " => ");
+    let next = config_of(alloc, schema, next)?;
+    both_tell(alloc, schema, base, &next, rest)
+}
+
+// The same of a whole line.
+fn is_told(alloc: Global, schema: &Schema, line: &str) -> Result<(), Fail>
+    requires { IsSound schema.now.nodes }
+{
+    let (base, rest) = parted(line, " => ");
+    let base = config_of(alloc, schema, base)?;
+    next_is_told(alloc, schema, &base, rest)
+}
+
+fn lines_are_told(alloc: Global, schema: &Schema, lines: &str) -> Result<(), Fail>
+    requires { IsSound schema.now.nodes }
+{
+    for line in lines.lines().skip(1) {
+        is_told(alloc, schema, line)?;
+    }
+    Ok(())
+}
+
+// Whether each of these lines is so for a module.
+fn are_told(alloc: Global, module: &str, lines: &str) -> Result<(), Fail> {
+    let schema = schema_of(alloc, module)?;
+    lines_are_told(alloc, &schema, lines)
 }
 
 #[test]
 fn what_is_touched_is_checked(rt: HostRuntime) -> Result<(), Fail> {
-    let alloc = rt.alloc();
-    let schema = schema_of(alloc, MODULE)?;
-    for line in TOLD.lines().skip(1) {
-        let (base, next, touched, expected) = case_of(line).ok_or("no case")?;
-        is_told(alloc, &schema, base, next, touched, expected)?;
-    }
-    Ok(())
+    are_told(rt.alloc(), MODULE, TOLD)
 }
 
 // Servers with a unique statement over a default, and a leaf beside them that no rule but that of types reads.
 const SERVERS: &str =
     "module ey { yang-version 1.1; namespace \"urn:ey\"; prefix ey; leaf big { type int64; } list srv { key id; unique port; leaf id { type uint8; } leaf port { type uint16; default 22; } } }";
 
-// A server but the first.
-fn server(alloc: Global, id: u32, second: u32) -> Result<String, NoMemory> {
-    let port = if id == 2 {
-        second
-    } else {
-        id.saturating_add(1000)
-    };
-    Ok(format!(in alloc; ",{{\"id\":{id},\"port\":{port}}}")?)
+// The port of a server but the first; this one for the second.
+fn port_of(id: u32, second: u32) -> u32 {
+    if id == 2 {
+        return second;
+    }
+    id.saturating_add(1000)
 }
 
-// A value of the leaf, and 200 servers, each with a port of its own but the second, which has this one.
-fn servers(alloc: Global, big: u32, second: u32) -> Result<String, NoMemory> {
-    let mut text = format!(in alloc;
+fn put_servers(text: &mut String, second: u32) -> Result<(), AllocError> {
+    for id in 2..201u32 {
+        write!(text, ",{{\"id\":{id},\"port\":{}}}", port_of(id, second))?;
+    }
+    Ok(())
+}
+
+// Puts a value of the leaf, and 200 servers, each with a port of its own but the second, which has this one.
+fn put_config(text: &mut String, big: u32, second: u32) -> Result<(), AllocError> {
+    write!(
+        text,
         "{{\"ey:big\":\"{big}\",\"ey:srv\":[{{\"id\":1,\"port\":1001}}"
     )?;
-    for id in 2..201u32 {
-        text.push_str(server(alloc, id, second)?.as_str())?;
-    }
-    text.push_str("]}")?;
-    Ok(text)
+    put_servers(text, second)?;
+    text.push_str("]} => ")
 }
 
-// Whether this is told where one row of a valid configuration changes so that the leaf and the second port are these.
-fn row_is_told(
-    alloc: Global,
-    big: u32,
-    second: u32,
-    touched: &str,
-    expected: &str,
-) -> Result<(), Fail> {
-    let schema = schema_of(alloc, SERVERS)?;
-    let base = servers(alloc, 1, 1002)?;
-    let next = servers(alloc, big, second)?;
-    is_told(
-        alloc,
-        &schema,
-        base.as_str(),
-        next.as_str(),
-        touched,
-        expected,
-    )
+// Puts a line in which one row of a valid configuration changes so that the leaf and the second port are these.
+fn put_line(text: &mut String, big: u32, second: u32, rest: &str) -> Result<(), AllocError> {
+    text.push_str("\n")?;
+    put_config(text, 1, 1002)?;
+    put_config(text, big, second)?;
+    text.push_str(rest)
+}
+
+// Whether that is told which stands behind the two configurations.
+fn row_is_told(alloc: Global, big: u32, second: u32, rest: &str) -> Result<(), Fail> {
+    let mut line = String::new(alloc);
+    put_line(&mut line, big, second, rest)?;
+    are_told(alloc, SERVERS, line.as_str())
+}
+
+fn rows_are_told(alloc: Global) -> Result<(), Fail> {
+    row_is_told(alloc, 2, 1002, "/ey:big => valid")?;
+    let refused = "/ey:srv[id='2']/port => not valid with operation-failed at /ey:srv[id='2']";
+    row_is_told(alloc, 1, 1001, refused)
 }
 
 #[test]
 fn one_row_of_many_is_checked(rt: HostRuntime) -> Result<(), Fail> {
-    row_is_told(rt.alloc(), 2, 1002, "/ey:big", "valid")?;
-    let refused = "not valid with operation-failed at /ey:srv[id='2']";
-    row_is_told(rt.alloc(), 1, 1001, "/ey:srv[id='2']/port", refused)
+    rows_are_told(rt.alloc())
 }

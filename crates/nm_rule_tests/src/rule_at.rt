@@ -1,8 +1,9 @@
-use crate::sample::{self, expect, schema_of};
+use crate::sample::{self, expect, parted, schema_of};
+use nm_base::NoMemory;
 use nm_rule_at::rule_at;
 use nm_rules::Rule;
-use nm_tree::Schema;
-use nm_types::{Chosen, Path};
+use nm_tree::{ChoiceNode, Schema};
+use nm_types::{Chosen, Path, Step};
 use nm_validate::choice_step;
 use std::alloc::Global;
 use std::test::Fail;
@@ -60,11 +61,18 @@ fn rule_of(number: &str) -> Option<Rule> {
     None
 }
 
-// The path of the choice at the top, which no text of a path leads to.
-fn choice_path(alloc: Global, schema: &Schema) -> Result<Path, Fail> {
-    let choice = schema.choices().first().ok_or("no choice")?;
+fn choice_steps(alloc: Global, choice: &ChoiceNode) -> Result<Vec<Step>, NoMemory> {
     let mut steps = Vec::new(alloc);
     steps.push(choice_step(choice)?)?;
+    Ok(steps)
+}
+
+// The path of the choice at the top, which no text of a path leads to.
+fn choice_path(alloc: Global, schema: &Schema) -> Result<Path, Fail> {
+    let Some(choice) = schema.choices().first() else {
+        return Err(Fail::new("no choice"));
+    };
+    let steps = choice_steps(alloc, choice)?;
     Ok(Path { steps })
 }
 
@@ -76,12 +84,14 @@ fn path_of(alloc: Global, schema: &Schema, text: &str) -> Result<Path, Fail> {
     sample::path_of(alloc, schema, text)
 }
 
+fn is_counted(rule: Rule) -> bool {
+    matches!(rule, Rule::MinElements | Rule::MaxElements)
+}
+
 // Makes a path lead to a leaf-list as a whole, where entries are counted.
 fn count_all(rule: Rule, path: &mut Path) {
-    if let Rule::MinElements | Rule::MaxElements = rule {
-        if let Some(step) = path.steps.last_mut() {
-            step.chosen = Chosen::Whole;
-        }
+    if is_counted(rule) {
+        sample::choose(path, Chosen::Whole);
     }
 }
 
@@ -92,43 +102,61 @@ fn place_of(alloc: Global, schema: &Schema, rule: Rule, text: &str) -> Result<Pa
     Ok(path)
 }
 
-// Whether a rule isn't met at a path.
-fn is_violated(
+// Whether a rule is met at a path.
+fn told_at(
+    alloc: Global,
+    schema: &Schema,
+    rule: Rule,
+    path: &Path,
+    text: &str,
+) -> Result<&'static str, Fail> {
+    let config = sample::config_of(alloc, schema, text)?;
+    if rule_at(alloc, schema, &config, rule, path)? {
+        return Ok("violated");
+    }
+    Ok("met")
+}
+
+// The same at the path of a text.
+fn told_of(
     alloc: Global,
     schema: &Schema,
     rule: Rule,
     path: &str,
     text: &str,
-) -> Result<bool, Fail> {
+) -> Result<&'static str, Fail> {
     let path = place_of(alloc, schema, rule, path)?;
-    let config = sample::config_of(alloc, schema, text)?;
-    Ok(rule_at(alloc, schema, &config, rule, &path)?)
+    told_at(alloc, schema, rule, &path, text)
 }
 
-// The rule, the path, the configuration and what is expected of a line.
-fn case_of(line: &str) -> Option<(Rule, &str, &str, &str)> {
-    let (rule, rest) = line.split_once(" => ")?;
-    let (path, rest) = rest.split_once(" => ")?;
-    let (text, expected) = rest.split_once(" => ")?;
-    Some((rule_of(rule)?, path, text, expected))
+// The same of a line without the number of its rule.
+fn rule_is_judged(alloc: Global, schema: &Schema, rule: Rule, line: &str) -> Result<(), Fail> {
+    let (path, rest) = parted(line, " => ");
+    let (text, expected) = parted(rest, " => ");
+    let told = told_of(alloc, schema, rule, path, text)?;
+    expect(line, told, expected)
 }
 
 // Whether a line is so.
 fn is_judged(alloc: Global, schema: &Schema, line: &str) -> Result<(), Fail> {
-    let (rule, path, text, expected) = case_of(line).ok_or("no case")?;
-    if is_violated(alloc, schema, rule, path, text)? {
-        return expect(line, "violated", expected);
+    let (number, rest) = parted(line, " => ");
+    match rule_of(number) {
+        None => Err(Fail::new("no rule")),
+        Some(rule) => rule_is_judged(alloc, schema, rule, rest),
     }
-    expect(line, "met", expected)
+}
+
+fn lines_are_judged(alloc: Global, schema: &Schema, lines: &str) -> Result<(), Fail> {
+    for line in lines.lines().skip(1) {
+        is_judged(alloc, schema, line)?;
+    }
+    Ok(())
 }
 
 // Whether each of these lines is so.
 fn are_judged(alloc: Global, lines: &str) -> Result<(), Fail> {
     let schema = schema_of(alloc, MODULE)?;
-    for line in lines.lines().skip(1) {
-        is_judged(alloc, &schema, line)?;
-    }
-    Ok(())
+    lines_are_judged(alloc, &schema, lines)
 }
 
 #[test]

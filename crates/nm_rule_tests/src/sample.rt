@@ -10,16 +10,29 @@ use nm_path::read_path;
 use nm_schema::build;
 use nm_tree::Schema;
 use nm_types::{Chosen, Path, Value};
-use nm_yang::read_module;
-use std::alloc::Global;
+use nm_yang::{Statement, read_module};
+use std::alloc::{AllocError, Global};
 use std::test::Fail;
+
+// The two parts of a line; all of it and nothing where nothing parts it.
+pub fn parted<'a>(line: &'a str, by: &str) -> (&'a str, &'a str) {
+    match line.split_once(by) {
+        Some(pair) => pair,
+        None => (line, ""),
+    }
+}
+
+fn modules_in(alloc: Global, module: &str) -> Result<Vec<Statement>, Fail> {
+    let mut modules = Vec::new(alloc);
+    modules.push(read_module(alloc, module.as_bytes())?)?;
+    Ok(modules)
+}
 
 // The schema of a module.
 pub fn schema_of(alloc: Global, module: &str) -> Result<Schema, Fail>
     ensures { IfOk result (λ schema. IsSound schema.nodes) }
 {
-    let mut modules = Vec::new(alloc);
-    modules.push(read_module(alloc, module.as_bytes())?)?;
+    let modules = modules_in(alloc, module)?;
     match build(alloc, &modules) {
         Ok(schema) => Ok(schema),
         Err(_) => Err(Fail::new("no schema")),
@@ -27,9 +40,14 @@ pub fn schema_of(alloc: Global, module: &str) -> Result<Schema, Fail>
 }
 
 // The text of a module with more behind one of its statements.
-pub fn with_more(alloc: Global, module: &str, place: &str, more: &str) -> Result<String, Fail> {
-    let (before, after) = module.split_once(place).ok_or("no place")?;
-    Ok(format!(in alloc; "{before}{place}{more}{after}")?)
+pub fn with_more(
+    alloc: Global,
+    module: &str,
+    place: &str,
+    more: &str,
+) -> Result<String, AllocError> {
+    let (before, after) = parted(module, place);
+    format!(in alloc; "{before}{place}{more}{after}")
 }
 
 // Numbers that are parted by blanks, as keys.
@@ -43,30 +61,54 @@ fn keys_of(alloc: Global, numbers: &str) -> Result<Vec<Value>, NoMemory> {
     Ok(keys)
 }
 
-// Gives the last step of a path these keys.
-fn choose(path: &mut Path, keys: Vec<Value>) {
+// Gives the last step of a path what is chosen by it.
+pub fn choose(path: &mut Path, chosen: Chosen) {
     if let Some(step) = path.steps.last_mut() {
-        step.chosen = Chosen::Keys(keys);
+        step.chosen = chosen;
     }
+}
+
+// Gives the last step of a path these numbers as keys, if there are any.
+fn choose_by(alloc: Global, path: &mut Path, numbers: &str) -> Result<(), NoMemory> {
+    if numbers != "" {
+        choose(path, Chosen::Keys(keys_of(alloc, numbers)?));
+    }
+    Ok(())
 }
 
 // The path of a text; behind ` by ` come the numbers that its entry has for keys, which are of no type.
 pub fn path_of(alloc: Global, schema: &Schema, text: &str) -> Result<Path, Fail> {
-    let Some((text, numbers)) = text.split_once(" by ") else {
-        return Ok(read_path(alloc, schema, text)?);
-    };
+    let (text, numbers) = parted(text, " by ");
     let mut path = read_path(alloc, schema, text)?;
-    choose(&mut path, keys_of(alloc, numbers)?);
+    choose_by(alloc, &mut path, numbers)?;
     Ok(path)
+}
+
+// The value of a number, and that of an entry where there is none.
+fn value_of(number: &str) -> Result<Value, Fail> {
+    if number == "" {
+        return Ok(Value::Present);
+    }
+    Ok(Value::Int(number.parse::<i128>()?))
 }
 
 // Puts the number behind ` = ` at a path, and an entry where none stands there.
 fn put(alloc: Global, schema: &Schema, row: &str, config: &mut Config) -> Result<(), Fail> {
-    let (text, value) = match row.split_once(" = ") {
-        Some((text, number)) => (text, Value::Int(number.parse::<i128>()?)),
-        None => (row, Value::Present),
-    };
-    config.put(path_of(alloc, schema, text)?, value)?;
+    let (text, number) = parted(row, " = ");
+    let value = value_of(number)?;
+    let path = path_of(alloc, schema, text)?;
+    config.put(path, value)?;
+    Ok(())
+}
+
+// Puts the rows that ` & ` parts, if there are any.
+fn put_all(alloc: Global, schema: &Schema, rows: &str, config: &mut Config) -> Result<(), Fail> {
+    if rows == "" {
+        return Ok(());
+    }
+    for row in rows.split(" & ") {
+        put(alloc, schema, row, config)?;
+    }
     Ok(())
 }
 
@@ -83,13 +125,9 @@ fn read(alloc: Global, schema: &Schema, text: &str) -> Result<Config, Fail> {
 
 // The same with rows behind it, each after ` & `, which no text may give, since their values and keys aren't of their types.
 pub fn config_of(alloc: Global, schema: &Schema, text: &str) -> Result<Config, Fail> {
-    let Some((text, rows)) = text.split_once(" & ") else {
-        return read(alloc, schema, text);
-    };
+    let (text, rows) = parted(text, " & ");
     let mut config = read(alloc, schema, text)?;
-    for row in rows.split(" & ") {
-        put(alloc, schema, row, &mut config)?;
-    }
+    put_all(alloc, schema, rows, &mut config)?;
     Ok(config)
 }
 

@@ -1,5 +1,5 @@
 use crate::least::{are_least, is_least};
-use crate::sample::{schema_of, with_more};
+use crate::sample::{parted, schema_of, with_more};
 use nm_base::Tag;
 use nm_rules::Rule;
 use std::alloc::Global;
@@ -92,27 +92,41 @@ container tls { => {"ez:box":{"srv":[{"id":2}]}} => /ez:box/srv[id='2']/tls/how
 
 // Whether a line is so of the module with the choice behind the statement that the line begins with.
 fn is_chosen(alloc: Global, line: &str) -> Result<(), Fail> {
-    let (place, line) = line.split_once(" => ").ok_or("no line")?;
+    let (place, line) = parted(line, " => ");
     let module = with_more(alloc, MODULE, place, " choice how { mandatory true; }")?;
-    let schema = schema_of(alloc, module.as_str())?;
+    is_chosen_in(alloc, module.as_str(), line)
+}
+
+fn is_chosen_in(alloc: Global, module: &str, line: &str) -> Result<(), Fail> {
+    let schema = schema_of(alloc, module)?;
     is_least(alloc, &schema, Rule::MandatoryChoice, line)
+}
+
+fn are_chosen(alloc: Global, lines: &str) -> Result<(), Fail> {
+    for line in lines.lines().skip(1) {
+        is_chosen(alloc, line)?;
+    }
+    Ok(())
 }
 
 #[test]
 fn missing_choices_are_answered(rt: HostRuntime) -> Result<(), Fail> {
-    for line in CHOSEN.lines().skip(1) {
-        is_chosen(rt.alloc(), line)?;
-    }
-    Ok(())
+    are_chosen(rt.alloc(), CHOSEN)
+}
+
+fn have_numbers() -> bool {
+    Rule::ValueType.number() == 1 && Rule::OneCase.number() == 9
+}
+
+fn have_tags() -> bool {
+    matches!(Rule::Key.tag(), Tag::InvalidValue)
+        && matches!(Rule::Leafref.tag(), Tag::DataMissing)
+        && matches!(Rule::Unique.tag(), Tag::OperationFailed)
 }
 
 // The tags of RFC 7950 section 15, and those of this project.
 #[test]
 fn rules_have_tags(rt: HostRuntime) -> Result<(), Fail> {
-    assert_eq!(rt; Rule::ValueType.number(), 1);
-    assert_eq!(rt; Rule::OneCase.number(), 9);
-    assert!(rt; matches!(Rule::Key.tag(), Tag::InvalidValue));
-    assert!(rt; matches!(Rule::Leafref.tag(), Tag::DataMissing));
-    assert!(rt; matches!(Rule::Unique.tag(), Tag::OperationFailed));
+    assert!(rt; have_numbers() && have_tags());
     Ok(())
 }

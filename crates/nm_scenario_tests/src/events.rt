@@ -1,4 +1,4 @@
-use crate::table::{Teller, fault_text, first_wrong, parsed};
+use crate::table::{OfText, ValueTeller, are_told, done, error_text, holds, parsed, read_text};
 use nm_base::{EditNo, Label, NoMemory};
 use nm_proto::{DefaultOperation, Event, Listed, Request};
 use nm_scenario_events::{
@@ -6,14 +6,12 @@ use nm_scenario_events::{
 };
 use nm_scenario_form::{Number, Reader, Unbuilt};
 use nm_scenario_parts::ReadError;
+use serde_json::Value;
 use std::alloc::Global;
 use std::test::Fail;
 
 // The events of a scenario of one change set, two devices and two operators; an edit is a digit.
-fn read_events(
-    alloc: Global,
-    text: &str,
-) -> Result<Result<Listed<ReadEvent<u64>>, ReadError>, Fail> {
+fn read_events(alloc: Global, whole: &Value) -> Result<Listed<ReadEvent<u64>>, ReadError> {
     let counts = Counts {
         changes: 1,
         devices: 2,
@@ -23,19 +21,15 @@ fn read_events(
         counts: &counts,
         edits: &Number { low: 1, high: 9 },
     };
-    Ok(events.read(alloc, &parsed(alloc, text)?))
+    events.read(alloc, whole)
 }
 
 // `read`, or the first fault.
 struct List;
 
-impl Teller for List {
-    fn told(&self, alloc: Global, text: &str) -> Result<Vec<u8>, Fail> {
-        match read_events(alloc, text)? {
-            Ok(_) => Ok(Vec::from_slice(alloc, b"read")?),
-            Err(ReadError::Bad(fault)) => fault_text(alloc, &fault),
-            Err(ReadError::NoMemory) => Err(Fail::new("memory ran out")),
-        }
+impl ValueTeller for List {
+    fn told_value(&self, alloc: Global, whole: &Value) -> Result<Vec<u8>, Fail> {
+        read_text(alloc, read_events(alloc, whole))
     }
 }
 
@@ -68,8 +62,7 @@ static EVENTS: &str = r#"
 
 #[test]
 fn events_are_told(rt: HostRuntime) -> Result<(), Fail> {
-    assert_eq!(rt; first_wrong(rt.alloc(), &List, EVENTS)?, None);
-    Ok(())
+    are_told(rt.alloc(), &OfText(List), EVENTS)
 }
 
 // What breaks links, moves clocks and ends managers, worked out by hand as before.
@@ -102,15 +95,14 @@ static DISTURBANCES: &str = r#"
 
 #[test]
 fn disturbances_are_told(rt: HostRuntime) -> Result<(), Fail> {
-    assert_eq!(rt; first_wrong(rt.alloc(), &List, DISTURBANCES)?, None);
-    Ok(())
+    are_told(rt.alloc(), &OfText(List), DISTURBANCES)
 }
 
-// The events of a scenario of one device and one operator, whose edits aren't built: `read`, or the first fault.
+// `read`, or the first fault, of the events of a scenario of one device and one operator, whose edits aren't built.
 struct WithoutEdits;
 
-impl Teller for WithoutEdits {
-    fn told(&self, alloc: Global, text: &str) -> Result<Vec<u8>, Fail> {
+impl ValueTeller for WithoutEdits {
+    fn told_value(&self, alloc: Global, whole: &Value) -> Result<Vec<u8>, Fail> {
         let counts = Counts {
             changes: 0,
             devices: 1,
@@ -120,35 +112,36 @@ impl Teller for WithoutEdits {
             counts: &counts,
             edits: &Unbuilt,
         };
-        match events.read(alloc, &parsed(alloc, text)?) {
-            Ok(_) => Ok(Vec::from_slice(alloc, b"read")?),
-            Err(ReadError::Bad(fault)) => fault_text(alloc, &fault),
-            Err(ReadError::NoMemory) => Err(Fail::new("memory ran out")),
-        }
+        read_text(alloc, events.read(alloc, whole))
     }
 }
 
 // Edits that aren't built are told where they stand, whatever they are.
+static UNBUILT: &str = r#"
+[["foreign",1,1,["edit",{"edit":5}]]] => not-built /0/3/1/edit
+"#;
+
 #[test]
 fn unbuilt_edits_are_told(rt: HostRuntime) -> Result<(), Fail> {
-    let text = r#"[["foreign",1,1,["edit",{"edit":5}]]]"#;
-    let told = WithoutEdits.told(rt.alloc(), text)?;
-    assert_eq!(rt; told.as_slice(), b"not-built /0/3/1/edit".as_slice());
-    Ok(())
+    are_told(rt.alloc(), &OfText(WithoutEdits), UNBUILT)
 }
 
-// The default operation that is read, or the kind of the fault.
+// The default operation that is read, or the fault.
 struct TellsOperations;
 
-impl Teller for TellsOperations {
-    fn told(&self, alloc: Global, text: &str) -> Result<Vec<u8>, Fail> {
-        match Operation.read(alloc, &parsed(alloc, text)?) {
-            Ok(operation) => Ok(Vec::from_slice(alloc, word_of(operation).as_bytes())?),
-            Err(ReadError::Bad(fault)) => {
-                Ok(Vec::from_slice(alloc, fault.cause.kind.word().as_bytes())?)
-            }
-            Err(ReadError::NoMemory) => Err(Fail::new("memory ran out")),
-        }
+fn operation_text(
+    alloc: Global,
+    read: Result<DefaultOperation, ReadError>,
+) -> Result<Vec<u8>, Fail> {
+    match read {
+        Ok(operation) => Ok(Vec::from_slice(alloc, word_of(operation).as_bytes())?),
+        Err(error) => error_text(alloc, error),
+    }
+}
+
+impl ValueTeller for TellsOperations {
+    fn told_value(&self, alloc: Global, whole: &Value) -> Result<Vec<u8>, Fail> {
+        operation_text(alloc, Operation.read(alloc, whole))
     }
 }
 
@@ -164,38 +157,52 @@ static OPERATIONS: &str = r#"
 "merge" => merge
 "replace" => replace
 "none" => none
-"create" => bad-value
-7 => bad-value
+"create" => bad-value /
+7 => bad-value /
 "#;
 
 #[test]
 fn default_operations_are_read(rt: HostRuntime) -> Result<(), Fail> {
-    assert_eq!(rt;
-        first_wrong(rt.alloc(), &TellsOperations, OPERATIONS)?,
-        None
-    );
-    Ok(())
+    are_told(rt.alloc(), &OfText(TellsOperations), OPERATIONS)
 }
 
-// The users of two operators, ann and bob.
+fn put_user(alloc: Global, users: &mut Listed<Label>, name: &str) -> Result<(), Fail> {
+    Ok(users.push(Label::new(alloc, name)?)?)
+}
+
+// The users of two operators.
 fn two_users(alloc: Global) -> Result<Listed<Label>, Fail> {
     let mut users = Listed::new(alloc);
-    users.push(Label::new(alloc, "ann")?)?;
-    users.push(Label::new(alloc, "bob")?)?;
+    put_user(alloc, &mut users, "ann")?;
+    put_user(alloc, &mut users, "bob")?;
     Ok(users)
 }
 
-// The events of a text, after one edit that was there; all edits are given too.
-fn numbered(alloc: Global, text: &str) -> Result<(Listed<Event>, Listed<u64>), Fail> {
-    let Ok(reads) = read_events(alloc, text)? else {
-        return Err(Fail::new("refused"));
-    };
-    let users = two_users(alloc)?;
+// The edit that was there before events are numbered.
+fn one_edit(alloc: Global) -> Result<Listed<u64>, Fail> {
     let mut edits = Listed::new(alloc);
     edits.push(3u64)?;
+    Ok(edits)
+}
+
+fn with_users(
+    alloc: Global,
+    users: &Listed<Label>,
+    reads: Listed<ReadEvent<u64>>,
+    edits: &mut Listed<u64>,
+) -> Result<Listed<Event>, Fail> {
     let mut selects = Listed::new(alloc);
-    let events = with_event_numbers(alloc, &users, reads, &mut edits, &mut selects)?;
-    Ok((events, edits))
+    Ok(with_event_numbers(alloc, users, reads, edits, &mut selects)?)
+}
+
+fn events_of(alloc: Global, text: &str) -> Result<Listed<ReadEvent<u64>>, Fail> {
+    done(read_events(alloc, &parsed(alloc, text)?))
+}
+
+// The events of a text, after edits that were there; the edits of the events are put at their end.
+fn numbered(alloc: Global, text: &str, edits: &mut Listed<u64>) -> Result<Listed<Event>, Fail> {
+    let users = two_users(alloc)?;
+    with_users(alloc, &users, events_of(alloc, text)?, edits)
 }
 
 // The user whose session an event opens.
@@ -209,12 +216,19 @@ fn user_at(events: &Listed<Event>, place: usize) -> Option<&str> {
     }
 }
 
+fn opens_for(alloc: Global, edits: &mut Listed<u64>, user: &str) -> Result<(), Fail> {
+    let events = numbered(alloc, r#"[["foreign",2,1,["open"]]]"#, edits)?;
+    holds(user_at(&events, 0) == Some(user), user)
+}
+
+fn session_has_user(alloc: Global) -> Result<(), Fail> {
+    opens_for(alloc, &mut one_edit(alloc)?, "bob")
+}
+
 // A session has the name of its operator's user.
 #[test]
 fn sessions_have_users(rt: HostRuntime) -> Result<(), Fail> {
-    let (events, _) = numbered(rt.alloc(), r#"[["foreign",2,1,["open"]]]"#)?;
-    assert!(rt; user_at(&events, 0) == Some("bob"));
-    Ok(())
+    session_has_user(rt.alloc())
 }
 
 // The laws are functions that do nothing.
@@ -236,23 +250,35 @@ fn edit_at(events: &Listed<Event>, place: usize) -> Option<EditNo> {
     }
 }
 
+fn are_numbered(events: &Listed<Event>) -> bool {
+    events.len() == 3
+        && edit_at(events, 0) == Some(EditNo(1))
+        && edit_at(events, 1).is_none()
+        && edit_at(events, 2) == Some(EditNo(2))
+}
+
+const TWO_EDITS: &str =
+    r#"[["foreign",1,1,["edit",{"edit":5}]],["leave",1,1],["foreign",2,1,["edit",{"edit":7}]]]"#;
+
+fn put_two_edits(alloc: Global, edits: &mut Listed<u64>) -> Result<(), Fail> {
+    let events = numbered(alloc, TWO_EDITS, edits)?;
+    holds(are_numbered(&events), "the numbers of edits")
+}
+
+fn two_edits_are_numbered(alloc: Global) -> Result<(), Fail> {
+    let mut edits = one_edit(alloc)?;
+    put_two_edits(alloc, &mut edits)?;
+    holds(edits.as_slice() == [3u64, 5, 7].as_slice(), "the edits")
+}
+
 // Two edits get the numbers after one that was there.
 #[test]
 fn edits_of_events_are_numbered(rt: HostRuntime) -> Result<(), Fail> {
-    let text =
-        r#"[["foreign",1,1,["edit",{"edit":5}]],["leave",1,1],["foreign",2,1,["edit",{"edit":7}]]]"#;
-    let (events, edits) = numbered(rt.alloc(), text)?;
-    assert_eq!(rt; edits.as_slice(), [3u64, 5, 7].as_slice());
-    assert_eq!(rt; events.len(), 3);
-    assert!(rt; edit_at(&events, 0) == Some(EditNo(1)));
-    assert!(rt; edit_at(&events, 1).is_none());
-    assert!(rt; edit_at(&events, 2) == Some(EditNo(2)));
-    Ok(())
+    two_edits_are_numbered(rt.alloc())
 }
 
 // An edit's number has 32 bits.
 #[test]
 fn edits_have_numbers(rt: HostRuntime) {
-    assert!(rt; edit_number(4, 5) == Ok(EditNo(9)));
-    assert!(rt; edit_number(1, usize::MAX) == Err(NoMemory));
+    assert!(rt; edit_number(4, 5) == Ok(EditNo(9)) && edit_number(1, usize::MAX) == Err(NoMemory));
 }

@@ -1,4 +1,4 @@
-use crate::table::{Teller, fault_text, first_wrong, parsed};
+use crate::table::{OfText, Teller, ValueTeller, are_told, error_text, fault_text, holds};
 use nm_base::Label;
 use nm_scenario_form::reader::fault_told;
 use nm_scenario_form::sample::{
@@ -8,25 +8,9 @@ use nm_scenario_form::sample::{
 use nm_scenario_form::{Above, Number, Reader, Switch, Text};
 use nm_scenario_parts::reader::seen_from_outside;
 use nm_scenario_parts::{Cause, Fault, Inner, InnerPlace, ReadError, ScenarioKind, Step};
+use serde_json::Value;
 use std::alloc::{AllocError, Global};
 use std::test::Fail;
-
-fn edit_text(alloc: Global, edit: &SampleEdit) -> Result<String, AllocError> {
-    format!(in alloc; "{}{}", edit.device, if edit.forced { "!" } else { "" })
-}
-
-fn event_text(alloc: Global, event: &SampleEvent) -> Result<String, AllocError> {
-    match event {
-        SampleEvent::Submit { device } => format!(in alloc; "submit {}", *device),
-        SampleEvent::Round { device, turns } => format!(in alloc; "round {} {}", *device, *turns),
-        SampleEvent::Commit { confirmed, timeout } => {
-            let word = if *confirmed { "confirm" } else { "commit" };
-            format!(in alloc; "{word} {}", timeout.unwrap_or(0))
-        }
-        SampleEvent::Ask { pair } => format!(in alloc; "ask {} {}", pair.device, pair.number),
-        SampleEvent::Rest => String::from_str(alloc, "rest"),
-    }
-}
 
 // A sign, and a part after it.
 fn append(text: &mut String, sign: &str, part: &str) -> Result<(), AllocError> {
@@ -41,39 +25,86 @@ fn append_devices(text: &mut String, sample: &Sample) -> Result<(), AllocError> 
     Ok(())
 }
 
+fn append_edit(alloc: Global, text: &mut String, edit: &SampleEdit) -> Result<(), AllocError> {
+    let forced = if edit.forced { "!" } else { "" };
+    append(
+        text,
+        "; ",
+        format!(in alloc; "{}{forced}", edit.device)?.as_str(),
+    )
+}
+
 fn append_edits(alloc: Global, text: &mut String, sample: &Sample) -> Result<(), AllocError> {
     for edit in sample.edits.as_slice() {
-        append(text, "; ", edit_text(alloc, edit)?.as_str())?;
+        append_edit(alloc, text, edit)?;
     }
     Ok(())
+}
+
+fn commit_word(confirmed: bool) -> &'static str {
+    if confirmed { "confirm" } else { "commit" }
+}
+
+// The word of an event and its numbers.
+fn numbers_of(event: &SampleEvent) -> (&'static str, Option<u64>, Option<u64>) {
+    match event {
+        SampleEvent::Submit { device } => ("submit", Some(*device), None),
+        SampleEvent::Round { device, turns } => ("round", Some(*device), Some(*turns)),
+        SampleEvent::Commit { confirmed, timeout } => {
+            (commit_word(*confirmed), Some(timeout.unwrap_or(0)), None)
+        }
+        SampleEvent::Ask { pair } => ("ask", Some(pair.device), Some(pair.number)),
+        SampleEvent::Rest => ("rest", None, None),
+    }
+}
+
+fn append_number(alloc: Global, text: &mut String, number: Option<u64>) -> Result<(), AllocError> {
+    match number {
+        None => Ok(()),
+        Some(number) => append(text, " ", format!(in alloc; "{number}")?.as_str()),
+    }
+}
+
+fn append_event(alloc: Global, text: &mut String, event: &SampleEvent) -> Result<(), AllocError> {
+    let (word, first, second) = numbers_of(event);
+    append(text, "; ", word)?;
+    append_number(alloc, text, first)?;
+    append_number(alloc, text, second)
 }
 
 fn append_events(alloc: Global, text: &mut String, sample: &Sample) -> Result<(), AllocError> {
     for event in sample.events.as_slice() {
-        append(text, "; ", event_text(alloc, event)?.as_str())?;
+        append_event(alloc, text, event)?;
     }
     Ok(())
 }
 
+fn append_parts(alloc: Global, text: &mut String, sample: &Sample) -> Result<(), AllocError> {
+    append_devices(text, sample)?;
+    append_edits(alloc, text, sample)?;
+    append_events(alloc, text, sample)
+}
+
 // A scenario as `600 a b; 1; 2!; submit 1; rest`.
-fn sample_text(alloc: Global, sample: &Sample) -> Result<String, AllocError> {
+fn sample_text(alloc: Global, sample: &Sample) -> Result<Vec<u8>, Fail> {
     let mut text = format!(in alloc; "{}", sample.timeout)?;
-    append_devices(&mut text, sample)?;
-    append_edits(alloc, &mut text, sample)?;
-    append_events(alloc, &mut text, sample)?;
-    Ok(text)
+    append_parts(alloc, &mut text, sample)?;
+    Ok(text.into_bytes())
+}
+
+fn told_sample(alloc: Global, read: Result<Sample, ReadError>) -> Result<Vec<u8>, Fail> {
+    match read {
+        Ok(sample) => sample_text(alloc, &sample),
+        Err(error) => error_text(alloc, error),
+    }
 }
 
 // What is read, or the first fault.
 struct Whole;
 
-impl Teller for Whole {
-    fn told(&self, alloc: Global, text: &str) -> Result<Vec<u8>, Fail> {
-        match read_sample(alloc, &parsed(alloc, text)?) {
-            Ok(sample) => Ok(sample_text(alloc, &sample)?.into_bytes()),
-            Err(ReadError::Bad(fault)) => fault_text(alloc, &fault),
-            Err(ReadError::NoMemory) => Err(Fail::new("memory ran out")),
-        }
+impl ValueTeller for Whole {
+    fn told_value(&self, alloc: Global, whole: &Value) -> Result<Vec<u8>, Fail> {
+        told_sample(alloc, read_sample(alloc, whole))
     }
 }
 
@@ -98,8 +129,7 @@ null => bad-value /
 
 #[test]
 fn members_are_told(rt: HostRuntime) -> Result<(), Fail> {
-    assert_eq!(rt; first_wrong(rt.alloc(), &Whole, MEMBERS)?, None);
-    Ok(())
+    are_told(rt.alloc(), &OfText(Whole), MEMBERS)
 }
 
 // A list of one to four texts of one to eight bytes each.
@@ -118,8 +148,7 @@ static DEVICES: &str = r#"
 
 #[test]
 fn devices_are_told(rt: HostRuntime) -> Result<(), Fail> {
-    assert_eq!(rt; first_wrong(rt.alloc(), &Whole, DEVICES)?, None);
-    Ok(())
+    are_told(rt.alloc(), &OfText(Whole), DEVICES)
 }
 
 // What a scenario of two devices says of its edits.
@@ -128,7 +157,7 @@ struct TellsEdits;
 impl Teller for TellsEdits {
     fn told(&self, alloc: Global, text: &str) -> Result<Vec<u8>, Fail> {
         let whole = format!(in alloc; "{{\"devices\":[\"a\",\"b\"],\"edits\":{text}}}")?;
-        Whole.told(alloc, whole.as_str())
+        OfText(Whole).told(alloc, whole.as_str())
     }
 }
 
@@ -151,8 +180,7 @@ static EDITS: &str = r#"
 
 #[test]
 fn edits_are_told(rt: HostRuntime) -> Result<(), Fail> {
-    assert_eq!(rt; first_wrong(rt.alloc(), &TellsEdits, EDITS)?, None);
-    Ok(())
+    are_told(rt.alloc(), &TellsEdits, EDITS)
 }
 
 // What a scenario of two devices says of its events.
@@ -161,7 +189,7 @@ struct TellsEvents;
 impl Teller for TellsEvents {
     fn told(&self, alloc: Global, text: &str) -> Result<Vec<u8>, Fail> {
         let whole = format!(in alloc; "{{\"devices\":[\"a\",\"b\"],\"events\":{text}}}")?;
-        Whole.told(alloc, whole.as_str())
+        OfText(Whole).told(alloc, whole.as_str())
     }
 }
 
@@ -201,8 +229,7 @@ static EVENTS: &str = r#"
 
 #[test]
 fn events_are_told(rt: HostRuntime) -> Result<(), Fail> {
-    assert_eq!(rt; first_wrong(rt.alloc(), &TellsEvents, EVENTS)?, None);
-    Ok(())
+    are_told(rt.alloc(), &TellsEvents, EVENTS)
 }
 
 // At most 2000 turns: a round with right numbers weighs its turns, whatever else stands there weighs one.
@@ -217,45 +244,66 @@ static WEIGHTS: &str = r#"
 
 #[test]
 fn weights_are_counted(rt: HostRuntime) -> Result<(), Fail> {
-    assert_eq!(rt; first_wrong(rt.alloc(), &TellsEvents, WEIGHTS)?, None);
-    Ok(())
+    are_told(rt.alloc(), &TellsEvents, WEIGHTS)
 }
 
-// A fault that a reader of modules told, seen from the item 3 in which it stands.
-fn lower_fault(alloc: Global) -> Result<Fault, Fail> {
+fn lower_cause(alloc: Global) -> Result<Cause, Fail> {
     let inner = Inner {
         what: Label::new(alloc, "bad-keyword")?,
         about: None,
         place: InnerPlace::Byte(17),
     };
-    let cause = Cause {
+    Ok(Cause {
         kind: ScenarioKind::Yang,
         inner: Some(inner),
-    };
-    let told: Result<(), ReadError> = fault_told(alloc, cause);
-    match told.map_err(|error| seen_from_outside::<()>(error, Step::Item(3))) {
-        Err(Err(ReadError::Bad(fault))) => Ok(fault),
+    })
+}
+
+// What was read, seen from the item 3 in which it stands.
+fn further_out(read: Result<(), ReadError>) -> Result<(), ReadError> {
+    match read {
+        Ok(()) => Ok(()),
+        Err(error) => seen_from_outside(error, Step::Item(3)),
+    }
+}
+
+fn fault_of(read: Result<(), ReadError>) -> Result<Fault, Fail> {
+    match read {
+        Err(ReadError::Bad(fault)) => Ok(fault),
         _ => Err(Fail::new("a fault is lost")),
     }
 }
 
+// A fault that a reader of modules told, from further out.
+fn lower_fault(alloc: Global) -> Result<Fault, Fail> {
+    let cause = lower_cause(alloc)?;
+    fault_of(further_out(fault_told(alloc, cause)))
+}
+
+fn is_inner(inner: &Inner) -> bool {
+    inner.what.as_str() == "bad-keyword" && matches!(inner.place, InnerPlace::Byte(17))
+}
+
 fn is_kept(fault: &Fault) -> bool {
-    match &fault.cause.inner {
-        Some(inner) => {
-            inner.what.as_str() == "bad-keyword" && matches!(inner.place, InnerPlace::Byte(17))
-        }
-        None => false,
-    }
+    fault.cause.inner.as_ref().is_some_and(is_inner)
+}
+
+fn is_kept_at(alloc: Global, fault: &Fault) -> Result<(), Fail> {
+    let text = fault_text(alloc, fault)?;
+    holds(
+        is_kept(fault) && text.as_slice() == b"yang /3".as_slice(),
+        "a fault",
+    )
+}
+
+fn lower_fault_is_kept(alloc: Global) -> Result<(), Fail> {
+    is_kept_at(alloc, &lower_fault(alloc)?)
 }
 
 // A fault keeps what a lower reader told, however far out it is seen.
 #[test]
 fn lower_faults_are_kept(rt: HostRuntime) -> Result<(), Fail> {
-    let fault = lower_fault(rt.alloc())?;
-    assert!(rt; is_kept(&fault));
-    let text = fault_text(rt.alloc(), &fault)?;
-    assert_eq!(rt; text.as_slice(), b"yang /3".as_slice());
-    Ok(())
+    lower_fault_is_kept(rt.alloc())
 }
 
 // The laws are functions that do nothing.
@@ -266,27 +314,45 @@ fn laws_do_nothing() {
     events_are_kept();
 }
 
-// Which readers of leafs read a text: a letter for each, `y` where it does.
-struct TellsLeafs;
-
-impl Teller for TellsLeafs {
-    fn told(&self, alloc: Global, text: &str) -> Result<Vec<u8>, Fail> {
-        let letters = [
-            letter(alloc, text, &Number { low: 1, high: 2 })?,
-            letter(alloc, text, &Above { below: 1, high: 3 })?,
-            letter(alloc, text, &Text { low: 1, high: 2 })?,
-            letter(alloc, text, &Switch)?,
-        ];
-        Ok(Vec::from_slice(alloc, &letters)?)
+fn no_letter(error: ReadError) -> Result<u8, Fail> {
+    match error {
+        ReadError::Bad(_) => Ok(b'n'),
+        ReadError::NoMemory => Err(Fail::new("memory ran out")),
     }
 }
 
 // A reader of leafs, through its bound.
-fn letter<R: Reader>(alloc: Global, text: &str, reader: &R) -> Result<u8, Fail> {
-    match reader.read(alloc, &parsed(alloc, text)?) {
+fn letter<R: Reader>(alloc: Global, value: &Value, reader: &R) -> Result<u8, Fail> {
+    match reader.read(alloc, value) {
         Ok(_) => Ok(b'y'),
-        Err(ReadError::Bad(_)) => Ok(b'n'),
-        Err(ReadError::NoMemory) => Err(Fail::new("memory ran out")),
+        Err(error) => no_letter(error),
+    }
+}
+
+fn number_letters(alloc: Global, value: &Value) -> Result<(u8, u8), Fail> {
+    let number = letter(alloc, value, &Number { low: 1, high: 2 })?;
+    let above = letter(alloc, value, &Above { below: 1, high: 3 })?;
+    Ok((number, above))
+}
+
+fn other_letters(alloc: Global, value: &Value) -> Result<(u8, u8), Fail> {
+    let text = letter(alloc, value, &Text { low: 1, high: 2 })?;
+    let switch = letter(alloc, value, &Switch)?;
+    Ok((text, switch))
+}
+
+fn letters(alloc: Global, value: &Value) -> Result<Vec<u8>, Fail> {
+    let (number, above) = number_letters(alloc, value)?;
+    let (text, switch) = other_letters(alloc, value)?;
+    Ok(Vec::from_slice(alloc, &[number, above, text, switch])?)
+}
+
+// Which readers of leafs read a text: a letter for each, `y` where it does.
+struct TellsLeafs;
+
+impl ValueTeller for TellsLeafs {
+    fn told_value(&self, alloc: Global, whole: &Value) -> Result<Vec<u8>, Fail> {
+        letters(alloc, whole)
     }
 }
 
@@ -306,6 +372,5 @@ false => nnny
 
 #[test]
 fn leafs_are_read(rt: HostRuntime) -> Result<(), Fail> {
-    assert_eq!(rt; first_wrong(rt.alloc(), &TellsLeafs, LEAFS)?, None);
-    Ok(())
+    are_told(rt.alloc(), &OfText(TellsLeafs), LEAFS)
 }

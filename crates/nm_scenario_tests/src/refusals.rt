@@ -1,6 +1,6 @@
-use crate::table::{Teller, first_wrong};
+use crate::table::{Teller, are_told};
 use nm_refusals::*;
-use nm_scenario::ReadError;
+use nm_scenario::{Fault, ReadError};
 use std::alloc::Global;
 use std::test::Fail;
 
@@ -9,15 +9,27 @@ struct Whole;
 
 impl Teller for Whole {
     fn told(&self, alloc: Global, text: &str) -> Result<Vec<u8>, Fail> {
-        match read_scenario(alloc, text.as_bytes()) {
-            Ok(_) => Ok(Vec::from_slice(alloc, b"read")?),
-            Err(ReadError::Bad(fault)) => {
-                let steps = fault.place.len();
-                Ok(format!(in alloc; "{} {steps}", fault.cause.kind.word())?.into_bytes())
-            }
-            Err(ReadError::NoMemory) => Err(Fail::new("memory ran out")),
-        }
+        counted(alloc, read_scenario(alloc, text.as_bytes()))
     }
+}
+
+fn counted<T: Drop>(alloc: Global, read: Result<T, ReadError>) -> Result<Vec<u8>, Fail> {
+    match read {
+        Ok(_) => Ok(Vec::from_slice(alloc, b"read")?),
+        Err(error) => error_steps(alloc, &error),
+    }
+}
+
+fn error_steps(alloc: Global, error: &ReadError) -> Result<Vec<u8>, Fail> {
+    match error {
+        ReadError::Bad(fault) => steps_text(alloc, fault),
+        ReadError::NoMemory => Err(Fail::new("memory ran out")),
+    }
+}
+
+fn steps_text(alloc: Global, fault: &Fault) -> Result<Vec<u8>, Fail> {
+    let word = fault.cause.kind.word();
+    Ok(format!(in alloc; "{word} {}", fault.place.len())?.into_bytes())
 }
 
 // The examples of docs/FORMATS.md, "Faults".
@@ -34,8 +46,7 @@ static FAULTS: &str = r#"
 
 #[test]
 fn faults_are_told(rt: HostRuntime) -> Result<(), Fail> {
-    assert_eq!(rt; first_wrong(rt.alloc(), &Whole, FAULTS)?, None);
-    Ok(())
+    are_told(rt.alloc(), &Whole, FAULTS)
 }
 
 // The laws are functions that do nothing.

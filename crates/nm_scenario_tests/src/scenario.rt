@@ -1,10 +1,9 @@
-use crate::table::{Teller, fault_text, first_wrong, parsed};
+use crate::table::{Teller, are_told, done, holds, parsed, read_text};
 use nm_base::{DeviceNo, EditNo, Label};
 use nm_proto::{DefaultOperation, Event, PlannedEdit, Request};
-use nm_scenario::head::{Head, parts_of, read_head};
-use nm_scenario::{Body, Fault, ReadError, Scenario, read_scenario};
-use nm_scenario_parts::InnerPlace;
-use serde_json::Value;
+use nm_scenario::head::{Head, ModuleParts, parts_of, read_head};
+use nm_scenario::{Body, ReadError, Scenario, read_scenario};
+use nm_scenario_parts::{Cause, Inner, InnerPlace};
 use std::alloc::Global;
 use std::test::Fail;
 
@@ -13,11 +12,7 @@ struct Whole;
 
 impl Teller for Whole {
     fn told(&self, alloc: Global, text: &str) -> Result<Vec<u8>, Fail> {
-        match read_scenario(alloc, text.as_bytes()) {
-            Ok(_) => Ok(Vec::from_slice(alloc, b"read")?),
-            Err(ReadError::Bad(fault)) => fault_text(alloc, &fault),
-            Err(ReadError::NoMemory) => Err(Fail::new("memory ran out")),
-        }
+        read_text(alloc, read_scenario(alloc, text.as_bytes()))
     }
 }
 
@@ -50,8 +45,7 @@ static CASES: &str = r#"
 
 #[test]
 fn faults_are_told(rt: HostRuntime) -> Result<(), Fail> {
-    assert_eq!(rt; first_wrong(rt.alloc(), &Whole, CASES)?, None);
-    Ok(())
+    are_told(rt.alloc(), &Whole, CASES)
 }
 
 // What a reader of modules, configurations or edits told: its word, what that is about, and the place.
@@ -59,27 +53,42 @@ struct TellsInside;
 
 impl Teller for TellsInside {
     fn told(&self, alloc: Global, text: &str) -> Result<Vec<u8>, Fail> {
-        match read_scenario(alloc, text.as_bytes()) {
-            Err(ReadError::Bad(fault)) => Ok(inner_text(alloc, &fault)?.into_bytes()),
-            _ => Err(Fail::new("no fault")),
-        }
+        inside(alloc, read_scenario(alloc, text.as_bytes()))
     }
 }
 
-fn inner_text(alloc: Global, fault: &Fault) -> Result<String, Fail> {
-    match &fault.cause.inner {
-        None => Ok(String::from_str(alloc, "nothing")?),
-        Some(inner) => {
-            let about = inner.about.as_ref().map_or("-", Label::as_str);
-            told_at(alloc, inner.what.as_str(), about, &inner.place)
-        }
+fn inside<T: Drop>(alloc: Global, read: Result<T, ReadError>) -> Result<Vec<u8>, Fail> {
+    match read {
+        Ok(_) => Err(Fail::new("no fault")),
+        Err(error) => inside_text(alloc, &error),
     }
 }
 
-fn told_at(alloc: Global, what: &str, about: &str, place: &InnerPlace) -> Result<String, Fail> {
+fn inside_text(alloc: Global, error: &ReadError) -> Result<Vec<u8>, Fail> {
+    match error {
+        ReadError::Bad(fault) => cause_text(alloc, &fault.cause),
+        ReadError::NoMemory => Err(Fail::new("memory ran out")),
+    }
+}
+
+fn cause_text(alloc: Global, cause: &Cause) -> Result<Vec<u8>, Fail> {
+    match &cause.inner {
+        None => Ok(Vec::from_slice(alloc, b"nothing")?),
+        Some(inner) => inner_text(alloc, inner),
+    }
+}
+
+fn inner_text(alloc: Global, inner: &Inner) -> Result<Vec<u8>, Fail> {
+    let what = inner.what.as_str();
+    let about = inner.about.as_ref().map_or("-", Label::as_str);
+    let place = place_text(alloc, &inner.place)?;
+    Ok(format!(in alloc; "{what} {about} {place}")?.into_bytes())
+}
+
+fn place_text(alloc: Global, place: &InnerPlace) -> Result<String, Fail> {
     match place {
-        InnerPlace::Byte(place) => Ok(format!(in alloc; "{what} {about} {place}")?),
-        InnerPlace::Path(path) => Ok(format!(in alloc; "{what} {about} {}", path.as_str())?),
+        InnerPlace::Byte(place) => Ok(format!(in alloc; "{place}")?),
+        InnerPlace::Path(path) => Ok(String::from_str(alloc, path.as_str())?),
     }
 }
 
@@ -96,8 +105,7 @@ static INSIDE: &str = r#"
 
 #[test]
 fn lower_readers_are_told(rt: HostRuntime) -> Result<(), Fail> {
-    assert_eq!(rt; first_wrong(rt.alloc(), &TellsInside, INSIDE)?, None);
-    Ok(())
+    are_told(rt.alloc(), &TellsInside, INSIDE)
 }
 
 const CHANGED: &str =
@@ -112,11 +120,14 @@ fn planned(number: u32) -> Option<PlannedEdit> {
     })
 }
 
-fn scenario_of(alloc: Global, text: &str) -> Result<Scenario, Fail> {
-    match read_scenario(alloc, text.as_bytes()) {
-        Ok(scenario) => Ok(scenario),
-        Err(_) => Err(Fail::new("refused")),
-    }
+// What is asked of a scenario.
+trait Ask {
+    fn is_so(&self, scenario: &Scenario) -> bool;
+}
+
+fn is_read<T: Ask>(alloc: Global, text: &str, ask: &T) -> Result<(), Fail> {
+    let scenario = done(read_scenario(alloc, text.as_bytes()))?;
+    holds(ask.is_so(&scenario), text)
 }
 
 // The timeout of a change set, and one of its edits.
@@ -129,30 +140,43 @@ fn change_set(
     Some((plan.timeout, plan.edits.get(edit).copied()))
 }
 
-// The second edit of the first change set has the number 1, and that of the second the next one, though no device takes it.
-// Operators and what happens to devices may stand beside change sets.
-#[test]
-fn change_sets_are_read(rt: HostRuntime) -> Result<(), Fail> {
-    let scenario = scenario_of(rt.alloc(), CHANGED)?;
-    assert!(rt; change_set(&scenario, 0, 1) == Some((5, planned(1))));
-    assert!(rt; change_set(&scenario, 1, 0) == Some((600, planned(2))));
-    assert_eq!(rt; scenario.operators.len(), 1);
-    assert_eq!(rt; scenario.events.len(), 2);
-    Ok(())
+// Whether an edit of a change set has a number, and the change set a timeout.
+fn is_planned(scenario: &Scenario, change: usize, edit: usize, timeout: u32, number: u32) -> bool {
+    change_set(scenario, change, edit) == Some((timeout, planned(number)))
 }
 
-// Whether a scenario asks for rest, and for a trace.
-fn asked_of(alloc: Global, text: &str) -> Result<(bool, bool), Fail> {
-    let scenario = scenario_of(alloc, text)?;
-    Ok((scenario.drain, scenario.trace))
+// The second edit of the first change set has the number 1, and that of the second the next one, though no device takes it.
+// Operators and what happens to devices may stand beside change sets.
+struct ChangeSets;
+
+impl Ask for ChangeSets {
+    fn is_so(&self, scenario: &Scenario) -> bool {
+        is_planned(scenario, 0, 1, 5, 1)
+            && is_planned(scenario, 1, 0, 600, 2)
+            && scenario.operators.len() == 1
+            && scenario.events.len() == 2
+    }
+}
+
+#[test]
+fn change_sets_are_read(rt: HostRuntime) -> Result<(), Fail> {
+    is_read(rt.alloc(), CHANGED, &ChangeSets)
+}
+
+// Whether a scenario asks for rest or not, and not for a trace.
+struct Rest(bool);
+
+impl Ask for Rest {
+    fn is_so(&self, scenario: &Scenario) -> bool {
+        scenario.drain == self.0 && !scenario.trace
+    }
 }
 
 // A world is brought to rest where that is asked for.
 #[test]
 fn drain_is_read(rt: HostRuntime) -> Result<(), Fail> {
-    assert_eq!(rt; asked_of(rt.alloc(), CHANGED)?, (true, false));
-    assert_eq!(rt; asked_of(rt.alloc(), OPERATED)?, (false, false));
-    Ok(())
+    is_read(rt.alloc(), CHANGED, &Rest(true))?;
+    is_read(rt.alloc(), OPERATED, &Rest(false))
 }
 
 const OPERATED: &str =
@@ -170,66 +194,99 @@ fn first_user(scenario: &Scenario) -> Option<&str> {
 }
 
 // The user of a session is that of the operator who opens it.
+struct User;
+
+impl Ask for User {
+    fn is_so(&self, scenario: &Scenario) -> bool {
+        first_user(scenario) == Some("bob")
+    }
+}
+
 #[test]
 fn requests_are_read(rt: HostRuntime) -> Result<(), Fail> {
-    let scenario = scenario_of(rt.alloc(), OPERATED)?;
-    assert!(rt; first_user(&scenario) == Some("bob"));
-    Ok(())
+    is_read(rt.alloc(), OPERATED, &User)
 }
 
 const YANG: &str =
     r#"{"netm":1,"contents":"yang","modules":["module l {namespace 'u:l';prefix l;leaf-list n {type uint32;}}","module m {namespace 'u:m';prefix m;}"],"devices":[{"running":{}},{"running":{"l:n":[3,2,1]}}],"changes":[{"edits":[{"device":1,"default":"replace","edit":{"l:n":[4,5]}}]}],"operators":[{"user":"ann"}],"events":[["foreign",1,2,["edit",{"edit":{"l:n":[3],"@l:n":[{"ietf-netconf:operation":"delete"}]}}]]]}"#;
 
-// How many modules there are, how many rows the second device has, and how many nodes each edit: that of the change set first.
-fn counts(scenario: &Scenario) -> Option<(usize, usize, usize, usize)> {
+// How many modules there are, and how many rows the second device has.
+fn counts(scenario: &Scenario) -> Option<(usize, usize)> {
     match &scenario.body {
         Body::Yang {
             modules,
             devices,
-            edits,
             ..
-        } => {
-            let change_set = edits.get(0)?.nodes.len();
-            let event = edits.get(1)?.nodes.len();
-            Some((modules.len(), devices.get(1)?.len(), change_set, event))
-        }
+        } => Some((modules.len(), devices.get(1)?.len())),
         Body::Flat { .. } => None,
+    }
+}
+
+// How many nodes an edit has; that of the change set is the first.
+fn node_count(scenario: &Scenario, edit: usize) -> Option<usize> {
+    match &scenario.body {
+        Body::Yang { edits, .. } => Some(edits.get(edit)?.nodes.len()),
+        Body::Flat { .. } => None,
+    }
+}
+
+fn operation_of(scenario: &Scenario) -> Option<DefaultOperation> {
+    let edit = scenario.changes.get(0)?.edits.get(0)?;
+    Some(edit.default_operation)
+}
+
+struct YangContents;
+
+impl Ask for YangContents {
+    fn is_so(&self, scenario: &Scenario) -> bool {
+        counts(scenario) == Some((2, 3))
+            && node_count(scenario, 0) == Some(2)
+            && node_count(scenario, 1) == Some(1)
+            && operation_of(scenario) == Some(DefaultOperation::Replace)
     }
 }
 
 #[test]
 fn yang_contents_are_read(rt: HostRuntime) -> Result<(), Fail> {
-    let scenario = scenario_of(rt.alloc(), YANG)?;
-    assert!(rt; counts(&scenario) == Some((2, 3, 2, 1)));
-    let planned = change_set(&scenario, 0, 0).and_then(|(_, edit)| edit);
-    let operation = planned.map(|edit| edit.default_operation);
-    assert!(rt; operation == Some(DefaultOperation::Replace));
-    Ok(())
+    is_read(rt.alloc(), YANG, &YangContents)
 }
 
-// The text of a module of YANG contents, and how many modules have statements.
-fn head_of(alloc: Global, whole: &Value, module: usize) -> Result<(String, usize), Fail> {
-    let Ok(Head::Yang { modules }) = read_head(alloc, whole) else {
-        return Err(Fail::new("no YANG contents"));
-    };
-    let parts = parts_of(alloc, modules)?;
-    let text = parts.texts.get(module).map_or("", |text| text.as_str());
-    Ok((String::from_str(alloc, text)?, parts.statements.len()))
+fn head_of(alloc: Global, text: &str) -> Result<Head, Fail> {
+    done(read_head(alloc, &parsed(alloc, text)?))
+}
+
+fn parts_in(alloc: Global, head: Head) -> Result<ModuleParts, Fail> {
+    match head {
+        Head::Yang { modules } => Ok(parts_of(alloc, modules)?),
+        Head::Flat => Err(Fail::new("no YANG contents")),
+    }
+}
+
+fn text_at(parts: &ModuleParts, module: usize) -> &str {
+    parts.texts.get(module).map_or("", Label::as_str)
+}
+
+fn are_two(parts: &ModuleParts) -> bool {
+    text_at(parts, 1) == "module m {namespace 'u:m';prefix m;}" && parts.statements.len() == 2
+}
+
+fn modules_are_read(alloc: Global) -> Result<(), Fail> {
+    let head = head_of(alloc, YANG)?;
+    holds(are_two(&parts_in(alloc, head)?), "modules")
 }
 
 // The head of YANG contents has the texts and the statements of its modules.
 #[test]
 fn heads_are_read(rt: HostRuntime) -> Result<(), Fail> {
-    let whole = parsed(rt.alloc(), YANG)?;
-    let (text, statements) = head_of(rt.alloc(), &whole, 1)?;
-    assert_eq!(rt; text.as_str(), "module m {namespace 'u:m';prefix m;}");
-    assert_eq!(rt; statements, 2);
-    Ok(())
+    modules_are_read(rt.alloc())
+}
+
+fn flat_is_read(alloc: Global) -> Result<(), Fail> {
+    let head = head_of(alloc, CHANGED)?;
+    holds(matches!(head, Head::Flat), "a flat head")
 }
 
 #[test]
 fn flat_heads_are_read(rt: HostRuntime) -> Result<(), Fail> {
-    let whole = parsed(rt.alloc(), CHANGED)?;
-    assert!(rt; matches!(read_head(rt.alloc(), &whole), Ok(Head::Flat)));
-    Ok(())
+    flat_is_read(rt.alloc())
 }

@@ -3,6 +3,7 @@ pub mod Looking
 pub mod Parting
 pub mod Fitting
 pub mod Ways
+pub mod Left
 pub mod Marking
 pub mod Keeping
 pub mod Flawing

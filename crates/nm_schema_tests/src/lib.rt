@@ -6,4 +6,8 @@
 #[cfg(test)]
 mod flaws;
 #[cfg(test)]
+mod modules;
+#[cfg(test)]
 mod schema;
+#[cfg(test)]
+mod tables;

@@ -1,130 +1,194 @@
+use crate::modules::{Body, modules_in, put_flaw};
+use crate::tables::{Tells, check, number_in};
 use nm_base::{NoMemory, Numbers};
 use nm_schema::{SchemaFault, build, laws};
-use nm_schema_rows::Flaw;
-use nm_tree::{Elements, Node, NodeKind, Reference, Schema};
+use nm_tree::{CaseNode, ChoiceNode, Elements, Node, NodeKind, Reference, Schema};
 use nm_types::{LeafType, TypeKind, Value, write_value};
-use nm_yang::read_module;
+use nm_yang::Statement;
 use std::alloc::{AllocError, Global};
 use std::test::Fail;
 
-fn kind_text(alloc: Global, kind: &TypeKind) -> Result<String, AllocError> {
+// What is told of a tree.
+trait Shows {
+    fn show(&self, alloc: Global, text: &mut String, schema: &Schema) -> Result<(), NoMemory>;
+}
+
+fn put_fault(text: &mut String, fault: &SchemaFault) -> Result<(), AllocError> {
+    match fault {
+        SchemaFault::Flawed {
+            flaw,
+            module,
+            place,
+        } => {
+            put_flaw(text, flaw)?;
+            write!(text, " at {module} {place}")
+        }
+        SchemaFault::TooLarge { module, place } => write!(text, "too-large at {module} {place}"),
+        SchemaFault::NoMemory => text.push_str("no memory"),
+    }
+}
+
+// What is told of the tree of modules, or what is wrong with them.
+#[derive(Drop)]
+struct Built<T>(T);
+
+impl<T: Shows> Built<T> {
+    fn tell_modules(
+        &self,
+        alloc: Global,
+        text: &mut String,
+        modules: &[Statement],
+    ) -> Result<(), NoMemory> {
+        match build(alloc, modules) {
+            Ok(schema) => self.0.show(alloc, text, &schema),
+            Err(fault) => Ok(put_fault(text, &fault)?),
+        }
+    }
+}
+
+impl<T: Shows> Tells for Built<T> {
+    fn tell(&self, alloc: Global, text: &mut String, asked: &str) -> Result<(), Fail> {
+        let modules = modules_in(alloc, asked)?;
+        Ok(self.tell_modules(alloc, text, &modules)?)
+    }
+}
+
+fn put_kind(text: &mut String, kind: &TypeKind) -> Result<(), AllocError> {
     match kind {
-        TypeKind::Integer { low, high } => format!(in alloc; "integer {low}..{high}"),
-        TypeKind::Decimal { digits } => format!(in alloc; "decimal {digits}"),
-        TypeKind::Boolean => String::from_str(alloc, "boolean"),
-        TypeKind::Text => String::from_str(alloc, "string"),
-        TypeKind::Names(names) => {
-            let count = names.as_slice().len();
-            format!(in alloc; "enumeration of {count}")
-        }
-        TypeKind::Bits(bits) => {
-            let count = bits.as_slice().len();
-            format!(in alloc; "bits of {count}")
-        }
-        TypeKind::Empty => String::from_str(alloc, "empty"),
+        TypeKind::Integer { low, high } => write!(text, "integer {low}..{high}"),
+        TypeKind::Decimal { digits } => write!(text, "decimal {digits}"),
+        TypeKind::Boolean => text.push_str("boolean"),
+        TypeKind::Text => text.push_str("string"),
+        TypeKind::Names(names) => write!(text, "enumeration of {}", names.as_slice().len()),
+        TypeKind::Bits(bits) => write!(text, "bits of {}", bits.as_slice().len()),
+        TypeKind::Empty => text.push_str("empty"),
     }
 }
 
 // A type with its range or length, if it has one.
-fn type_text(alloc: Global, leaf_type: &LeafType) -> Result<String, AllocError> {
-    let mut text = kind_text(alloc, &leaf_type.kind)?;
+fn put_type(text: &mut String, leaf_type: &LeafType) -> Result<(), AllocError> {
+    put_kind(text, &leaf_type.kind)?;
     let Some(parts) = &leaf_type.limits else {
-        return Ok(text);
+        return Ok(());
     };
-    for part in parts.as_slice() {
-        let (low, high) = *part;
-        let more = format!(in alloc; " {low}..{high}")?;
-        text.push_str(more.as_str())?;
+    for (low, high) in parts.as_slice() {
+        write!(text, " {low}..{high}")?;
     }
-    Ok(text)
+    Ok(())
 }
 
-fn number_text(alloc: Global, word: &str, number: Option<u64>) -> Result<String, AllocError> {
+fn put_number(text: &mut String, word: &str, number: Option<u64>) -> Result<(), AllocError> {
     match number {
-        None => Ok(String::new(alloc)),
-        Some(number) => format!(in alloc; " {word} {number}"),
+        None => Ok(()),
+        Some(number) => write!(text, " {word} {number}"),
     }
 }
 
-fn elements_text(alloc: Global, elements: &Elements) -> Result<String, AllocError> {
-    let min = number_text(alloc, "min", elements.min)?;
-    let max = number_text(alloc, "max", elements.max)?;
-    format!(in alloc; "{min}{max}")
+fn put_elements(text: &mut String, elements: &Elements) -> Result<(), AllocError> {
+    put_number(text, "min", elements.min)?;
+    put_number(text, "max", elements.max)
 }
 
-fn reference_text(alloc: Global, reference: &Option<Reference>) -> Result<String, AllocError> {
+fn put_reference(text: &mut String, reference: &Option<Reference>) -> Result<(), AllocError> {
     match reference {
-        None => Ok(String::new(alloc)),
-        Some(reference) => {
-            let (target, up) = (reference.target, reference.up);
-            format!(in alloc; " to {target} up {up}")
-        }
+        None => Ok(()),
+        Some(reference) => write!(text, " to {} up {}", reference.target, reference.up),
     }
 }
 
-fn default_text(
+fn put_default(
     alloc: Global,
+    text: &mut String,
     leaf_type: &LeafType,
     default: &Option<Value>,
-) -> Result<String, NoMemory> {
-    match default {
-        None => Ok(String::new(alloc)),
-        Some(value) => {
-            let text = write_value(alloc, leaf_type, value)?;
-            Ok(format!(in alloc; " default {text}")?)
-        }
-    }
+) -> Result<(), NoMemory> {
+    let Some(value) = default else {
+        return Ok(());
+    };
+    let label = write_value(alloc, leaf_type, value)?;
+    Ok(write!(text, " default {label}")?)
 }
 
-fn numbers_text(alloc: Global, word: &str, numbers: &Numbers) -> Result<String, AllocError> {
-    let mut text = format!(in alloc; " {word}")?;
+fn put_if(text: &mut String, is_put: bool, word: &str) -> Result<(), AllocError> {
+    text.push_str(if is_put { word } else { "" })
+}
+
+fn put_numbers(text: &mut String, word: &str, numbers: &Numbers) -> Result<(), AllocError> {
+    write!(text, " {word}")?;
     for number in numbers.as_slice() {
-        let more = format!(in alloc; " {number}")?;
-        text.push_str(more.as_str())?;
+        write!(text, " {number}")?;
     }
-    Ok(text)
+    Ok(())
 }
 
-fn details(alloc: Global, kind: &NodeKind) -> Result<String, NoMemory> {
+fn put_uniques(text: &mut String, uniques: &[Numbers]) -> Result<(), AllocError> {
+    for unique in uniques {
+        put_numbers(text, "unique", unique)?;
+    }
+    Ok(())
+}
+
+fn put_leaf_type(text: &mut String, leaf_type: &LeafType) -> Result<(), AllocError> {
+    text.push_str(" ")?;
+    put_type(text, leaf_type)
+}
+
+fn put_leaf(
+    alloc: Global,
+    text: &mut String,
+    leaf_type: &LeafType,
+    default: &Option<Value>,
+    mandatory: bool,
+) -> Result<(), NoMemory> {
+    put_leaf_type(text, leaf_type)?;
+    put_default(alloc, text, leaf_type, default)?;
+    Ok(put_if(text, mandatory, " mandatory")?)
+}
+
+fn put_leaf_list(
+    text: &mut String,
+    leaf_type: &LeafType,
+    reference: &Option<Reference>,
+    elements: &Elements,
+) -> Result<(), AllocError> {
+    put_leaf_type(text, leaf_type)?;
+    put_reference(text, reference)?;
+    put_elements(text, elements)
+}
+
+fn put_list(
+    text: &mut String,
+    keys: &Numbers,
+    uniques: &[Numbers],
+    elements: &Elements,
+) -> Result<(), AllocError> {
+    put_numbers(text, "key", keys)?;
+    put_uniques(text, uniques)?;
+    put_elements(text, elements)
+}
+
+fn put_details(alloc: Global, text: &mut String, kind: &NodeKind) -> Result<(), NoMemory> {
     match kind {
-        NodeKind::Container { presence } => {
-            let more = if *presence { " presence" } else { "" };
-            Ok(String::from_str(alloc, more)?)
-        }
+        NodeKind::Container { presence } => Ok(put_if(text, *presence, " presence")?),
         NodeKind::Leaf {
             leaf_type,
             default,
             mandatory,
             reference,
         } => {
-            let kind = type_text(alloc, leaf_type.get())?;
-            let default = default_text(alloc, leaf_type.get(), default)?;
-            let must = if *mandatory { " mandatory" } else { "" };
-            let to = reference_text(alloc, reference)?;
-            Ok(format!(in alloc; " {kind}{default}{must}{to}")?)
+            put_leaf(alloc, text, leaf_type.get(), default, *mandatory)?;
+            Ok(put_reference(text, reference)?)
         }
         NodeKind::LeafList {
             leaf_type,
             reference,
             elements,
-        } => {
-            let kind = type_text(alloc, leaf_type.get())?;
-            let to = reference_text(alloc, reference)?;
-            let elements = elements_text(alloc, elements)?;
-            Ok(format!(in alloc; " {kind}{to}{elements}")?)
-        }
+        } => Ok(put_leaf_list(text, leaf_type.get(), reference, elements)?),
         NodeKind::List {
             keys,
             uniques,
             elements,
-        } => {
-            let mut text = numbers_text(alloc, "key", keys)?;
-            for unique in uniques.as_slice() {
-                text.push_str(numbers_text(alloc, "unique", unique)?.as_str())?;
-            }
-            text.push_str(elements_text(alloc, elements)?.as_str())?;
-            Ok(text)
-        }
+        } => Ok(put_list(text, keys, uniques.as_slice(), elements)?),
     }
 }
 
@@ -137,114 +201,101 @@ fn word_of(kind: &NodeKind) -> &'static str {
     }
 }
 
+fn put_spot(text: &mut String, number: Option<usize>) -> Result<(), AllocError> {
+    match number {
+        None => text.push_str("-"),
+        Some(number) => write!(text, "{number}"),
+    }
+}
+
 // A node: its number, that of the node that it stands in, what it is, its module and name.
-fn node_text(alloc: Global, number: usize, node: &Node) -> Result<String, NoMemory> {
-    let word = word_of(&node.kind);
-    let (owner, name) = (&node.module, &node.name);
-    let details = details(alloc, &node.kind)?;
-    let parent = match node.parent {
-        None => String::from_str(alloc, "-")?,
-        Some(parent) => format!(in alloc; "{parent}")?,
-    };
-    Ok(format!(in alloc; "{number} {parent} {word} {owner}:{name}{details}")?)
+fn put_head(text: &mut String, number: usize, node: &Node) -> Result<(), AllocError> {
+    write!(text, "{number} ")?;
+    put_spot(text, node.parent)?;
+    write!(
+        text,
+        " {} {}:{}",
+        word_of(&node.kind),
+        node.module,
+        node.name
+    )
 }
 
-fn schema_text(alloc: Global, schema: &Schema) -> Result<String, NoMemory> {
-    let mut text = String::new(alloc);
-    for number in 0..schema.len() {
-        let Some(node) = schema.node(number) else {
-            return Ok(text);
-        };
-        text.push_str(node_text(alloc, number, node)?.as_str())?;
-        text.push_str("\n")?;
-    }
-    Ok(text)
+// A node to the end of its line, for which `|` stands.
+fn put_node(alloc: Global, text: &mut String, number: usize, node: &Node) -> Result<(), NoMemory> {
+    put_head(text, number, node)?;
+    put_details(alloc, text, &node.kind)?;
+    Ok(text.push_str("|")?)
 }
 
-fn flaw_text(alloc: Global, flaw: &Flaw) -> Result<String, AllocError> {
-    match flaw {
-        Flaw::Unsupported(name) => format!(in alloc; "unsupported {name}"),
-        Flaw::Unknown(name) => format!(in alloc; "unknown {name}"),
-        Flaw::Duplicate(name) => format!(in alloc; "duplicate {name}"),
-        Flaw::BadReference(name) => format!(in alloc; "bad-reference {name}"),
-        Flaw::BadArgument(name) => format!(in alloc; "bad-argument {name}"),
-        Flaw::Cycle(name) => format!(in alloc; "cycle {name}"),
+fn put_node_at(
+    alloc: Global,
+    text: &mut String,
+    schema: &Schema,
+    number: usize,
+) -> Result<(), NoMemory> {
+    match schema.node(number) {
+        None => Ok(()),
+        Some(node) => put_node(alloc, text, number, node),
     }
 }
 
-// The tree of modules, or what is wrong with them.
-fn built(alloc: Global, texts: &[&str]) -> Result<String, Fail> {
-    let mut modules = Vec::new(alloc);
-    for text in texts {
-        modules.push(read_module(alloc, text.as_bytes())?)?;
+fn put_nodes(
+    alloc: Global,
+    text: &mut String,
+    schema: &Schema,
+    first: usize,
+    end: usize,
+) -> Result<(), NoMemory> {
+    for number in first..end {
+        put_node_at(alloc, text, schema, number)?;
     }
-    match build(alloc, &modules) {
-        Ok(schema) => Ok(schema_text(alloc, &schema)?),
-        Err(
-            SchemaFault::Flawed {
-                flaw,
-                module,
-                place,
-            },
-        ) => {
-            let flaw = flaw_text(alloc, &flaw)?;
-            Ok(format!(in alloc; "{flaw} at {module} {place}")?)
-        }
-        Err(SchemaFault::TooLarge { module, place }) => {
-            Ok(format!(in alloc; "too-large at {module} {place}")?)
-        }
-        Err(SchemaFault::NoMemory) => Ok(String::from_str(alloc, "no memory")?),
-    }
+    Ok(())
 }
 
 // The nodes of the marker module, after so many others.
 fn marker_text(alloc: Global, at: usize) -> Result<String, AllocError> {
     let (list, leaf) = (at.saturating_add(1), at.saturating_add(2));
     format!(in alloc;
-        "{at} - container netm-marker:changes\n{list} {at} list netm-marker:applied key {leaf}\n{leaf} {list} leaf netm-marker:change integer 0..4294967295\n"
+        "{at} - container netm-marker:changes|{list} {at} list netm-marker:applied key {leaf}|{leaf} {list} leaf netm-marker:change integer 0..4294967295|"
     )
 }
 
-const EX: &str =
-    "module ex { yang-version 1.1; namespace \"urn:ex\"; prefix ex; container sys { leaf uplink { type leafref { path \"../iface/name\"; } } list iface { key name; unique address; leaf name { type string { length \"1..32\"; } } leaf mtu { type uint16 { range \"68..9192\"; } default 1500; } leaf address { type string; } } } }";
-
-const EY: &str =
-    "module ey { yang-version 1.1; namespace \"urn:ey\"; prefix ey; leaf big { type int64; } list srv { key id; unique port; leaf id { type uint8; } leaf port { type uint16; default 22; } } }";
-
-// What is expected: the nodes of the given modules, as many as there are, and those of the marker module after them.
-fn with_marker(alloc: Global, nodes: &str, count: usize) -> Result<String, AllocError> {
-    let marker = marker_text(alloc, count)?;
-    format!(in alloc; "{nodes}{marker}")
+// The nodes after so many.
+fn last_nodes(alloc: Global, schema: &Schema, count: usize) -> Result<String, NoMemory> {
+    let mut text = String::new(alloc);
+    put_nodes(alloc, &mut text, schema, count, schema.len())?;
+    Ok(text)
 }
+
+// Whether those of the marker module stand after so many.
+fn has_marker(alloc: Global, schema: &Schema, count: usize) -> Result<bool, NoMemory> {
+    let found = last_nodes(alloc, schema, count)?;
+    let marker = marker_text(alloc, count)?;
+    Ok(found == marker)
+}
+
+// How many nodes there are before those of the marker module, and these nodes.
+struct TellsNodes;
+
+impl Shows for TellsNodes {
+    fn show(&self, alloc: Global, text: &mut String, schema: &Schema) -> Result<(), NoMemory> {
+        let count = schema.len().saturating_sub(3);
+        write!(text, "{count} ")?;
+        put_nodes(alloc, text, schema, 0, count)?;
+        let is_marked = has_marker(alloc, schema, count)?;
+        Ok(put_if(text, !is_marked, "no marker")?)
+    }
+}
+
+// Two modules, and their nodes, by number.
+const SAMPLES: &str = r#"
+module ex { yang-version 1.1; namespace "urn:ex"; prefix ex; container sys { leaf uplink { type leafref { path "../iface/name"; } } list iface { key name; unique address; leaf name { type string { length "1..32"; } } leaf mtu { type uint16 { range "68..9192"; } default 1500; } leaf address { type string; } } } } & module ey { yang-version 1.1; namespace "urn:ey"; prefix ey; leaf big { type int64; } list srv { key id; unique port; leaf id { type uint8; } leaf port { type uint16; default 22; } } } => 10 0 - container ex:sys|1 - leaf ey:big integer -9223372036854775808..9223372036854775807|2 - list ey:srv key 5 unique 6|3 0 leaf ex:uplink string 1..32 to 7 up 1|4 0 list ex:iface key 7 unique 9|5 2 leaf ey:id integer 0..255|6 2 leaf ey:port integer 0..65535 default 22|7 4 leaf ex:name string 1..32|8 4 leaf ex:mtu integer 0..65535 68..9192 default 1500|9 4 leaf ex:address string|
+"#;
 
 #[test]
 fn samples(rt: HostRuntime) -> Result<(), Fail> {
-    let alloc = rt.alloc();
-    let found = built(alloc, &[EX, EY])?;
-    let expected = with_marker(
-        alloc,
-        "0 - container ex:sys\n1 - leaf ey:big integer -9223372036854775808..9223372036854775807\n2 - list ey:srv key 5 unique 6\n3 0 leaf ex:uplink string 1..32 to 7 up 1\n4 0 list ex:iface key 7 unique 9\n5 2 leaf ey:id integer 0..255\n6 2 leaf ey:port integer 0..65535 default 22\n7 4 leaf ex:name string 1..32\n8 4 leaf ex:mtu integer 0..65535 68..9192 default 1500\n9 4 leaf ex:address string\n",
-        10,
-    )?;
-    assert_eq!(rt; found.as_str(), expected.as_str());
-    Ok(())
-}
-
-// Whether a text is what a line tells, in which `|` stands for each end of a line.
-fn is_text(text: &str, line: &str) -> bool {
-    text.len() == line.len()
-        && text.as_bytes().iter().zip(line.as_bytes()).all(|(byte, other)| *byte == *other
-            || *byte == b'\n' && *other == b'|')
-}
-
-// Whether a module m of the body of a row `BODY => COUNT NODES` has so many nodes, which are these.
-fn has_nodes(alloc: Global, row: &str) -> Result<bool, Fail> {
-    let (body, rest) = row.split_once(" => ").ok_or("no row")?;
-    let (count, nodes) = rest.split_once(' ').ok_or("no count")?;
-    let text = format!(in alloc; "module m {{ namespace \"urn:m\"; prefix m; {body} }}")?;
-    let expected = with_marker(alloc, nodes, count.parse::<usize>()?)?;
-    let found = built(alloc, &[text.as_str()])?;
-    Ok(is_text(found.as_str(), expected.as_str()))
+    check(&rt, rt.alloc(), &Built(TellsNodes), SAMPLES)
 }
 
 // The bodies of modules m, with the nodes that they have by RFC 7950 sections 7.5 to 7.8.
@@ -264,55 +315,51 @@ grouping g { leaf a { type string; } } container c { uses g; } container d { use
 
 #[test]
 fn nodes(rt: HostRuntime) -> Result<(), Fail> {
-    for row in NODES.lines().skip(1) {
-        assert!(rt; has_nodes(rt.alloc(), row)?, "{row}");
-    }
-    Ok(())
+    check(&rt, rt.alloc(), &Body(Built(TellsNodes)), NODES)
 }
 
-fn spot_text(alloc: Global, number: Option<usize>) -> Result<String, AllocError> {
-    match number {
-        None => String::from_str(alloc, "-"),
-        Some(number) => format!(in alloc; "{number}"),
-    }
+// A choice with the node and the case that it stands in.
+fn put_choice(text: &mut String, choice: &ChoiceNode) -> Result<(), AllocError> {
+    write!(text, "{}:{} ", choice.module, choice.name)?;
+    put_spot(text, choice.parent)?;
+    text.push_str(" ")?;
+    put_spot(text, choice.case_in)?;
+    put_if(text, choice.mandatory, " mandatory")
 }
 
-// The choices, each with the node and the case that it stands in.
-fn write_choices(alloc: Global, text: &mut String, schema: &Schema) -> Result<(), AllocError> {
-    for choice in schema.choices() {
-        let (owner, name) = (&choice.module, &choice.name);
-        let parent = spot_text(alloc, choice.parent)?;
-        let case = spot_text(alloc, choice.case_in)?;
-        let must = if choice.mandatory { " mandatory" } else { "" };
-        text.push_str(format!(in alloc; "{owner}:{name} {parent} {case}{must}; ")?.as_str())?;
+fn put_choices(text: &mut String, choices: &[ChoiceNode]) -> Result<(), AllocError> {
+    for choice in choices {
+        put_choice(text, choice)?;
+        text.push_str("; ")?;
     }
     text.push_str("|")
 }
 
 // The cases, each with its choice.
-fn write_cases(alloc: Global, text: &mut String, schema: &Schema) -> Result<(), AllocError> {
-    for case in schema.cases() {
-        let (choice, name) = (case.choice, &case.name);
-        text.push_str(format!(in alloc; " {name} {choice};")?.as_str())?;
+fn put_cases(text: &mut String, cases: &[CaseNode]) -> Result<(), AllocError> {
+    for case in cases {
+        write!(text, " {} {};", case.name, case.choice)?;
     }
     text.push_str(" |")
 }
 
 // The case of each node.
-fn write_spots(alloc: Global, text: &mut String, schema: &Schema) -> Result<(), AllocError> {
+fn put_spots(text: &mut String, schema: &Schema) -> Result<(), AllocError> {
     for number in 0..schema.len() {
-        let spot = spot_text(alloc, schema.case_in(number))?;
-        text.push_str(format!(in alloc; " {spot}")?.as_str())?;
+        text.push_str(" ")?;
+        put_spot(text, schema.case_in(number))?;
     }
     Ok(())
 }
 
-fn choices_text(alloc: Global, schema: &Schema) -> Result<String, AllocError> {
-    let mut text = String::new(alloc);
-    write_choices(alloc, &mut text, schema)?;
-    write_cases(alloc, &mut text, schema)?;
-    write_spots(alloc, &mut text, schema)?;
-    Ok(text)
+struct TellsChoices;
+
+impl Shows for TellsChoices {
+    fn show(&self, _alloc: Global, text: &mut String, schema: &Schema) -> Result<(), NoMemory> {
+        put_choices(text, schema.choices())?;
+        put_cases(text, schema.cases())?;
+        Ok(put_spots(text, schema)?)
+    }
 }
 
 // The body of a module m, and its choices, its cases and the case of each node, those of the marker module last (RFC 7950 sections
@@ -325,95 +372,83 @@ choice c { config false; mandatory true; leaf a { type string; } } container d {
 grouping g { choice c { case d { leaf a { type string; } uses h; } case e; } } grouping h { choice i { leaf-list j { type string; } list k { key l; leaf l { type string; } } } } container x { uses g; } container y { leaf z { type string; } uses g; } => m:c 0 -; m:i 0 0; m:c 1 -; m:i 1 4; | d 0; j 1; k 1; e 0; d 2; j 3; k 3; e 2; | - - 0 1 2 - 4 5 6 - - - - -
 "#;
 
-// Whether a row of that table is so.
-fn has_choices(alloc: Global, row: &str) -> Result<bool, Fail> {
-    let (body, expected) = row.split_once(" => ").ok_or("no row")?;
-    let text = format!(in alloc; "module m {{ namespace \"urn:m\"; prefix m; {body} }}")?;
-    let modules = [read_module(alloc, text.as_str().as_bytes())?];
-    match build(alloc, &modules) {
-        Ok(schema) => Ok(choices_text(alloc, &schema)?.as_str() == expected),
-        Err(_) => Ok(false),
-    }
-}
-
 #[test]
 fn choices(rt: HostRuntime) -> Result<(), Fail> {
-    for row in CHOICES.lines().skip(1) {
-        assert!(rt; has_choices(rt.alloc(), row)?, "{row}");
-    }
-    Ok(())
+    check(&rt, rt.alloc(), &Body(Built(TellsChoices)), CHOICES)
 }
 
 // The nodes of a used grouping belong to the module that uses it (RFC 7950 section 7.13).
+const USING: &str = r#"
+module a { namespace "urn:a"; prefix a; grouping g { leaf x { type string; } } } & module b { namespace "urn:b"; prefix b; import a { prefix p; } container c { uses p:g; } } => 2 0 - container b:c|1 0 leaf b:x string|
+"#;
+
 #[test]
 fn of_the_using_module(rt: HostRuntime) -> Result<(), Fail> {
-    let alloc = rt.alloc();
-    let found = built(
-        alloc,
-        &[
-            "module a { namespace \"urn:a\"; prefix a; grouping g { leaf x { type string; } } }",
-            "module b { namespace \"urn:b\"; prefix b; import a { prefix p; } container c { uses p:g; } }",
-        ],
-    )?;
-    let expected = with_marker(alloc, "0 - container b:c\n1 0 leaf b:x string\n", 2)?;
-    assert_eq!(rt; found.as_str(), expected.as_str());
-    Ok(())
+    check(&rt, rt.alloc(), &Built(TellsNodes), USING)
 }
 
-// Whether a module is refused so.
-fn is_refused(alloc: Global, text: &str, expected: &str) -> Result<bool, Fail> {
-    Ok(built(alloc, &[text])?.as_str() == expected)
-}
+const FAULTS: &str = r#"
+module m { namespace "u"; prefix m; leaf a { type union { type string; } } } => unsupported union at 0 45
+module m { namespace "u"; prefix m; list l { leaf a { type string; } } } => bad-argument key at 0 36
+module m { namespace "u"; prefix m; leaf a { type nowhere; } } => bad-reference nowhere at 0 45
+"#;
 
 #[test]
 fn faults(rt: HostRuntime) -> Result<(), Fail> {
-    let text = "module m { namespace \"u\"; prefix m; leaf a { type union { type string; } } }";
-    assert!(rt; is_refused(rt.alloc(), text, "unsupported union at 0 45")?);
-    let text = "module m { namespace \"u\"; prefix m; list l { leaf a { type string; } } }";
-    assert!(rt; is_refused(rt.alloc(), text, "bad-argument key at 0 36")?);
-    let text = "module m { namespace \"u\"; prefix m; leaf a { type nowhere; } }";
-    assert!(rt; is_refused(rt.alloc(), text, "bad-reference nowhere at 0 45")?);
+    check(&rt, rt.alloc(), &Built(TellsNodes), FAULTS)
+}
+
+fn put_leafs(text: &mut String, count: usize) -> Result<(), AllocError> {
+    for number in 0..count {
+        write!(text, " leaf l{number} {{ type string; }}")?;
+    }
     Ok(())
 }
 
-// A grouping of 99 leafs.
-fn wide_grouping(alloc: Global) -> Result<String, AllocError> {
-    let mut text = String::from_str(alloc, " grouping g {")?;
-    for number in 0..99 {
-        text.push_str(format!(in alloc; " leaf l{number} {{ type string; }}")?.as_str())?;
-    }
-    text.push_str(" }")?;
-    Ok(text)
-}
-
-// So many containers, each of which uses it.
-fn containers(alloc: Global, count: usize) -> Result<String, AllocError> {
-    let mut text = String::new(alloc);
+fn put_containers(text: &mut String, count: usize) -> Result<(), AllocError> {
     for number in 0..count {
-        text.push_str(format!(in alloc; " container c{number} {{ uses g; }}")?.as_str())?;
+        write!(text, " container c{number} {{ uses g; }}")?;
     }
-    Ok(text)
+    Ok(())
 }
 
-// How many nodes the tree of so many containers has, 0 where there is none.
-fn tree_size(alloc: Global, count: usize) -> Result<usize, Fail> {
-    let text = format!(in alloc;
-        "module m {{ namespace \"u\"; prefix m;{}{} }}",
-        wide_grouping(alloc)?.as_str(),
-        containers(alloc, count)?.as_str()
-    )?;
-    let modules = [read_module(alloc, text.as_bytes())?];
-    match build(alloc, &modules) {
-        Ok(schema) => Ok(schema.len()),
-        Err(_) => Ok(0),
+// Puts a module of so many containers that use a grouping of 99 leafs.
+fn put_wide(text: &mut String, count: usize) -> Result<(), AllocError> {
+    text.push_str("module m { namespace \"u\"; prefix m; grouping g {")?;
+    put_leafs(text, 99)?;
+    text.push_str(" }")?;
+    put_containers(text, count)?;
+    text.push_str(" }")
+}
+
+// How many nodes there are.
+struct TellsSize;
+
+impl Shows for TellsSize {
+    fn show(&self, _alloc: Global, text: &mut String, schema: &Schema) -> Result<(), NoMemory> {
+        Ok(write!(text, "{}", schema.len())?)
     }
 }
 
-// Containers of so many leafs each, by a grouping.
+struct Wide;
+
+impl Tells for Wide {
+    fn tell(&self, alloc: Global, text: &mut String, asked: &str) -> Result<(), Fail> {
+        let mut module = String::new(alloc);
+        put_wide(&mut module, number_in(asked))?;
+        Built(TellsSize).tell(alloc, text, module.as_str())
+    }
+}
+
+// Containers of 99 leafs each, and how many nodes they are with those of the marker module.
+const LARGE: &str = r#"
+199 => 19903
+201 => too-large at 0 0
+"#;
+
 #[test]
 fn large(rt: HostRuntime) -> Result<(), Fail> {
-    assert_eq!(rt; tree_size(rt.alloc(), 199)?, 19_903);
-    assert_eq!(rt; tree_size(rt.alloc(), 201)?, 0);
+    check(&rt, rt.alloc(), &Wide, LARGE)?;
     laws::sound_nodes();
     Ok(())
 }

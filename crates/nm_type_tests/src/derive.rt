@@ -1,13 +1,13 @@
-use crate::rows::{Tells, check};
-use nm_base::{Label, NoMemory};
+use crate::names::label;
+use crate::rows::{Tells, check, check_parted, pair};
+use nm_base::Label;
 use nm_schema_derive::{
     BuiltIn, Derived, ListFault, ListFlaw, Listed, NumberForm, Numbering, Restrictions, StepFault,
     Taken, built_in, numbered, read_parts, restricted, step,
 };
-use nm_types::{read_value, write_value};
-use std::alloc::{AllocError, Global};
+use nm_types::{LeafType, read_value, write_value};
+use std::alloc::Global;
 use std::process::Abort;
-use std::test::Fail;
 
 const BYTE: &[(i128, i128)] = &[(0, 255)];
 
@@ -28,26 +28,32 @@ Int8 => none
 union => none
 "#;
 
-fn built_text(alloc: Global, name: &str) -> Result<String, AllocError> {
+fn built_text(rt: &impl Abort, alloc: Global, name: &str) -> String {
     match built_in(name) {
-        Some(BuiltIn::Integer { low, high }) => format!(in alloc; "{low}..{high}"),
-        Some(BuiltIn::Leafref) => String::from_str(alloc, "leafref"),
-        Some(_) => String::from_str(alloc, "other"),
-        None => String::from_str(alloc, "none"),
+        Some(BuiltIn::Integer { low, high }) => {
+            format!(in alloc; "{low}..{high}").expect(rt, "memory")
+        }
+        Some(BuiltIn::Leafref) => text_of(rt, alloc, "leafref"),
+        Some(_) => text_of(rt, alloc, "other"),
+        None => text_of(rt, alloc, "none"),
     }
+}
+
+fn text_of(rt: &impl Abort, alloc: Global, text: &str) -> String {
+    String::from_str(alloc, text).expect(rt, "memory")
 }
 
 struct BuiltIns;
 
 impl Tells for BuiltIns {
-    fn tell(&self, alloc: Global, text: &str) -> Result<String, Fail> {
-        Ok(built_text(alloc, text)?)
+    fn tell(&self, rt: &impl Abort, alloc: Global, text: &str) -> String {
+        built_text(rt, alloc, text)
     }
 }
 
 #[test]
-fn built_in_types_have_their_names(rt: HostRuntime) -> Result<(), Fail> {
-    check(&rt, rt.alloc(), &BuiltIns, BUILT_IN)
+fn built_in_types_have_their_names(rt: HostRuntime) {
+    check(&rt, rt.alloc(), &BuiltIns, BUILT_IN);
 }
 
 fn base_of(word: &str) -> &'static [(i128, i128)] {
@@ -68,15 +74,17 @@ fn form_of(word: &str) -> NumberForm {
 }
 
 // The part that comes first, where a text is a range.
-fn part_text(alloc: Global, word: &str, text: &str) -> Result<String, NoMemory> {
-    let found = read_parts(alloc, &form_of(word), text, base_of(word))?;
-    let first = match found {
+fn first_part(rt: &impl Abort, alloc: Global, word: &str, text: &str) -> Option<(i128, i128)> {
+    match read_parts(alloc, &form_of(word), text, base_of(word)).expect(rt, "memory") {
         Some(parts) => parts.as_slice().first().copied(),
         None => None,
-    };
-    match first {
-        Some((low, high)) => Ok(format!(in alloc; "{low}..{high}")?),
-        None => Ok(String::from_str(alloc, "none")?),
+    }
+}
+
+fn part_text(rt: &impl Abort, alloc: Global, part: Option<(i128, i128)>) -> String {
+    match part {
+        Some((low, high)) => format!(in alloc; "{low}..{high}").expect(rt, "memory"),
+        None => text_of(rt, alloc, "none"),
     }
 }
 
@@ -84,10 +92,11 @@ fn part_text(alloc: Global, word: &str, text: &str) -> Result<String, NoMemory> 
 struct Parts;
 
 impl Tells for Parts {
-    fn tell(&self, alloc: Global, text: &str) -> Result<String, Fail> {
-        let (_, rest) = text.split_once(", ").ok_or("no name")?;
-        let (word, range) = rest.split_once(", ").ok_or("no word")?;
-        Ok(part_text(alloc, word, range)?)
+    fn tell(&self, rt: &impl Abort, alloc: Global, text: &str) -> String {
+        let (_, rest) = pair(text, ", ");
+        let (word, range) = pair(rest, ", ");
+        let part = first_part(rt, alloc, word, range);
+        part_text(rt, alloc, part)
     }
 }
 
@@ -115,11 +124,14 @@ three bounds, byte, 1..2..3 => none
 "#;
 
 #[test]
-fn ranges_are_read(rt: HostRuntime) -> Result<(), Fail> {
-    check(&rt, rt.alloc(), &Parts, RANGES)?;
-    let blanks = part_text(rt.alloc(), "byte", " 1 ..\t4\r\n")?;
-    assert_eq!(rt; blanks.as_str(), "1..4");
-    Ok(())
+fn ranges_are_read(rt: HostRuntime) {
+    check(&rt, rt.alloc(), &Parts, RANGES);
+}
+
+#[test]
+fn blanks_are_read(rt: HostRuntime) {
+    let row = "blanks, byte,  1 ..\t4\r\n => 1..4";
+    check_parted(&rt, rt.alloc(), &Parts, row);
 }
 
 // Decimals of two fraction digits are read scaled (RFC 7950 section 9.3.4); lengths have no sign.
@@ -134,32 +146,43 @@ pointed length, length, 1.0 => none
 "#;
 
 #[test]
-fn bounds_have_their_forms(rt: HostRuntime) -> Result<(), Fail> {
-    check(&rt, rt.alloc(), &Parts, BOUNDS)
+fn bounds_have_their_forms(rt: HostRuntime) {
+    check(&rt, rt.alloc(), &Parts, BOUNDS);
+}
+
+// A label of a text, where there is one.
+fn label_if(rt: &impl Abort, alloc: Global, text: Option<&str>) -> Option<Label> {
+    match text {
+        Some(text) => Some(label(rt, alloc, text)),
+        None => None,
+    }
 }
 
 // A name, and the text of a number behind `=`.
-fn statement(alloc: Global, text: &str) -> Result<Listed, NoMemory> {
+fn split_number(text: &str) -> (&str, Option<&str>) {
     match text.split_once("=") {
-        None => Ok(Listed {
-            name: Label::new(alloc, text)?,
-            number: None,
-        }),
-        Some((name, number)) => Ok(Listed {
-            name: Label::new(alloc, name)?,
-            number: Some(Label::new(alloc, number)?),
-        }),
+        Some((name, number)) => (name, Some(number)),
+        None => (text, None),
+    }
+}
+
+fn statement(rt: &impl Abort, alloc: Global, text: &str) -> Listed {
+    let (name, number) = split_number(text);
+    Listed {
+        name: label(rt, alloc, name),
+        number: label_if(rt, alloc, number),
     }
 }
 
 // Such statements, between blanks.
-fn listed(alloc: Global, text: &str) -> Result<Vec<Listed>, NoMemory> {
-    let words: Vec<&str> = text.split(' ').collect(alloc)?;
+fn listed(rt: &impl Abort, alloc: Global, text: &str) -> Vec<Listed> {
     let mut statements = Vec::new(alloc);
-    for word in &words {
-        statements.push(statement(alloc, word)?)?;
+    for word in text.split(' ') {
+        statements
+            .push(statement(rt, alloc, word))
+            .expect(rt, "memory");
     }
-    Ok(statements)
+    statements
 }
 
 // The number of the last member, or the statement with a flaw and the flaw's name.
@@ -185,9 +208,9 @@ fn flaw_word(flaw: &ListFlaw) -> &'static str {
     }
 }
 
-fn told_text(alloc: Global, made: &Result<Taken, ListFault>) -> Result<String, AllocError> {
+fn told_text(rt: &impl Abort, alloc: Global, made: &Result<Taken, ListFault>) -> String {
     let (number, word) = told(made);
-    format!(in alloc; "{number} {word}")
+    format!(in alloc; "{number} {word}").expect(rt, "memory")
 }
 
 // RFC 7950 section 9.6.4.2: a value of its own, or one above the highest before, and 0 for the first.
@@ -202,25 +225,24 @@ too high, zero=2147483648 one seven => 0 bad
 a name twice, zero zero => 1 name
 "#;
 
-fn numbered_text(alloc: Global, numbering: &Numbering, text: &str) -> Result<String, NoMemory> {
-    let statements = listed(alloc, text)?;
-    let made = numbered(alloc, numbering, &statements);
-    Ok(told_text(alloc, &made)?)
+fn numbered_text(rt: &impl Abort, alloc: Global, numbering: &Numbering, text: &str) -> String {
+    let statements = listed(rt, alloc, text);
+    let made = numbered(alloc, numbering, statements.as_slice());
+    told_text(rt, alloc, &made)
 }
 
 // In each row a name and statements.
 struct Enumerations;
 
 impl Tells for Enumerations {
-    fn tell(&self, alloc: Global, text: &str) -> Result<String, Fail> {
-        let (_, statements) = text.split_once(", ").ok_or("no name")?;
-        Ok(numbered_text(alloc, &Numbering::Values, statements)?)
+    fn tell(&self, rt: &impl Abort, alloc: Global, text: &str) -> String {
+        numbered_text(rt, alloc, &Numbering::Values, pair(text, ", ").1)
     }
 }
 
 #[test]
-fn enumerations_are_numbered(rt: HostRuntime) -> Result<(), Fail> {
-    check(&rt, rt.alloc(), &Enumerations, NUMBERED)
+fn enumerations_are_numbered(rt: HostRuntime) {
+    check(&rt, rt.alloc(), &Enumerations, NUMBERED);
 }
 
 // RFC 7950 section 9.7.4.2, and its example of a restricted type in section 9.7.4.3.
@@ -232,49 +254,46 @@ no number, STATIC=-1 => 0 bad
 no such name, static => 0 base
 "#;
 
-fn base_bits(alloc: Global) -> Result<Taken, Fail> {
-    let statements = listed(alloc, "UNKNOWN=0 STATIC last=4294967295")?;
-    match numbered(alloc, &Numbering::Positions, &statements) {
-        Ok(base) => Ok(base),
-        Err(_) => Err(Fail::new("the base")),
+fn base_bits(rt: &impl Abort, alloc: Global) -> Taken {
+    let statements = listed(rt, alloc, "UNKNOWN=0 STATIC last=4294967295");
+    match numbered(alloc, &Numbering::Positions, statements.as_slice()) {
+        Ok(base) => base,
+        Err(_) => panic!(rt; "no base"),
     }
 }
 
-fn restricted_text(alloc: Global, base: &Taken, text: &str) -> Result<String, NoMemory> {
-    let statements = listed(alloc, text)?;
-    let made = restricted(alloc, &Numbering::Positions, base, &statements);
-    Ok(told_text(alloc, &made)?)
+fn restricted_text(rt: &impl Abort, alloc: Global, base: &Taken, text: &str) -> String {
+    let statements = listed(rt, alloc, text);
+    let made = restricted(alloc, &Numbering::Positions, base, statements.as_slice());
+    told_text(rt, alloc, &made)
 }
 
 // In each row a name and statements, which restrict a base.
-#[derive(Drop)]
-struct TellsRestricted<'a> {
-    base: &'a Taken,
-}
+struct RestrictedBits;
 
-impl Tells for TellsRestricted<'_> {
-    fn tell(&self, alloc: Global, text: &str) -> Result<String, Fail> {
-        let (_, statements) = text.split_once(", ").ok_or("no name")?;
-        Ok(restricted_text(alloc, self.base, statements)?)
+impl Tells for RestrictedBits {
+    fn tell(&self, rt: &impl Abort, alloc: Global, text: &str) -> String {
+        let base = base_bits(rt, alloc);
+        restricted_text(rt, alloc, &base, pair(text, ", ").1)
     }
 }
 
 #[test]
-fn bits_are_restricted(rt: HostRuntime) -> Result<(), Fail> {
-    let base = base_bits(rt.alloc())?;
-    check(
-        &rt,
-        rt.alloc(),
-        &TellsRestricted { base: &base },
-        RESTRICTED,
-    )
+fn bits_are_restricted(rt: HostRuntime) {
+    check(&rt, rt.alloc(), &RestrictedBits, RESTRICTED);
+}
+
+struct Positions;
+
+impl Tells for Positions {
+    fn tell(&self, rt: &impl Abort, alloc: Global, text: &str) -> String {
+        numbered_text(rt, alloc, &Numbering::Positions, text)
+    }
 }
 
 #[test]
-fn positions_have_a_limit(rt: HostRuntime) -> Result<(), Fail> {
-    let above = numbered_text(rt.alloc(), &Numbering::Positions, "a=4294967295 b")?;
-    assert_eq!(rt; above.as_str(), "1 limit");
-    Ok(())
+fn positions_have_a_limit(rt: HostRuntime) {
+    check(&rt, rt.alloc(), &Positions, "\na=4294967295 b => 1 limit");
 }
 
 // What a step answers.
@@ -307,151 +326,157 @@ enumeration - - - => lacks
 leafref - - - => ok
 "#;
 
-// A label of a text, where there is one.
-fn label_if(alloc: Global, text: &str) -> Result<Option<Label>, NoMemory> {
-    if text == "-" {
-        return Ok(None);
+// The label of a word, and none of `-`.
+fn label_of(rt: &impl Abort, alloc: Global, word: &str) -> Option<Label> {
+    if word == "-" {
+        return None;
     }
-    Ok(Some(Label::new(alloc, text)?))
-}
-
-fn restrictions(
-    alloc: Global,
-    digits: &str,
-    range: &str,
-    length: &str,
-) -> Result<Restrictions, NoMemory> {
-    Ok(Restrictions {
-        digits: label_if(alloc, digits)?,
-        range: label_if(alloc, range)?,
-        length: label_if(alloc, length)?,
-        names: Vec::new(alloc),
-        bits: Vec::new(alloc),
-    })
+    Some(label(rt, alloc, word))
 }
 
 // The restrictions of a row, behind its type.
-fn restrictions_in(alloc: Global, row: &str) -> Result<Restrictions, Fail> {
-    let (digits, rest) = row.split_once(" ").ok_or("no row")?;
-    let (range, length) = rest.split_once(" ").ok_or("no row")?;
-    Ok(restrictions(alloc, digits, range, length)?)
+fn restrictions_in(rt: &impl Abort, alloc: Global, row: &str) -> Restrictions {
+    let (digits, rest) = pair(row, " ");
+    let (range, length) = pair(rest, " ");
+    Restrictions {
+        digits: label_of(rt, alloc, digits),
+        range: label_of(rt, alloc, range),
+        length: label_of(rt, alloc, length),
+        names: Vec::new(alloc),
+        bits: Vec::new(alloc),
+    }
+}
+
+// A built-in type.
+fn built(rt: &impl Abort, name: &str) -> Derived {
+    let built = built_in(name).expect(rt, "a type");
+    Derived::of_built_in(&built)
 }
 
 // What the step of a row answers.
-fn stepped(alloc: Global, row: &str) -> Result<&'static str, Fail> {
-    let (name, rest) = row.split_once(" ").ok_or("no row")?;
-    let built = built_in(name).ok_or("no type")?;
-    let restrictions = restrictions_in(alloc, rest)?;
-    let made = step(alloc, Derived::of_built_in(&built), &restrictions);
-    Ok(outcome(&made))
+fn stepped(rt: &impl Abort, alloc: Global, row: &str) -> &'static str {
+    let (name, rest) = pair(row, " ");
+    let restrictions = restrictions_in(rt, alloc, rest);
+    outcome(&step(alloc, built(rt, name), &restrictions))
 }
 
 struct Steps;
 
 impl Tells for Steps {
-    fn tell(&self, alloc: Global, text: &str) -> Result<String, Fail> {
-        let outcome = stepped(alloc, text)?;
-        Ok(String::from_str(alloc, outcome)?)
+    fn tell(&self, rt: &impl Abort, alloc: Global, text: &str) -> String {
+        let outcome = stepped(rt, alloc, text);
+        String::from_str(alloc, outcome).expect(rt, "memory")
     }
 }
 
 #[test]
-fn restrictions_have_their_types(rt: HostRuntime) -> Result<(), Fail> {
-    check(&rt, rt.alloc(), &Steps, RESTRICTIONS)
+fn restrictions_have_their_types(rt: HostRuntime) {
+    check(&rt, rt.alloc(), &Steps, RESTRICTIONS);
 }
 
 // The canonical text of a value of a type.
-fn shown(alloc: Global, derived: &Derived, text: &str) -> Result<Label, NoMemory> {
-    match derived.leaf_type()? {
-        Some(leaf_type) => match read_value(alloc, &leaf_type, text) {
-            Ok(value) => write_value(alloc, &leaf_type, &value),
-            Err(_) => Label::new(alloc, "none"),
-        },
-        None => Label::new(alloc, "no type"),
+fn shown_in(rt: &impl Abort, alloc: Global, leaf_type: &LeafType, text: &str) -> Label {
+    match read_value(alloc, leaf_type, text) {
+        Ok(value) => write_value(alloc, leaf_type, &value).expect(rt, "memory"),
+        Err(_) => label(rt, alloc, "none"),
     }
 }
 
-// The values of a type.
-#[derive(Drop)]
-struct TellsShown<'a> {
-    derived: &'a Derived,
-}
-
-impl Tells for TellsShown<'_> {
-    fn tell(&self, alloc: Global, text: &str) -> Result<String, Fail> {
-        let found = shown(alloc, self.derived, text)?;
-        Ok(String::from_str(alloc, found.as_str())?)
+fn shown(rt: &impl Abort, alloc: Global, derived: &Derived, text: &str) -> Label {
+    match derived.leaf_type().expect(rt, "memory") {
+        Some(leaf_type) => shown_in(rt, alloc, &leaf_type, text),
+        None => label(rt, alloc, "no type"),
     }
 }
 
-// Rows of a text, and the value that it spells in a type.
-fn check_shown(rt: &impl Abort, alloc: Global, derived: &Derived, rows: &str) -> Result<(), Fail> {
-    check(rt, alloc, &TellsShown { derived }, rows)
+fn shown_text(rt: &impl Abort, alloc: Global, derived: &Derived, text: &str) -> String {
+    let found = shown(rt, alloc, derived, text);
+    text_of(rt, alloc, found.as_str())
 }
 
-fn ranged(alloc: Global, base: Derived, text: &str) -> Result<Derived, Fail> {
+fn ranged(rt: &impl Abort, alloc: Global, base: Derived, text: &str) -> Derived {
     match base.with_range(alloc, text) {
-        Ok(derived) => Ok(derived),
-        Err(_) => Err(Fail::new("a range")),
+        Ok(derived) => derived,
+        Err(_) => panic!(rt; "no range: {text}"),
     }
 }
 
 // A type of two parts.
-fn two_parts(alloc: Global) -> Result<Derived, Fail> {
-    let int32 = built_in("int32").ok_or("int32")?;
-    ranged(alloc, Derived::of_built_in(&int32), "1..4|10..20")
+fn two_parts(rt: &impl Abort, alloc: Global) -> Derived {
+    ranged(rt, alloc, built(rt, "int32"), "1..4|10..20")
+}
+
+struct TwoParts;
+
+impl Tells for TwoParts {
+    fn tell(&self, rt: &impl Abort, alloc: Global, text: &str) -> String {
+        let derived = two_parts(rt, alloc);
+        shown_text(rt, alloc, &derived, text)
+    }
 }
 
 // RFC 7950 section 9.2.5 restricts 1..4 | 10..20 to 11..max.
 #[test]
-fn derived_types_have_values(rt: HostRuntime) -> Result<(), Fail> {
-    let base = two_parts(rt.alloc())?;
-    check_shown(&rt, rt.alloc(), &base, "\n4 => 4\n5 => none\n")
+fn derived_types_have_values(rt: HostRuntime) {
+    check(&rt, rt.alloc(), &TwoParts, "\n4 => 4\n5 => none");
 }
 
-#[test]
-fn derived_types_have_narrower_values(rt: HostRuntime) -> Result<(), Fail> {
-    let base = two_parts(rt.alloc())?;
-    let narrow = ranged(rt.alloc(), base.copy()?, "11..max")?;
-    check_shown(&rt, rt.alloc(), &narrow, "\n20 => 20\n4 => none\n")
+fn narrower(rt: &impl Abort, alloc: Global) -> Derived {
+    let base = two_parts(rt, alloc).copy().expect(rt, "memory");
+    ranged(rt, alloc, base, "11..max")
 }
 
-fn with_some(alloc: Global, base: Derived, text: &str) -> Result<Derived, Fail> {
-    let bits = listed(alloc, text)?;
-    match base.with_bits(alloc, &bits) {
-        Ok(derived) => Ok(derived),
-        Err(_) => Err(Fail::new("bits")),
+struct Narrow;
+
+impl Tells for Narrow {
+    fn tell(&self, rt: &impl Abort, alloc: Global, text: &str) -> String {
+        let derived = narrower(rt, alloc);
+        shown_text(rt, alloc, &derived, text)
     }
 }
 
-fn named(alloc: Global, base: Derived, text: &str) -> Result<&'static str, NoMemory> {
-    let names = listed(alloc, text)?;
-    let made = base.with_names(alloc, &names);
-    Ok(outcome(&made))
+#[test]
+fn derived_types_have_narrower_values(rt: HostRuntime) {
+    check(&rt, rt.alloc(), &Narrow, "\n20 => 20\n4 => none");
+}
+
+fn with_some(rt: &impl Abort, alloc: Global, base: Derived, text: &str) -> Derived {
+    let bits = listed(rt, alloc, text);
+    match base.with_bits(alloc, bits.as_slice()) {
+        Ok(derived) => derived,
+        Err(_) => panic!(rt; "no bits: {text}"),
+    }
 }
 
 // A type of bits, derived from one that has them with other numbers between.
-fn some_bits(alloc: Global) -> Result<Derived, Fail> {
-    let bits = built_in("bits").ok_or("bits")?;
-    let base = with_some(
-        alloc,
-        Derived::of_built_in(&bits),
-        "late=2 early=0 between=1",
-    )?;
-    with_some(alloc, base, "late early")
+fn some_bits(rt: &impl Abort, alloc: Global) -> Derived {
+    let base = with_some(rt, alloc, built(rt, "bits"), "late=2 early=0 between=1");
+    with_some(rt, alloc, base, "late early")
+}
+
+struct SomeBits;
+
+impl Tells for SomeBits {
+    fn tell(&self, rt: &impl Abort, alloc: Global, text: &str) -> String {
+        let derived = some_bits(rt, alloc);
+        shown_text(rt, alloc, &derived, text)
+    }
 }
 
 // RFC 7950 section 9.7.5: bits in order of position, of which a derived type has some.
 #[test]
-fn derived_bits_keep_their_positions(rt: HostRuntime) -> Result<(), Fail> {
-    let derived = some_bits(rt.alloc())?;
-    let rows = "\nlate early => early late\nbetween => none\n";
-    check_shown(&rt, rt.alloc(), &derived, rows)
+fn derived_bits_keep_their_positions(rt: HostRuntime) {
+    let rows = "\nlate early => early late\nbetween => none";
+    check(&rt, rt.alloc(), &SomeBits, rows);
+}
+
+fn are_misplaced(rt: &impl Abort, alloc: Global) -> bool {
+    let names = listed(rt, alloc, "late early");
+    let made = some_bits(rt, alloc).with_names(alloc, names.as_slice());
+    outcome(&made) == "misplaced"
 }
 
 #[test]
-fn derived_bits_have_no_names(rt: HostRuntime) -> Result<(), Fail> {
-    let derived = some_bits(rt.alloc())?;
-    assert_eq!(rt; named(rt.alloc(), derived, "late early")?, "misplaced");
-    Ok(())
+fn derived_bits_have_no_names(rt: HostRuntime) {
+    assert!(rt; are_misplaced(&rt, rt.alloc()));
 }

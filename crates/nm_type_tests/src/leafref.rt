@@ -1,23 +1,25 @@
+ghost use Rattle.nm_schema_leafref.specs.Known.{ArePaths};
+ghost use Rattle.nm_schema_shape.specs.Holding.{AreNamed};
+
 use crate::modules::{module_of, module_rows};
-use crate::rows::{Tells, check};
-use nm_base::NoMemory;
+use crate::rows::{Tells, check, pair};
 use nm_schema_expansion::{Expansion, expand};
-use nm_schema_leafref::{Leafrefs, Led, leafrefs_of, paths_of};
+use nm_schema_leafref::{Leafrefs, Led, Paths, leafrefs_of, paths_of};
 use nm_schema_names::RowNames;
 use nm_schema_rows::{Flaw, Rows, rows_of};
 use nm_schema_shape::{are_named, shape_of};
 use nm_schema_typing::types_of;
 use nm_types::TypeKind;
-use std::alloc::{AllocError, Global};
-use std::test::Fail;
+use std::alloc::Global;
+use std::process::Abort;
 
 // The typedef or grouping that each row names.
-fn definitions_of(alloc: Global, names: &RowNames<'_>) -> Result<Vec<Option<usize>>, NoMemory> {
+fn definitions_of(rt: &impl Abort, alloc: Global, names: &RowNames<'_>) -> Vec<Option<usize>> {
     let mut definitions = Vec::new(alloc);
     for at in 0..names.rows().len() {
-        definitions.push(names.leads_to(at))?;
+        definitions.push(names.leads_to(at)).expect(rt, "memory");
     }
-    Ok(definitions)
+    definitions
 }
 
 fn name_at<'a>(rows: &'a Rows, expansion: &Expansion<'_>, node: usize) -> Option<&'a str> {
@@ -56,23 +58,41 @@ fn target_text<'a>(
     }
 }
 
+// A leafref with how far up it goes, and where it leads.
+fn put_led(
+    rt: &impl Abort,
+    text: &mut String,
+    rows: &Rows,
+    expansion: &Expansion<'_>,
+    name: &str,
+    up: usize,
+    led: &Led,
+) {
+    let (way, target) = target_text(rows, expansion, led);
+    write!(text, "{name}^{up}{way}{target}").expect(rt, "memory");
+}
+
+// Whether a leafref leads to itself, and its type.
+fn put_type(rt: &impl Abort, text: &mut String, leafrefs: &Leafrefs, node: usize) {
+    let circle = if leafrefs.is_circular(node) { "*" } else { "" };
+    let kind = kind_text(leafrefs, node);
+    write!(text, "{circle}{kind} ").expect(rt, "memory");
+}
+
 // A leafref with how far up it goes, where it leads, whether to itself, and its type.
-fn leafref_text(
-    alloc: Global,
+fn put_leafref(
+    rt: &impl Abort,
+    text: &mut String,
     rows: &Rows,
     expansion: &Expansion<'_>,
     leafrefs: &Leafrefs,
     node: usize,
-) -> Result<String, AllocError> {
-    let Some(led) = leafrefs.led(node) else {
-        return Ok(String::new(alloc));
-    };
-    let name = name_of(rows, expansion, node);
-    let up = leafrefs.up(node);
-    let (way, target) = target_text(rows, expansion, &led);
-    let circle = if leafrefs.is_circular(node) { "*" } else { "" };
-    let kind = kind_text(leafrefs, node);
-    format!(in alloc; "{name}^{up}{way}{target}{circle}{kind} ")
+) {
+    if let Some(led) = leafrefs.led(node) {
+        let name = name_of(rows, expansion, node);
+        put_led(rt, text, rows, expansion, name, leafrefs.up(node), &led);
+        put_type(rt, text, leafrefs, node);
+    }
 }
 
 // What a flaw is, and the path that has it.
@@ -84,81 +104,84 @@ fn flaw_parts(flaw: &Flaw) -> (&'static str, &str) {
     }
 }
 
-fn flaw_text(alloc: Global, flaw: &Flaw, at: usize) -> Result<String, AllocError> {
-    let (word, path) = flaw_parts(flaw);
-    format!(in alloc; "{word} {path} {at} ")
-}
-
 fn put_leafrefs(
-    alloc: Global,
+    rt: &impl Abort,
     text: &mut String,
     rows: &Rows,
     expansion: &Expansion<'_>,
     leafrefs: &Leafrefs,
-) -> Result<(), AllocError> {
+) {
     for node in 0..expansion.nodes().len() {
-        let piece = leafref_text(alloc, rows, expansion, leafrefs, node)?;
-        text.push_str(piece.as_str())?;
+        put_leafref(rt, text, rows, expansion, leafrefs, node);
     }
-    Ok(())
+}
+
+fn put_words(rt: &impl Abort, text: &mut String, flaw: &Flaw, at: usize) {
+    let (word, path) = flaw_parts(flaw);
+    write!(text, "{word} {path} {at} ").expect(rt, "memory");
+}
+
+// What is said of a path without a flaw.
+fn put_fault(rt: &impl Abort, text: &mut String, leafrefs: &Leafrefs, at: usize) {
+    if leafrefs.path_fault(at).is_some() {
+        text.push_str("a fault without a flaw").expect(rt, "memory");
+    }
 }
 
 // The flaw of a path, where it has one.
-fn path_text(
-    alloc: Global,
-    rows: &Rows,
-    leafrefs: &Leafrefs,
-    at: usize,
-) -> Result<String, NoMemory> {
-    match leafrefs.path_flaw(alloc, rows, at)? {
-        Some(flaw) => Ok(flaw_text(alloc, &flaw, at)?),
-        None => Ok(String::from_str(alloc, lone_fault(leafrefs, at))?),
-    }
-}
-
-fn lone_fault(leafrefs: &Leafrefs, at: usize) -> &'static str {
-    if leafrefs.path_fault(at).is_some() {
-        return "a fault without a flaw";
-    }
-    ""
-}
-
-fn put_flaws(
+fn put_flaw(
+    rt: &impl Abort,
     alloc: Global,
     text: &mut String,
     rows: &Rows,
     leafrefs: &Leafrefs,
-) -> Result<(), NoMemory> {
-    for at in 0..rows.len() {
-        let piece = path_text(alloc, rows, leafrefs, at)?;
-        text.push_str(piece.as_str())?;
+    at: usize,
+) {
+    match leafrefs.path_flaw(alloc, rows, at).expect(rt, "memory") {
+        Some(flaw) => put_words(rt, text, &flaw, at),
+        None => put_fault(rt, text, leafrefs, at),
     }
-    Ok(())
 }
 
-// All leafrefs of modules, and then the flaw of each path.
-fn put_modules(alloc: Global, text: &mut String, rows: &Rows) -> Result<(), NoMemory> {
-    let paths = paths_of(alloc, rows)?;
-    let names = RowNames::new(alloc, rows)?;
-    let definitions = definitions_of(alloc, &names)?;
-    if !are_named(rows, &definitions) {
-        text.push_str("not named")?;
-        return Ok(());
+fn put_flaws(rt: &impl Abort, alloc: Global, text: &mut String, rows: &Rows, leafrefs: &Leafrefs) {
+    for at in 0..rows.len() {
+        put_flaw(rt, alloc, text, rows, leafrefs, at);
     }
-    let shape = shape_of(alloc, rows, &definitions)?;
-    let expansion = expand(alloc, &shape)?;
-    let types = types_of(alloc, rows, &definitions)?;
-    let leafrefs = leafrefs_of(
-        alloc,
-        &names,
-        &paths,
-        &shape,
-        &expansion,
-        &types,
-        &definitions,
-    )?;
-    put_leafrefs(alloc, text, rows, &expansion, &leafrefs)?;
-    put_flaws(alloc, text, rows, &leafrefs)
+}
+
+// All leafrefs of modules whose definitions are rows, and then the flaw of each path.
+fn put_named<'a>(
+    rt: &impl Abort,
+    alloc: Global,
+    text: &mut String,
+    names: &RowNames<'a>,
+    paths: &'a Paths,
+    definitions: &[Option<usize>],
+)
+    requires paths { ArePaths names.now paths.now }
+    requires definitions { AreNamed names.now definitions.now }
+{
+    let rows = names.rows();
+    let shape = shape_of(alloc, rows, definitions).expect(rt, "memory");
+    let expansion = expand(alloc, &shape).expect(rt, "memory");
+    let types = types_of(alloc, rows, definitions).expect(rt, "memory");
+    let leafrefs = leafrefs_of(alloc, names, paths, &shape, &expansion, &types, definitions).expect(
+        rt, "memory",
+    );
+    put_leafrefs(rt, text, rows, &expansion, &leafrefs);
+    put_flaws(rt, alloc, text, rows, &leafrefs);
+}
+
+// The same of any modules.
+fn put_modules(rt: &impl Abort, alloc: Global, text: &mut String, rows: &Rows) {
+    let paths = paths_of(alloc, rows).expect(rt, "memory");
+    let names = RowNames::new(alloc, rows).expect(rt, "memory");
+    let definitions = definitions_of(rt, alloc, &names);
+    if are_named(rows, &definitions) {
+        put_named(rt, alloc, text, &names, &paths, &definitions);
+    } else {
+        text.push_str("not named").expect(rt, "memory");
+    }
 }
 
 // What stands in module `m`, which imports `n`, and in `n`; each leafref as `NAME^UP>TARGET:TYPE`, with `*` where it leads to itself,
@@ -196,32 +219,28 @@ leaf a { type nothing; } leaf b { type leafref { path /a; } } &  => b^1>a
 "#;
 
 // The rows of modules m and n with these statements.
-fn rows_in(alloc: Global, within: &str, other: &str) -> Result<Rows, Fail> {
-    let one = module_of(alloc, "m", "prefix m; import n { prefix n; }", within)?;
-    let two = module_of(alloc, "n", "prefix n;", other)?;
-    Ok(rows_of(alloc, &[one, two])?)
-}
-
-fn told(alloc: Global, within: &str, other: &str) -> Result<String, Fail> {
-    let rows = rows_in(alloc, within, other)?;
-    let mut found = String::new(alloc);
-    put_modules(alloc, &mut found, &rows)?;
-    Ok(found)
+fn rows_in(rt: &impl Abort, alloc: Global, within: &str, other: &str) -> Rows {
+    let one = module_of(rt, alloc, "m", "prefix m; import n { prefix n; }", within);
+    let two = module_of(rt, alloc, "n", "prefix n;", other);
+    rows_of(alloc, &[one, two]).expect(rt, "memory")
 }
 
 // In each row what stands in the two modules.
 struct Leading;
 
 impl Tells for Leading {
-    fn tell(&self, alloc: Global, text: &str) -> Result<String, Fail> {
-        let (within, other) = text.split_once(" & ").ok_or("no module")?;
-        told(alloc, within, other)
+    fn tell(&self, rt: &impl Abort, alloc: Global, text: &str) -> String {
+        let (within, other) = pair(text, " & ");
+        let mut found = String::new(alloc);
+        let rows = rows_in(rt, alloc, within, other);
+        put_modules(rt, alloc, &mut found, &rows);
+        found
     }
 }
 
 #[test]
-fn leafrefs_lead(rt: HostRuntime) -> Result<(), Fail> {
-    check(&rt, rt.alloc(), &Leading, LEAFREFS)
+fn leafrefs_lead(rt: HostRuntime) {
+    check(&rt, rt.alloc(), &Leading, LEAFREFS);
 }
 
 // What stands in a module, and how many nodes the path of row 3 has (RFC 7950 section 9.9.2).
@@ -232,22 +251,25 @@ leaf b { type leafref { path a; } } => None
 leaf b { type string { length 1; } } => None
 "#;
 
-fn path_length(alloc: Global, within: &str) -> Result<Option<usize>, Fail> {
-    let rows = module_rows(alloc, within)?;
-    let paths = paths_of(alloc, &rows)?;
-    Ok(paths.path(3).map(|path| path.nodes.len()))
+fn path_length(paths: &Paths) -> Option<usize> {
+    paths.path(3).map(|path| path.nodes.len())
+}
+
+fn paths_in(rt: &impl Abort, alloc: Global, within: &str) -> Paths {
+    let rows = module_rows(rt, alloc, within);
+    paths_of(alloc, &rows).expect(rt, "memory")
 }
 
 struct Lengths;
 
 impl Tells for Lengths {
-    fn tell(&self, alloc: Global, text: &str) -> Result<String, Fail> {
-        let length = path_length(alloc, text)?;
-        Ok(format!(in alloc; "{length:?}")?)
+    fn tell(&self, rt: &impl Abort, alloc: Global, text: &str) -> String {
+        let paths = paths_in(rt, alloc, text);
+        format!(in alloc; "{:?}", path_length(&paths)).expect(rt, "memory")
     }
 }
 
 #[test]
-fn paths_are_read(rt: HostRuntime) -> Result<(), Fail> {
-    check(&rt, rt.alloc(), &Lengths, PATHS)
+fn paths_are_read(rt: HostRuntime) {
+    check(&rt, rt.alloc(), &Lengths, PATHS);
 }

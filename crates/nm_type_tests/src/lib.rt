@@ -10,6 +10,10 @@ mod leafref;
 #[cfg(test)]
 mod modules;
 #[cfg(test)]
+mod names;
+#[cfg(test)]
+mod nodes;
+#[cfg(test)]
 mod path;
 #[cfg(test)]
 mod rows;

@@ -1,106 +1,27 @@
-use crate::rows::{Tells, check};
-use nm_base::{Groups, Label, NoMemory, Numbers};
-use nm_tree::{CaseNode, ChoiceNode, Elements, Node, NodeKind, Reference, Schema, SharedType};
-use nm_types::{LeafType, TypeKind};
+use crate::names::label;
+use crate::nodes::{put_keys, schema_of};
+use crate::rows::{Tells, check, number_of, pair};
+use nm_base::Label;
+use nm_tree::{CaseNode, ChoiceNode, NodeKind, Reference, Schema};
 use std::alloc::Global;
-use std::test::Fail;
-
-#[derive(Clone, Copy)]
-enum Shape {
-    Container,
-    Leaf,
-    List,
-}
-
-fn boolean(alloc: Global) -> Result<SharedType, NoMemory> {
-    SharedType::new(
-        alloc,
-        LeafType {
-            kind: TypeKind::Boolean,
-            limits: None,
-        },
-    )
-}
-
-fn kind_of(alloc: Global, shape: Shape) -> Result<NodeKind, NoMemory> {
-    match shape {
-        Shape::Container => Ok(NodeKind::Container { presence: false }),
-        Shape::Leaf => Ok(NodeKind::Leaf {
-            leaf_type: boolean(alloc)?,
-            default: None,
-            mandatory: false,
-            reference: None,
-        }),
-        Shape::List => Ok(NodeKind::List {
-            keys: Numbers::new(alloc),
-            uniques: Groups::new(alloc),
-            elements: Elements {
-                min: None,
-                max: None,
-            },
-        }),
-    }
-}
-
-// Puts a node at the end, if it may stand there.
-fn put(
-    alloc: Global,
-    schema: &mut Schema,
-    parent: Option<usize>,
-    module: &str,
-    name: &str,
-    shape: Shape,
-) -> Result<(), NoMemory> {
-    let node = Node {
-        parent,
-        case_in: None,
-        module: Label::new(alloc, module)?,
-        name: Label::new(alloc, name)?,
-        kind: kind_of(alloc, shape)?,
-    };
-    if schema.takes(&node) {
-        schema.push(node)?;
-    }
-    Ok(())
-}
+use std::process::Abort;
 
 // The list `ports` of module a with its key `name`, a container of that name in module b, and doubles: the node that each node
 // stands in, its module, its name and its shape.
 const NODES: &str = r#"
 - a ports list
-0 a speed leaf
-0 a name leaf
+0 a speed flag
+0 a name flag
 0 a name container
 - b ports container
-4 b name leaf
+4 b name flag
 - a ports container
-4 a other leaf
-9 a other leaf
+4 a other flag
+9 a other flag
 "#;
 
-fn shape_of(word: &str) -> Shape {
-    match word {
-        "container" => Shape::Container,
-        "list" => Shape::List,
-        _ => Shape::Leaf,
-    }
-}
-
-fn put_row(alloc: Global, schema: &mut Schema, row: &str) -> Result<(), Fail> {
-    let (parent, rest) = row.split_once(" ").ok_or("no row")?;
-    let (module, rest) = rest.split_once(" ").ok_or("no row")?;
-    let (name, word) = rest.split_once(" ").ok_or("no row")?;
-    let parent = parent.parse::<usize>().ok();
-    put(alloc, schema, parent, module, name, shape_of(word))?;
-    Ok(())
-}
-
-fn sample(alloc: Global) -> Result<Schema, Fail> {
-    let mut schema = Schema::new(alloc, Vec::new(alloc));
-    for row in NODES.lines().skip(1) {
-        put_row(alloc, &mut schema, row)?;
-    }
-    Ok(schema)
+fn sample(rt: &impl Abort, alloc: Global) -> Schema {
+    schema_of(rt, alloc, NODES)
 }
 
 // RFC 7950 section 5.5: names at the top belong to their module; a module or a node, a name, and the node's number.
@@ -126,34 +47,32 @@ fn named(schema: &Schema, text: &str) -> Option<usize> {
     }
 }
 
-#[derive(Drop)]
-struct Finding<'a> {
-    schema: &'a Schema,
+struct Finding;
+
+impl Tells for Finding {
+    fn tell(&self, rt: &impl Abort, alloc: Global, text: &str) -> String {
+        let schema = sample(rt, alloc);
+        format!(in alloc; "{:?}", named(&schema, text)).expect(rt, "memory")
+    }
 }
 
-impl Tells for Finding<'_> {
-    fn tell(&self, alloc: Global, text: &str) -> Result<String, Fail> {
-        Ok(format!(in alloc; "{:?}", named(self.schema, text))?)
-    }
+fn has_seven(rt: &impl Abort, alloc: Global) -> bool {
+    let schema = sample(rt, alloc);
+    schema.len() == 7
 }
 
 // A node of another module and one below no node aren't taken.
 #[test]
-fn nodes_are_found_by_their_names(rt: HostRuntime) -> Result<(), Fail> {
-    let schema = sample(rt.alloc())?;
-    assert_eq!(rt; schema.len(), 7);
-    check(&rt, rt.alloc(), &Finding { schema: &schema }, FOUND)
+fn nodes_are_found_by_their_names(rt: HostRuntime) {
+    assert!(rt; has_seven(&rt, rt.alloc()));
+    check(&rt, rt.alloc(), &Finding, FOUND);
 }
 
 // The same tree, whose list has a key.
-fn keyed(alloc: Global) -> Result<Schema, Fail> {
-    let mut keys = Numbers::new(alloc);
-    keys.push(2)?;
-    let mut schema = sample(alloc)?;
-    if schema.len() > 0 {
-        schema.set_keys(0, keys, Groups::new(alloc));
-    }
-    Ok(schema)
+fn keyed(rt: &impl Abort, alloc: Global) -> Schema {
+    let mut schema = sample(rt, alloc);
+    put_keys(rt, alloc, &mut schema, 0, &[2]);
+    schema
 }
 
 // RFC 7950 section 7.8.2: the leafs that the key statement names are keys of their list. A node, whether it is a key, how many
@@ -167,33 +86,35 @@ const KEYS: &str = r#"
 9 => false 0 false
 "#;
 
-#[derive(Drop)]
-struct TellsKeys<'a> {
-    schema: &'a Schema,
+// Whether a node is a key, how many nodes stand in it, and whether it has a type.
+fn key_told(rt: &impl Abort, alloc: Global, schema: &Schema, node: usize) -> String {
+    let is_key = schema.is_key(node);
+    let below = schema.below(node).len();
+    let has_type = schema.leaf_type(node).is_some();
+    format!(in alloc; "{is_key} {below} {has_type}").expect(rt, "memory")
 }
 
-impl Tells for TellsKeys<'_> {
-    fn tell(&self, alloc: Global, text: &str) -> Result<String, Fail> {
-        let node = text.parse::<usize>()?;
-        let below = self.schema.below(node).len();
-        let has_type = self.schema.leaf_type(node).is_some();
-        Ok(format!(in alloc; "{} {below} {has_type}", self.schema.is_key(node))?)
+struct TellsKeys;
+
+impl Tells for TellsKeys {
+    fn tell(&self, rt: &impl Abort, alloc: Global, text: &str) -> String {
+        let schema = keyed(rt, alloc);
+        key_told(rt, alloc, &schema, number_of(rt, text))
     }
 }
 
 #[test]
-fn keys_are_told(rt: HostRuntime) -> Result<(), Fail> {
-    let schema = keyed(rt.alloc())?;
-    check(&rt, rt.alloc(), &TellsKeys { schema: &schema }, KEYS)
+fn keys_are_told(rt: HostRuntime) {
+    check(&rt, rt.alloc(), &TellsKeys, KEYS);
 }
 
 // RFC 7950 section 9.9: a leafref leads to a leaf.
-fn referring(alloc: Global) -> Result<Schema, Fail> {
-    let mut schema = sample(alloc)?;
+fn referring(rt: &impl Abort, alloc: Global) -> Schema {
+    let mut schema = sample(rt, alloc);
     if schema.len() > 5 {
         schema.set_reference(5, Some(Reference { target: 2, up: 2 }));
     }
-    Ok(schema)
+    schema
 }
 
 // Whether a node is a leaf that leads to node 2, two nodes up.
@@ -209,11 +130,14 @@ fn refers(schema: &Schema, node: usize) -> bool {
     }
 }
 
+fn is_referring(rt: &impl Abort, alloc: Global) -> bool {
+    let schema = referring(rt, alloc);
+    refers(&schema, 5)
+}
+
 #[test]
-fn references_are_set(rt: HostRuntime) -> Result<(), Fail> {
-    let schema = referring(rt.alloc())?;
-    assert!(rt; refers(&schema, 5));
-    Ok(())
+fn references_are_set(rt: HostRuntime) {
+    assert!(rt; is_referring(&rt, rt.alloc()));
 }
 
 // RFC 7950 section 7.9: in the container of module b the choice `how` with the cases `fixed` and `other`, and in `other`
@@ -229,52 +153,51 @@ choice 3 lost
 case 2 lost
 "#;
 
-fn put_line(alloc: Global, schema: &mut Schema, row: &str) -> Result<(), Fail> {
-    let (word, rest) = row.split_once(" ").ok_or("no row")?;
-    let (place, name) = rest.split_once(" ").ok_or("no row")?;
-    let place = place.parse::<usize>().ok();
+fn put_line(rt: &impl Abort, alloc: Global, schema: &mut Schema, row: &str) {
+    let (word, rest) = pair(row, " ");
+    let (place, name) = pair(rest, " ");
+    let name = label(rt, alloc, name);
     if word == "choice" {
-        return Ok(put_choice(alloc, schema, place, name)?);
+        return put_choice(rt, alloc, schema, place.parse::<usize>().ok(), name);
     }
-    Ok(put_case(alloc, schema, place.ok_or("no choice")?, name)?)
+    put_case(rt, schema, number_of(rt, place), name);
 }
 
-fn with_choices(alloc: Global) -> Result<Schema, Fail> {
-    let mut schema = sample(alloc)?;
+fn with_choices(rt: &impl Abort, alloc: Global) -> Schema {
+    let mut schema = sample(rt, alloc);
     for row in CHOICES.lines().skip(1) {
-        put_line(alloc, &mut schema, row)?;
+        put_line(rt, alloc, &mut schema, row);
     }
-    Ok(schema)
+    schema
 }
 
+// Puts a choice into a case, if the case is there.
 fn put_choice(
+    rt: &impl Abort,
     alloc: Global,
     schema: &mut Schema,
     case_in: Option<usize>,
-    name: &str,
-) -> Result<(), NoMemory> {
+    name: Label,
+) {
     let choice = ChoiceNode {
         parent: Some(4),
         case_in,
-        module: Label::new(alloc, "b")?,
-        name: Label::new(alloc, name)?,
+        module: label(rt, alloc, "b"),
+        name,
         mandatory: true,
     };
     if case_in.is_none_or(|case| case < schema.cases().len()) {
-        schema.push_choice(choice)?;
+        schema.push_choice(choice).expect(rt, "memory");
     }
-    Ok(())
 }
 
-fn put_case(alloc: Global, schema: &mut Schema, choice: usize, name: &str) -> Result<(), NoMemory> {
-    let case = CaseNode {
-        choice,
-        name: Label::new(alloc, name)?,
-    };
+// Puts a case into a choice, if the choice is there.
+fn put_case(rt: &impl Abort, schema: &mut Schema, choice: usize, name: Label) {
     if choice < schema.choices().len() {
-        schema.push_case(case)?;
+        schema
+            .push_case(CaseNode { choice, name })
+            .expect(rt, "memory");
     }
-    Ok(())
 }
 
 // RFC 7950 section 7.9: cases are of choices, and choices may stand in cases. A case, its choice, and the case around.
@@ -285,25 +208,30 @@ const CASES: &str = r#"
 3 => None None
 "#;
 
-#[derive(Drop)]
-struct TellsCases<'a> {
-    schema: &'a Schema,
+fn case_told(rt: &impl Abort, alloc: Global, schema: &Schema, case: usize) -> String {
+    let choice = schema.choice_of(case);
+    let outer = schema.outer_case(case);
+    format!(in alloc; "{choice:?} {outer:?}").expect(rt, "memory")
 }
 
-impl Tells for TellsCases<'_> {
-    fn tell(&self, alloc: Global, text: &str) -> Result<String, Fail> {
-        let case = text.parse::<usize>()?;
-        let choice = self.schema.choice_of(case);
-        let outer = self.schema.outer_case(case);
-        Ok(format!(in alloc; "{choice:?} {outer:?}")?)
+struct TellsCases;
+
+impl Tells for TellsCases {
+    fn tell(&self, rt: &impl Abort, alloc: Global, text: &str) -> String {
+        let schema = with_choices(rt, alloc);
+        case_told(rt, alloc, &schema, number_of(rt, text))
     }
 }
 
+fn are_counted(rt: &impl Abort, alloc: Global) -> bool {
+    let schema = with_choices(rt, alloc);
+    schema.choices().len() == 2 && schema.cases().len() == 3
+}
+
 #[test]
-fn cases_lead_outwards(rt: HostRuntime) -> Result<(), Fail> {
-    let schema = with_choices(rt.alloc())?;
-    assert!(rt; schema.choices().len() == 2 && schema.cases().len() == 3);
-    check(&rt, rt.alloc(), &TellsCases { schema: &schema }, CASES)
+fn cases_lead_outwards(rt: HostRuntime) {
+    assert!(rt; are_counted(&rt, rt.alloc()));
+    check(&rt, rt.alloc(), &TellsCases, CASES);
 }
 
 // RFC 7950 sections 7.6 and 7.8: what a leaf, a list and a container say of themselves: a node, its parent, whether it is a
@@ -325,23 +253,24 @@ fn says_nothing_more(schema: &Schema, node: usize) -> bool {
         && schema.uniques(node).is_empty()
 }
 
-#[derive(Drop)]
-struct Saying<'a> {
-    schema: &'a Schema,
+// The parent of a node, whether it is a guard, and whether it says nothing more.
+fn node_told(rt: &impl Abort, alloc: Global, schema: &Schema, node: usize) -> String {
+    let parent = schema.parent(node);
+    let is_guard = schema.is_guard(node);
+    let is_all = says_nothing_more(schema, node);
+    format!(in alloc; "{parent:?} {is_guard} {is_all}").expect(rt, "memory")
 }
 
-impl Tells for Saying<'_> {
-    fn tell(&self, alloc: Global, text: &str) -> Result<String, Fail> {
-        let node = text.parse::<usize>()?;
-        let parent = self.schema.parent(node);
-        let is_guard = self.schema.is_guard(node);
-        let is_all = says_nothing_more(self.schema, node);
-        Ok(format!(in alloc; "{parent:?} {is_guard} {is_all}")?)
+struct Saying;
+
+impl Tells for Saying {
+    fn tell(&self, rt: &impl Abort, alloc: Global, text: &str) -> String {
+        let schema = sample(rt, alloc);
+        node_told(rt, alloc, &schema, number_of(rt, text))
     }
 }
 
 #[test]
-fn nodes_say_what_they_are(rt: HostRuntime) -> Result<(), Fail> {
-    let schema = sample(rt.alloc())?;
-    check(&rt, rt.alloc(), &Saying { schema: &schema }, SAID)
+fn nodes_say_what_they_are(rt: HostRuntime) {
+    check(&rt, rt.alloc(), &Saying, SAID);
 }

@@ -1,115 +1,128 @@
-use crate::rows::{Tells, check};
-use nm_base::{Label, NoMemory};
-use nm_types::names::is_once;
+use crate::names::{label, names_of};
+use crate::rows::{Tells, check, pair, truth};
+use nm_base::Label;
 use nm_types::parts::is_ascending;
 use nm_types::{
-    Chosen, LeafType, Names, Parts, Path, Step, TypeKind, Value, ValueFault, read_value,
-    write_value,
+    Chosen, LeafType, Parts, Path, Step, TypeKind, Value, ValueFault, read_value, write_value,
 };
 use std::alloc::Global;
 use std::cmp::Ordering;
 use std::process::Abort;
-use std::test::Fail;
 
 const BAD: &str = "bad text";
 
 const OUT: &str = "out of range";
 
 // The canonical text of what a text spells, or why it spells nothing.
-fn shown(alloc: Global, leaf_type: &LeafType, text: &str) -> Result<Label, NoMemory> {
+fn shown(rt: &impl Abort, alloc: Global, leaf_type: &LeafType, text: &str) -> Label {
     match read_value(alloc, leaf_type, text) {
-        Ok(value) => write_value(alloc, leaf_type, &value),
-        Err(ValueFault::BadText) => Label::new(alloc, BAD),
-        Err(ValueFault::OutOfRange) => Label::new(alloc, OUT),
-        Err(ValueFault::NoMemory) => Err(NoMemory),
+        Ok(value) => write_value(alloc, leaf_type, &value).expect(rt, "memory"),
+        Err(ValueFault::BadText) => label(rt, alloc, BAD),
+        Err(ValueFault::OutOfRange) => label(rt, alloc, OUT),
+        Err(ValueFault::NoMemory) => panic!(rt; "memory"),
     }
 }
 
 // The parts of a range, where there are some.
-fn range(alloc: Global, parts: &[(i128, i128)]) -> Result<Option<Parts>, NoMemory> {
+fn range(rt: &impl Abort, alloc: Global, parts: &[(i128, i128)]) -> Option<Parts> {
     if parts.is_empty() {
-        return Ok(None);
+        return None;
     }
-    let parts = Vec::from_slice(alloc, parts)?;
+    let parts = Vec::from_slice(alloc, parts).expect(rt, "memory");
     if !is_ascending(&parts) {
-        return Ok(None);
+        return None;
     }
-    Ok(Some(Parts::new(alloc, parts)?))
+    Some(Parts::new(alloc, parts).expect(rt, "memory"))
 }
 
-fn limited(alloc: Global, kind: TypeKind, parts: &[(i128, i128)]) -> Result<LeafType, Fail> {
-    Ok(LeafType {
-        kind,
-        limits: range(alloc, parts)?,
-    })
+#[derive(Clone, Copy)]
+enum Plain {
+    Integer(i128, i128),
+    Decimal(u8),
+    Text,
+    Boolean,
+    Empty,
+    Names(&'static str),
+    Bits(&'static str),
 }
 
-fn integer(low: i128, high: i128) -> TypeKind {
-    TypeKind::Integer { low, high }
+// A kind, and the parts of a range or length; without one, none.
+type Typed = (Plain, &'static [(i128, i128)]);
+
+const TYPES: [(&str, Typed); 17] = [
+    ("int8", (Plain::Integer(-128, 127), &[])),
+    ("int16", (Plain::Integer(-32768, 32767), &[])),
+    ("int32", (Plain::Integer(-2147483648, 2147483647), &[])),
+    (
+        "int64",
+        (
+            Plain::Integer(-9223372036854775808, 9223372036854775807),
+            &[],
+        ),
+    ),
+    ("uint8", (Plain::Integer(0, 255), &[])),
+    ("uint16", (Plain::Integer(0, 65535), &[])),
+    ("uint32", (Plain::Integer(0, 4294967295), &[])),
+    ("uint64", (Plain::Integer(0, 18446744073709551615), &[])),
+    (
+        "range",
+        (Plain::Integer(-128, 127), &[(1, 4), (10, 20), (22, 22)]),
+    ),
+    // Decimals by their fraction digits.
+    ("1", (Plain::Decimal(1), &[])),
+    ("2", (Plain::Decimal(2), &[])),
+    ("18", (Plain::Decimal(18), &[])),
+    ("text", (Plain::Text, &[(1, 4)])),
+    ("boolean", (Plain::Boolean, &[])),
+    ("empty", (Plain::Empty, &[])),
+    ("names", (Plain::Names("zero,one"), &[])),
+    (
+        "bits",
+        (
+            Plain::Bits("disable-nagle,auto-sense-speed,ten-mb-only"),
+            &[],
+        ),
+    ),
+];
+
+fn typed_as(word: &str) -> Typed {
+    for (name, typed) in &TYPES {
+        if *name == word {
+            return *typed;
+        }
+    }
+    (Plain::Empty, &[])
 }
 
-// The integers of RFC 7950 section 9.2, and a decimal by its fraction digits.
-fn number_kind(word: &str) -> TypeKind {
-    match word {
-        "int8" => integer(-128, 127),
-        "int16" => integer(-32768, 32767),
-        "int32" => integer(-2147483648, 2147483647),
-        "int64" => integer(-9223372036854775808, 9223372036854775807),
-        "uint8" => integer(0, 255),
-        "uint16" => integer(0, 65535),
-        "uint32" => integer(0, 4294967295),
-        "uint64" => integer(0, 18446744073709551615),
-        "1" => TypeKind::Decimal { digits: 1 },
-        "2" => TypeKind::Decimal { digits: 2 },
-        _ => TypeKind::Decimal { digits: 18 },
+fn kind_of(rt: &impl Abort, alloc: Global, plain: Plain) -> TypeKind {
+    match plain {
+        Plain::Integer(low, high) => TypeKind::Integer { low, high },
+        Plain::Decimal(digits) => TypeKind::Decimal { digits },
+        Plain::Text => TypeKind::Text,
+        Plain::Boolean => TypeKind::Boolean,
+        Plain::Empty => TypeKind::Empty,
+        Plain::Names(names) => TypeKind::Names(names_of(rt, alloc, names)),
+        Plain::Bits(names) => TypeKind::Bits(names_of(rt, alloc, names)),
     }
 }
 
-// What texts spell in a type.
-#[derive(Drop)]
-struct Typed<'a> {
-    leaf_type: &'a LeafType,
-}
-
-impl Tells for Typed<'_> {
-    fn tell(&self, alloc: Global, text: &str) -> Result<String, Fail> {
-        let found = shown(alloc, self.leaf_type, text)?;
-        Ok(String::from_str(alloc, found.as_str())?)
+fn type_of(rt: &impl Abort, alloc: Global, word: &str) -> LeafType {
+    let (plain, parts) = typed_as(word);
+    LeafType {
+        kind: kind_of(rt, alloc, plain),
+        limits: range(rt, alloc, parts),
     }
-}
-
-// Rows of a text, and what it spells in a type of a kind, with such parts.
-fn check_typed(
-    rt: &impl Abort,
-    alloc: Global,
-    kind: TypeKind,
-    parts: &[(i128, i128)],
-    rows: &str,
-) -> Result<(), Fail> {
-    let leaf_type = limited(alloc, kind, parts)?;
-    check(
-        rt,
-        alloc,
-        &Typed {
-            leaf_type: &leaf_type,
-        },
-        rows,
-    )
-}
-
-fn number_shown(alloc: Global, word: &str, text: &str) -> Result<Label, Fail> {
-    let leaf_type = limited(alloc, number_kind(word), &[])?;
-    Ok(shown(alloc, &leaf_type, text)?)
 }
 
 // In each row a type, and a text.
-struct NumbersShown;
+struct TellsShown;
 
-impl Tells for NumbersShown {
-    fn tell(&self, alloc: Global, text: &str) -> Result<String, Fail> {
-        let (word, text) = text.split_once(": ").ok_or("no type")?;
-        let found = number_shown(alloc, word, text)?;
-        Ok(String::from_str(alloc, found.as_str())?)
+impl Tells for TellsShown {
+    fn tell(&self, rt: &impl Abort, alloc: Global, text: &str) -> String {
+        let (word, text) = pair(text, ": ");
+        let leaf_type = type_of(rt, alloc, word);
+        let found = shown(rt, alloc, &leaf_type, text);
+        String::from_str(alloc, found.as_str()).expect(rt, "memory")
     }
 }
 
@@ -144,26 +157,25 @@ int8: 0x10 => bad text
 "#;
 
 #[test]
-fn integers(rt: HostRuntime) -> Result<(), Fail> {
-    check(&rt, rt.alloc(), &NumbersShown, INTEGERS)
+fn integers(rt: HostRuntime) {
+    check(&rt, rt.alloc(), &TellsShown, INTEGERS);
 }
 
 // RFC 7950 section 9.2.4: a value is within one of the parts, their ends included.
 const RANGES: &str = r#"
-1 => 1
-4 => 4
-10 => 10
-22 => 22
-0 => out of range
-5 => out of range
-21 => out of range
-101 => out of range
+range: 1 => 1
+range: 4 => 4
+range: 10 => 10
+range: 22 => 22
+range: 0 => out of range
+range: 5 => out of range
+range: 21 => out of range
+range: 101 => out of range
 "#;
 
 #[test]
-fn ranges(rt: HostRuntime) -> Result<(), Fail> {
-    let parts = [(1, 4), (10, 20), (22, 22)];
-    check_typed(&rt, rt.alloc(), integer(-128, 127), &parts, RANGES)
+fn ranges(rt: HostRuntime) {
+    check(&rt, rt.alloc(), &TellsShown, RANGES);
 }
 
 // RFC 7950 section 9.3: digits at both ends of 64 bits, for 1 and for 18 fraction digits.
@@ -188,180 +200,160 @@ const DECIMALS: &str = r#"
 "#;
 
 #[test]
-fn decimals(rt: HostRuntime) -> Result<(), Fail> {
-    check(&rt, rt.alloc(), &NumbersShown, DECIMALS)
+fn decimals(rt: HostRuntime) {
+    check(&rt, rt.alloc(), &TellsShown, DECIMALS);
 }
 
 // RFC 7950 sections 9.4.4, 9.5 and 9.11: a length counts characters, of 1 to 4 bytes.
 const TEXTS: &str = "
-aé€😀 => aé€😀
-abcde => out of range
- => out of range
- a\t =>  a\t
+text: aé€😀 => aé€😀
+text: abcde => out of range
+text:  => out of range
+text:  a\t =>  a\t
 ";
 
 const BOOLEANS: &str = r#"
-true => true
-false => false
-True => bad text
-1 => bad text
+boolean: true => true
+boolean: false => false
+boolean: True => bad text
+boolean: 1 => bad text
 "#;
 
 const EMPTIES: &str = "
- => 
-x => bad text
+empty:  => 
+empty: x => bad text
 ";
 
 #[test]
-fn texts(rt: HostRuntime) -> Result<(), Fail> {
-    check_typed(&rt, rt.alloc(), TypeKind::Text, &[(1, 4)], TEXTS)?;
-    check_typed(&rt, rt.alloc(), TypeKind::Boolean, &[], BOOLEANS)?;
-    check_typed(&rt, rt.alloc(), TypeKind::Empty, &[], EMPTIES)
+fn texts(rt: HostRuntime) {
+    check(&rt, rt.alloc(), &TellsShown, TEXTS);
 }
 
-// The words of a text.
-fn labels(alloc: Global, texts: &str) -> Result<Vec<Label>, NoMemory> {
-    let mut all = Vec::new(alloc);
-    for text in texts.split(' ') {
-        all.push(Label::new(alloc, text)?)?;
-    }
-    Ok(all)
+#[test]
+fn booleans(rt: HostRuntime) {
+    check(&rt, rt.alloc(), &TellsShown, BOOLEANS);
 }
 
-// The names that the words of a text are.
-fn names_of(alloc: Global, texts: &str) -> Result<Names, NoMemory> {
-    once(alloc, labels(alloc, texts)?)
+#[test]
+fn empties(rt: HostRuntime) {
+    check(&rt, rt.alloc(), &TellsShown, EMPTIES);
 }
 
 // RFC 7950 section 9.6.4.
 const NAMES: &str = r#"
-one => one
-zero => zero
-two => bad text
- => bad text
+names: one => one
+names: zero => zero
+names: two => bad text
+names:  => bad text
 "#;
 
 #[test]
-fn names(rt: HostRuntime) -> Result<(), Fail> {
-    let names = names_of(rt.alloc(), "zero one")?;
-    check_typed(&rt, rt.alloc(), TypeKind::Names(names), &[], NAMES)
-}
-
-// Names that are each once; none, where one comes again.
-#[tactic(auto, unfolding(nm_types::specs::Names::is_once))]
-fn once(alloc: Global, names: Vec<Label>) -> Result<Names, NoMemory> {
-    if is_once(&names) {
-        return Names::new(alloc, names);
-    }
-    Names::new(alloc, Vec::new(alloc))
+fn names(rt: HostRuntime) {
+    check(&rt, rt.alloc(), &TellsShown, NAMES);
 }
 
 // RFC 7950 section 9.7.5: bits in any order.
 const BITS: &str = "
- => 
-ten-mb-only => ten-mb-only
-ten-mb-only  disable-nagle => disable-nagle ten-mb-only
-ten-mb-only auto-sense-speed disable-nagle => disable-nagle auto-sense-speed ten-mb-only
-ten-mb-only ten-mb-only => bad text
-ten-mb-only\tdisable-nagle => bad text
- ten-mb-only => bad text
-other => bad text
+bits:  => 
+bits: ten-mb-only => ten-mb-only
+bits: ten-mb-only  disable-nagle => disable-nagle ten-mb-only
+bits: ten-mb-only auto-sense-speed disable-nagle => disable-nagle auto-sense-speed ten-mb-only
+bits: ten-mb-only ten-mb-only => bad text
+bits: ten-mb-only\tdisable-nagle => bad text
+bits:  ten-mb-only => bad text
+bits: other => bad text
 ";
 
 #[test]
-fn bits(rt: HostRuntime) -> Result<(), Fail> {
-    let bits = names_of(rt.alloc(), "disable-nagle auto-sense-speed ten-mb-only")?;
-    check_typed(&rt, rt.alloc(), TypeKind::Bits(bits), &[], BITS)
+fn bits(rt: HostRuntime) {
+    check(&rt, rt.alloc(), &TellsShown, BITS);
 }
 
-fn keyed(alloc: Global, key: Value) -> Result<Chosen, NoMemory> {
+fn keyed(rt: &impl Abort, alloc: Global, key: Value) -> Chosen {
     let mut keys = Vec::new(alloc);
-    keys.push(key)?;
-    Ok(Chosen::Keys(keys))
+    keys.push(key).expect(rt, "memory");
+    Chosen::Keys(keys)
 }
 
-// What a path of the table chooses at its last step.
-#[derive(Clone, Copy)]
-enum Key {
-    Whole,
-    Number(i128),
-    Text(&'static str),
-    Flag(bool),
-}
-
-fn chosen(alloc: Global, key: Key) -> Result<Chosen, NoMemory> {
-    match key {
-        Key::Whole => Ok(Chosen::Whole),
-        Key::Number(number) => keyed(alloc, Value::Int(number)),
-        Key::Text(text) => keyed(alloc, Value::Text(Label::new(alloc, text)?)),
-        Key::Flag(flag) => Ok(Chosen::Entry(Value::Bool(flag))),
+// A number, or another text.
+fn value_of(rt: &impl Abort, alloc: Global, word: &str) -> Value {
+    match word.parse::<i128>() {
+        Ok(number) => Value::Int(number),
+        Err(_) => Value::Text(label(rt, alloc, word)),
     }
 }
 
-fn key_of(word: &str) -> Key {
+// What a path of the table chooses at its steps: all, an entry that is true or false, or the entry of a key.
+fn chosen(rt: &impl Abort, alloc: Global, word: &str) -> Chosen {
     match word {
-        "-9" => Key::Number(-9),
-        "9" => Key::Number(9),
-        "10" => Key::Number(10),
-        "last" => Key::Text("\u{ffee}"),
-        "later" => Key::Text("\u{1f600}"),
-        "false" => Key::Flag(false),
-        "true" => Key::Flag(true),
-        _ => Key::Whole,
+        "whole" => Chosen::Whole,
+        "false" => Chosen::Entry(Value::Bool(false)),
+        "true" => Chosen::Entry(Value::Bool(true)),
+        _ => keyed(rt, alloc, value_of(rt, alloc, word)),
     }
 }
 
-fn step(alloc: Global, module: &str, name: &str, key: Key) -> Result<Step, NoMemory> {
-    Ok(Step {
-        module: Label::new(alloc, module)?,
-        name: Label::new(alloc, name)?,
-        chosen: chosen(alloc, key)?,
-    })
+fn step(rt: &impl Abort, alloc: Global, module: &str, name: &str, word: &str) -> Step {
+    Step {
+        module: label(rt, alloc, module),
+        name: label(rt, alloc, name),
+        chosen: chosen(rt, alloc, word),
+    }
 }
 
-// The path of a text: the module, what its steps choose, and their names.
-fn path(alloc: Global, text: &str) -> Result<Path, NoMemory> {
-    let (module, rest) = text.split_once(" ").unwrap_or((text, ""));
-    let (word, names) = rest.split_once(" ").unwrap_or((rest, ""));
+// The path of a text: the module, what its steps choose, and their names; of no steps where there are no names.
+fn path(rt: &impl Abort, alloc: Global, text: &str) -> Path {
+    let (module, rest) = pair(text, " ");
+    let (word, names) = pair(rest, " ");
     let mut steps = Vec::new(alloc);
-    for name in names.split(' ') {
-        steps.push(step(alloc, module, name, key_of(word))?)?;
+    for name in names.split_terminator(' ') {
+        steps
+            .push(step(rt, alloc, module, name, word))
+            .expect(rt, "memory");
     }
-    Ok(Path { steps })
+    Path { steps }
 }
 
 // Each path stands before the one beside it.
-const ORDER: &str = r#"
+const ORDER: &str = "
 a-b whole c < a whole c => true
 a whole c < a whole c b => true
 a whole c b < a whole d => true
 a whole c < a -9 c => true
 a 9 c < a 10 c => true
-a last c < a later c => true
+a \u{ffee} c < a \u{1f600} c => true
 a false c < a true c => true
-"#;
+";
+
+// Whether a path stands before another and isn't the same.
+fn is_less(one: &Path, other: &Path) -> bool {
+    one.cmp(other) == Ordering::Less && !one.same(other)
+}
+
+fn is_copied(rt: &impl Abort, alloc: Global, path: &Path) -> bool {
+    let copy = path.copy(alloc).expect(rt, "memory");
+    copy.same(path)
+}
 
 // Whether a path stands before another, isn't the same, and is the same as its copy.
-fn is_before(alloc: Global, text: &str, other: &str) -> Result<bool, NoMemory> {
-    let one = path(alloc, text)?;
-    let other = path(alloc, other)?;
-    let copy = one.copy(alloc)?;
-    Ok(one.cmp(&other) == Ordering::Less && !one.same(&other) && copy.same(&one))
+fn is_before(rt: &impl Abort, alloc: Global, text: &str, other: &str) -> bool {
+    let one = path(rt, alloc, text);
+    let other = path(rt, alloc, other);
+    is_less(&one, &other) && is_copied(rt, alloc, &one)
 }
 
 struct Orders;
 
 impl Tells for Orders {
-    fn tell(&self, alloc: Global, text: &str) -> Result<String, Fail> {
-        let (one, other) = text.split_once(" < ").ok_or("no path")?;
-        let found = is_before(alloc, one, other)?;
-        Ok(format!(in alloc; "{found}")?)
+    fn tell(&self, rt: &impl Abort, alloc: Global, text: &str) -> String {
+        let (one, other) = pair(text, " < ");
+        truth(rt, alloc, is_before(rt, alloc, one, other))
     }
 }
 
 #[test]
-fn path_order(rt: HostRuntime) -> Result<(), Fail> {
-    check(&rt, rt.alloc(), &Orders, ORDER)
+fn path_order(rt: HostRuntime) {
+    check(&rt, rt.alloc(), &Orders, ORDER);
 }
 
 // A path, a name more, and whether the path has a step of that name then; a path of no steps is `-`.
@@ -371,33 +363,24 @@ a whole c b, c, a whole c b c => true
 -, c, a whole c => true
 "#;
 
-fn is_longer(alloc: Global, start: Path, name: &str, longer: &str) -> Result<bool, NoMemory> {
-    let made = start.with_step(alloc, step(alloc, "a", name, Key::Whole)?)?;
-    let longer = path(alloc, longer)?;
-    Ok(made.same(&longer))
-}
-
-fn start(alloc: Global, text: &str) -> Result<Path, NoMemory> {
-    if text == "-" {
-        return Ok(Path {
-            steps: Vec::new(alloc),
-        });
-    }
-    path(alloc, text)
+fn is_longer(rt: &impl Abort, alloc: Global, text: &str, name: &str, longer: &str) -> bool {
+    let start = path(rt, alloc, text);
+    let step = step(rt, alloc, "a", name, "whole");
+    let made = start.with_step(alloc, step).expect(rt, "memory");
+    made.same(&path(rt, alloc, longer))
 }
 
 struct TellsLonger;
 
 impl Tells for TellsLonger {
-    fn tell(&self, alloc: Global, text: &str) -> Result<String, Fail> {
-        let (one, rest) = text.split_once(", ").ok_or("no path")?;
-        let (name, longer) = rest.split_once(", ").ok_or("no name")?;
-        let found = is_longer(alloc, start(alloc, one)?, name, longer)?;
-        Ok(format!(in alloc; "{found}")?)
+    fn tell(&self, rt: &impl Abort, alloc: Global, text: &str) -> String {
+        let (one, rest) = pair(text, ", ");
+        let (name, longer) = pair(rest, ", ");
+        truth(rt, alloc, is_longer(rt, alloc, one, name, longer))
     }
 }
 
 #[test]
-fn longer_paths(rt: HostRuntime) -> Result<(), Fail> {
-    check(&rt, rt.alloc(), &TellsLonger, LONGER)
+fn longer_paths(rt: HostRuntime) {
+    check(&rt, rt.alloc(), &TellsLonger, LONGER);
 }

@@ -1,14 +1,17 @@
+ghost use Rattle.nm_schema_typing.specs.Flaws.{AreMeanings};
+ghost use Rattle.nm_schema_typing.specs.Listing.{AreJudgements};
+
 use crate::modules::module_rows;
-use crate::rows::{Tells, check};
-use nm_base::{Label, NoMemory};
+use crate::rows::{Tells, check, number_of};
+use nm_base::Label;
 use nm_schema_derive::Restrictions;
 use nm_schema_rows::{Flaw, Rows, Word};
 use nm_schema_typing::{
-    Start, cycle_flaw, default_flaw, defaults_of, has_predicate, judgements_of, read_path,
-    restrictions_of, type_flaw, type_graph, types_of,
+    Judgement, LeafrefPath, Start, Types, cycle_flaw, default_flaw, defaults_of, has_predicate,
+    judgements_of, read_path, restrictions_of, type_flaw, type_graph, types_of,
 };
-use std::alloc::{AllocError, Global};
-use std::test::Fail;
+use std::alloc::Global;
+use std::process::Abort;
 
 // Paths after RFC 7950 section 9.9.2 and the grammar of section 14: how far up, 9 for no path, and how many nodes.
 const PATHS: &str = r#"
@@ -30,29 +33,31 @@ a => 9 0
 ../a[k = current()/../k]/b => 9 0
 "#;
 
-fn path_text(alloc: Global, text: &str) -> Result<String, NoMemory> {
-    let (ups, count) = match read_path(alloc, text)? {
+// How far up a path goes, 9 for no path, and how many nodes it has.
+fn ups(path: &Option<LeafrefPath>) -> (usize, usize) {
+    match path {
         None => (9, 0),
-        Some(path) => match path.start {
+        Some(path) => match &path.start {
             Start::Root => (0, path.nodes.len()),
-            Start::Up(up) => (up, path.nodes.len()),
+            Start::Up(up) => (*up, path.nodes.len()),
         },
-    };
-    Ok(format!(in alloc; "{ups} {count}")?)
+    }
 }
 
 struct TellsPaths;
 
 impl Tells for TellsPaths {
-    fn tell(&self, alloc: Global, text: &str) -> Result<String, Fail> {
-        Ok(path_text(alloc, text)?)
+    fn tell(&self, rt: &impl Abort, alloc: Global, text: &str) -> String {
+        let path = read_path(alloc, text).expect(rt, "memory");
+        let (ups, count) = ups(&path);
+        format!(in alloc; "{ups} {count}").expect(rt, "memory")
     }
 }
 
 #[test]
-fn paths_are_read(rt: HostRuntime) -> Result<(), Fail> {
+fn paths_are_read(rt: HostRuntime) {
     assert!(rt; has_predicate("../a[k = current()/../k]/b") && !has_predicate("../a/b"));
-    check(&rt, rt.alloc(), &TellsPaths, PATHS)
+    check(&rt, rt.alloc(), &TellsPaths, PATHS);
 }
 
 fn has_name(rows: &Rows, at: usize, word: Word, name: &Option<Label>) -> bool {
@@ -73,12 +78,12 @@ fn typedef_named(rows: &Rows, name: &Option<Label>) -> Option<usize> {
 }
 
 // The typedefs that the `type` statements of a module name.
-fn typedefs_of(alloc: Global, rows: &Rows) -> Result<Vec<Option<usize>>, AllocError> {
+fn typedefs_of(rt: &impl Abort, alloc: Global, rows: &Rows) -> Vec<Option<usize>> {
     let mut typedefs = Vec::new(alloc);
     for at in 0..rows.len() {
-        typedefs.push(typedef_at(rows, at))?;
+        typedefs.push(typedef_at(rows, at)).expect(rt, "memory");
     }
-    Ok(typedefs)
+    typedefs
 }
 
 // The typedef that a row names, where it is a `type` statement.
@@ -106,46 +111,81 @@ fn flaw_parts(flaw: &Flaw) -> (&'static str, &str) {
     }
 }
 
-fn flaw_text(alloc: Global, flaw: &Flaw, place: u32) -> Result<String, AllocError> {
+fn put_words(rt: &impl Abort, text: &mut String, flaw: &Flaw, place: u32) {
     let (word, name) = flaw_parts(flaw);
-    format!(in alloc; "{word} {name} {place}")
+    write!(text, "{word} {name} {place}").expect(rt, "memory");
+}
+
+// The flaw of what a row's type says, or of its default.
+fn flaw_of_type(
+    rt: &impl Abort,
+    alloc: Global,
+    rows: &Rows,
+    typedefs: &[Option<usize>],
+    types: &Types,
+    judgements: &[Judgement],
+    at: usize,
+) -> Option<Flaw>
+    requires meanings { AreMeanings rows.now typedefs.now types.now.meanings }
+    requires judgements { AreJudgements rows.now typedefs.now judgements.now }
+{
+    match type_flaw(alloc, rows, typedefs, types, judgements, at).expect(rt, "memory") {
+        Some(flaw) => Some(flaw),
+        None => default_flaw(alloc, rows, typedefs, types, at).expect(rt, "memory"),
+    }
 }
 
 // The flaw of a row.
-fn flaw_at(
-    alloc: Global,
-    rows: &Rows,
-    typedefs: &[Option<usize>],
-    at: usize,
-) -> Result<Option<Flaw>, NoMemory> {
-    let types = types_of(alloc, rows, typedefs)?;
-    let judgements = judgements_of(alloc, rows, typedefs, &types)?;
-    if let Some(flaw) = cycle_flaw(alloc, rows, &types, at)? {
-        return Ok(Some(flaw));
+fn flaw_at(rt: &impl Abort, alloc: Global, module: &Module, at: usize) -> Option<Flaw> {
+    let rows = &module.rows;
+    let typedefs = module.typedefs.as_slice();
+    let types = types_of(alloc, rows, typedefs).expect(rt, "memory");
+    let judgements = judgements_of(alloc, rows, typedefs, &types).expect(rt, "memory");
+    match cycle_flaw(alloc, rows, &types, at).expect(rt, "memory") {
+        Some(flaw) => Some(flaw),
+        None => flaw_of_type(rt, alloc, rows, typedefs, &types, judgements.as_slice(), at),
     }
-    if let Some(flaw) = type_flaw(alloc, rows, typedefs, &types, &judgements, at)? {
-        return Ok(Some(flaw));
-    }
-    default_flaw(alloc, rows, typedefs, &types, at)
 }
 
-// The first flaw of a module, as its kind, its name and its place.
-fn first_flaw(
-    alloc: Global,
-    rows: &Rows,
-    typedefs: &[Option<usize>],
-) -> Result<String, AllocError> {
-    for at in 0..rows.len() {
-        let Some(row) = rows.row(at) else {
-            return String::from_str(alloc, "no row");
-        };
-        match flaw_at(alloc, rows, typedefs, at) {
-            Ok(None) => {}
-            Ok(Some(flaw)) => return flaw_text(alloc, &flaw, row.place.saturating_sub(11)),
-            Err(NoMemory) => return String::from_str(alloc, "no memory"),
+// The place of a row, which counts from the first statement of its module.
+fn place_of(rows: &Rows, at: usize) -> u32 {
+    match rows.row(at) {
+        Some(row) => row.place.saturating_sub(11),
+        None => 0,
+    }
+}
+
+// A module, with the typedefs that its `type` statements name.
+#[derive(Drop)]
+struct Module {
+    rows: Rows,
+    typedefs: Vec<Option<usize>>,
+}
+
+fn module_in(rt: &impl Abort, alloc: Global, within: &str) -> Module {
+    let rows = module_rows(rt, alloc, within);
+    let typedefs = typedefs_of(rt, alloc, &rows);
+    Module { rows, typedefs }
+}
+
+// The flaw of a row, as its kind, its name and its place.
+fn put_flaw(rt: &impl Abort, alloc: Global, text: &mut String, module: &Module, at: usize) {
+    if let Some(flaw) = flaw_at(rt, alloc, module, at) {
+        put_words(rt, text, &flaw, place_of(&module.rows, at));
+    }
+}
+
+// The first flaw of a module.
+fn first_flaw(rt: &impl Abort, alloc: Global, module: &Module) -> String {
+    let mut text = String::new(alloc);
+    for at in 0..module.rows.len() {
+        put_flaw(rt, alloc, &mut text, module, at);
+        if !text.is_empty() {
+            return text;
         }
     }
-    String::from_str(alloc, "none")
+    text.push_str("none").expect(rt, "memory");
+    text
 }
 
 // What stands in a module `m`, and its first flaw, whose place counts from there (RFC 7950 sections 7.3, 7.4 and 9).
@@ -194,46 +234,47 @@ leaf a { type leafref { path /b; } default x; } => none
 leaf a { type nothing; default x; } => none
 "#;
 
-fn flaw_in(alloc: Global, within: &str) -> Result<String, Fail> {
-    let rows = module_rows(alloc, within)?;
-    let typedefs = typedefs_of(alloc, &rows)?;
-    Ok(first_flaw(alloc, &rows, &typedefs)?)
-}
-
 struct TellsFlaws;
 
 impl Tells for TellsFlaws {
-    fn tell(&self, alloc: Global, text: &str) -> Result<String, Fail> {
-        flaw_in(alloc, text)
+    fn tell(&self, rt: &impl Abort, alloc: Global, text: &str) -> String {
+        let module = module_in(rt, alloc, text);
+        first_flaw(rt, alloc, &module)
     }
 }
 
 #[test]
-fn flaws_are_found(rt: HostRuntime) -> Result<(), Fail> {
-    check(&rt, rt.alloc(), &TellsFlaws, FLAWS)
+fn flaws_are_found(rt: HostRuntime) {
+    check(&rt, rt.alloc(), &TellsFlaws, FLAWS);
 }
 
-// A row of a module: whether it has a type of its own, the row of its leafref's path, and its default.
-fn leaf_text(
-    alloc: Global,
-    rows: &Rows,
-    typedefs: &[Option<usize>],
-    at: usize,
-) -> Result<String, AllocError> {
-    let (Ok(types), Ok(defaults)) = (
-        types_of(alloc, rows, typedefs),
-        defaults_of(alloc, rows, typedefs),
-    ) else {
-        return String::from_str(alloc, "no memory");
-    };
-    let (plain, path) = match types.meaning(at) {
-        None => (false, 0),
+// Whether a row has a type of its own, and the row of its leafref's path.
+fn type_at(types: &Types, at: usize) -> (bool, usize) {
+    match types.meaning(at) {
         Some(meaning) => (meaning.derived().is_some(), meaning.path().unwrap_or(0)),
-    };
-    match defaults.text(at) {
-        None => format!(in alloc; "{plain} {path}"),
-        Some(text) => format!(in alloc; "{plain} {path} {text}"),
+        None => (false, 0),
     }
+}
+
+// The same of a row as a text, with its default.
+fn type_text(
+    rt: &impl Abort,
+    alloc: Global,
+    found: (bool, usize),
+    default: Option<&Label>,
+) -> String {
+    let (plain, path) = found;
+    match default {
+        None => format!(in alloc; "{plain} {path}").expect(rt, "memory"),
+        Some(text) => format!(in alloc; "{plain} {path} {text}").expect(rt, "memory"),
+    }
+}
+
+fn leaf_text(rt: &impl Abort, alloc: Global, module: &Module, at: usize) -> String {
+    let typedefs = module.typedefs.as_slice();
+    let types = types_of(alloc, &module.rows, typedefs).expect(rt, "memory");
+    let defaults = defaults_of(alloc, &module.rows, typedefs).expect(rt, "memory");
+    type_text(rt, alloc, type_at(&types, at), defaults.text(at))
 }
 
 // RFC 7950 sections 7.3.4, 7.6.1 and 9.9: types and defaults come through typedefs. The first statement in the module is row 1.
@@ -249,41 +290,39 @@ leaf a { type decimal64; } => false 0
 container a; => false 0
 "#;
 
-fn leaf_in(alloc: Global, within: &str) -> Result<String, Fail> {
-    let rows = module_rows(alloc, within)?;
-    let typedefs = typedefs_of(alloc, &rows)?;
-    Ok(leaf_text(alloc, &rows, &typedefs, 1)?)
-}
-
 struct TellsLeafs;
 
 impl Tells for TellsLeafs {
-    fn tell(&self, alloc: Global, text: &str) -> Result<String, Fail> {
-        leaf_in(alloc, text)
+    fn tell(&self, rt: &impl Abort, alloc: Global, text: &str) -> String {
+        let module = module_in(rt, alloc, text);
+        leaf_text(rt, alloc, &module, 1)
     }
 }
 
 #[test]
-fn leafs_have_types(rt: HostRuntime) -> Result<(), Fail> {
-    check(&rt, rt.alloc(), &TellsLeafs, LEAFS)
+fn leafs_have_types(rt: HostRuntime) {
+    check(&rt, rt.alloc(), &TellsLeafs, LEAFS);
 }
 
 // A typedef, and a leaf of it with restrictions in row 2.
 const RESTRICTING: &str =
     "leaf a { type t { range 1; enum a; enum b; bit c; } } typedef t { type int8; }";
 
-fn restricting(alloc: Global) -> Result<Restrictions, Fail> {
-    let rows = module_rows(alloc, RESTRICTING)?;
-    Ok(restrictions_of(alloc, &rows, 2)?)
+// Of the texts there is a range alone.
+fn has_range_alone(found: &Restrictions) -> bool {
+    found.digits.is_none() && found.range.is_some() && found.length.is_none()
+}
+
+fn are_restricting(rt: &impl Abort, alloc: Global) -> bool {
+    let rows = module_rows(rt, alloc, RESTRICTING);
+    let found = restrictions_of(alloc, &rows, 2).expect(rt, "memory");
+    has_range_alone(&found) && found.names.len() == 2 && found.bits.len() == 1
 }
 
 // What stands in row 2 (RFC 7950 section 7.4).
 #[test]
-fn rows_are_read(rt: HostRuntime) -> Result<(), Fail> {
-    let found = restricting(rt.alloc())?;
-    assert!(rt; found.digits.is_none() && found.range.is_some() && found.length.is_none());
-    assert!(rt; found.names.len() == 2 && found.bits.len() == 1);
-    Ok(())
+fn rows_are_read(rt: HostRuntime) {
+    assert!(rt; are_restricting(&rt, rt.alloc()));
 }
 
 // A row, and to how many rows it leads.
@@ -295,28 +334,28 @@ const NEXTS: &str = r#"
 8 => Some(0)
 "#;
 
-#[derive(Drop)]
-struct TellsNexts<'a> {
-    graph: &'a [Vec<usize>],
+fn next_count(graph: &[Vec<usize>], at: usize) -> Option<usize> {
+    graph.get(at).map(|nexts| nexts.len())
 }
 
-impl Tells for TellsNexts<'_> {
-    fn tell(&self, alloc: Global, text: &str) -> Result<String, Fail> {
-        let at = text.parse::<usize>()?;
-        let count = self.graph.get(at).map(|nexts| nexts.len());
-        Ok(format!(in alloc; "{count:?}")?)
+fn restricting_graph(rt: &impl Abort, alloc: Global) -> Vec<Vec<usize>> {
+    let module = module_in(rt, alloc, RESTRICTING);
+    type_graph(alloc, &module.rows, module.typedefs.as_slice()).expect(rt, "memory")
+}
+
+struct TellsNexts;
+
+impl Tells for TellsNexts {
+    fn tell(&self, rt: &impl Abort, alloc: Global, text: &str) -> String {
+        let graph = restricting_graph(rt, alloc);
+        format!(in alloc; "{:?}", next_count(graph.as_slice(), number_of(rt, text))).expect(
+            rt, "memory",
+        )
     }
-}
-
-fn restricting_graph(alloc: Global) -> Result<Vec<Vec<usize>>, Fail> {
-    let rows = module_rows(alloc, RESTRICTING)?;
-    let typedefs = typedefs_of(alloc, &rows)?;
-    Ok(type_graph(alloc, &rows, &typedefs)?)
 }
 
 // Where the rows lead (RFC 7950 section 7.4).
 #[test]
-fn rows_lead(rt: HostRuntime) -> Result<(), Fail> {
-    let graph = restricting_graph(rt.alloc())?;
-    check(&rt, rt.alloc(), &TellsNexts { graph: &graph }, NEXTS)
+fn rows_lead(rt: HostRuntime) {
+    check(&rt, rt.alloc(), &TellsNexts, NEXTS);
 }

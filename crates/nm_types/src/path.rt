@@ -211,26 +211,32 @@ impl Ord for Step {
     }
 }
 
+// Equal steps, in a vector that has room for so many.
+fn copy_steps(alloc: Global, steps: &[Step], room: usize) -> Result<Vec<Step>, NoMemory>
+    ensures { IfOk result (λ copies. copies.items ≡ steps.now) }
+{
+    let mut copies = Vec::with_capacity(alloc, room)?;
+    for step in steps {
+        copies.push(step.copy(alloc)?)?;
+    }
+    Ok(copies)
+}
+
 impl Path {
     /// An equal path. It copies no bytes of names and texts.
     pub fn copy(&self, alloc: Global) -> Result<Path, NoMemory>
         ensures { IfOk result (λ path. path ≡ self.now) }
     {
-        let mut steps = Vec::with_capacity(alloc, self.steps.len())?;
-        for step in &self.steps {
-            steps.push(step.copy(alloc)?)?;
-        }
-        Ok(Path { steps })
+        Ok(Path {
+            steps: copy_steps(alloc, &self.steps, self.steps.len())?,
+        })
     }
 
     /// The path with one step more. It copies no bytes of names and texts.
     pub fn with_step(&self, alloc: Global, step: Step) -> Result<Path, NoMemory>
         ensures { IfOk result (λ path. path ≡ self.now ++ step ∷ []) }
     {
-        let mut steps = Vec::with_capacity(alloc, self.steps.len() + 1)?;
-        for before in &self.steps {
-            steps.push(before.copy(alloc)?)?;
-        }
+        let mut steps = copy_steps(alloc, &self.steps, self.steps.len() + 1)?;
         steps.push(step)?;
         Ok(Path { steps })
     }

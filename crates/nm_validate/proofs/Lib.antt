@@ -1,3 +1,4 @@
+pub mod Steps
 pub mod Firsts
 pub mod Rows
 pub mod Lasts

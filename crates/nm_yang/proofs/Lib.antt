@@ -14,3 +14,4 @@ pub mod Strings
 pub mod Arguments
 pub mod Spelt
 pub mod Modules
+pub mod Skips

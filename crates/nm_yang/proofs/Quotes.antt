@@ -1,9 +1,9 @@
 -- What stands between quotes.
-use Rattle.std.proofs.Common.{◌≡◌, ℕ, ◌≤◌, ◌-◌, Bool, true, false, eqb, ltb, List, [], ◌∷◌, ◌++◌, take, drop, length, get_or, refl, ap, sym, subst, ◌∙◌, append_assoc, arith}
+use Rattle.std.proofs.Common.{◌≡◌, ℕ, ◌≤◌, ◌<◌, ◌-◌, Bool, true, false, eqb, ltb, List, [], ◌∷◌, ◌++◌, take, drop, length, get_or, refl, ap, sym, subst, ◌∙◌, append_assoc, arith}
 use Rattle.std.specs.Prelude.{◌&&◌, ◌||◌}
-use Rattle.std.proofs.lemmas.List.{take-append-drop, take_rest, append-nil}
+use Rattle.std.proofs.lemmas.List.{take-append-drop, take-append-le, drop-append-le, take_rest, append-nil}
 use Rattle.std.proofs.Math.Seq.{take-append_seam, drop-append_seam}
-use Rattle.nm_yang.specs.Quote.{meaning, begins_escape, is_loose}
+use Rattle.nm_yang.specs.Quote.{meaning, begins_escape, escaped, is_loose}
 
 -- a list that was cut, and what follows it
 pub rejoined : (s : ℕ) (xs x : List ℕ) → take s xs ++ (drop s xs ++ x) ≡ xs ++ x
@@ -55,3 +55,45 @@ kept_other room left solid backslash out (b ∷ tail) total le off line blank es
     let one : take solid out ++ meaning room left backslash (drop solid out) (b ∷ tail) ≡ out ++ b ∷ meaning room 0 false [] tail =
     rw (off, meaning-other room left b (drop solid out) tail line blank e) (rejoined solid out (b ∷ meaning room 0 false [] tail)) in
     rw (t, off) (whole (out ++ b ∷ []) (λ l. meaning room 0 false l tail) ∙ append_assoc out (b ∷ []) (meaning room 0 false [] tail) ∙ sym one ∙ so_far)
+
+-- after a backslash, and at a line break
+pub kept_after : (room left solid : ℕ) (backslash : Bool) (out rest total : List ℕ) → 1 ≤ length rest → backslash ≡ true → solid ≡ length out
+    → take solid out ++ meaning room left backslash (drop solid out) rest ≡ total
+    → take (length (out ++ escaped (get_or rest 0 0) ∷ [])) (out ++ escaped (get_or rest 0 0) ∷ []) ++ meaning room 0 false (drop (length (out ++ escaped (get_or rest 0 0) ∷ [])) (out ++ escaped (get_or rest 0 0) ∷ [])) (take (length rest - 1) (drop 1 rest)) ≡ total
+unfolding meaning
+kept_after room left solid backslash out [] total le on end so_far = absurd (omega arith)
+kept_after room left solid backslash out (b ∷ tail) total le on end so_far =
+    let t : take (length (b ∷ tail) - 1) tail ≡ tail = take_rest (b ∷ tail) 1 in
+    let one : take solid out ++ meaning room left backslash (drop solid out) (b ∷ tail) ≡ out ++ escaped b ∷ meaning room 0 false [] tail =
+    rw (on, end) (whole out (λ _. escaped b ∷ meaning room 0 false [] tail)) in
+    rw t (whole (out ++ escaped b ∷ []) (λ l. meaning room 0 false l tail) ∙ append_assoc out (escaped b ∷ []) (meaning room 0 false [] tail) ∙ sym one ∙ so_far)
+
+pub kept_line : (room left solid : ℕ) (backslash : Bool) (out rest total : List ℕ) → 1 ≤ length rest → backslash ≡ false → get_or rest 0 0 ≡ 10
+    → take solid out ++ meaning room left backslash (drop solid out) rest ≡ total
+    → take (length (take solid out ++ get_or rest 0 0 ∷ [])) (take solid out ++ get_or rest 0 0 ∷ []) ++ meaning room room backslash (drop (length (take solid out ++ get_or rest 0 0 ∷ [])) (take solid out ++ get_or rest 0 0 ∷ [])) (take (length rest - 1) (drop 1 rest)) ≡ total
+unfolding meaning
+kept_line room left solid backslash out [] total le off is so_far = absurd (omega arith)
+kept_line room left solid backslash out (b ∷ tail) total le off is so_far =
+    let t : take (length (b ∷ tail) - 1) tail ≡ tail = take_rest (b ∷ tail) 1 in
+    let one : take solid out ++ meaning room left backslash (drop solid out) (b ∷ tail) ≡ take solid out ++ b ∷ meaning room room false [] tail = rw (off, is) refl in
+    rw (t, off) (whole (take solid out ++ b ∷ []) (λ l. meaning room room false l tail) ∙ append_assoc (take solid out) (b ∷ []) (meaning room room false [] tail) ∙ sym one ∙ so_far)
+
+-- at a blank that may go, and at the end
+pub kept_loose : (room left solid : ℕ) (backslash : Bool) (out rest total : List ℕ) → 1 ≤ length rest → solid ≤ length out → backslash ≡ false → eqb (get_or rest 0 0) 10 ≡ false
+    → (ltb 0 left && eqb (get_or rest 0 0) 32) ≡ false → (ltb 0 left && eqb (get_or rest 0 0) 9) ≡ false → is_loose (get_or rest 0 0) ≡ true
+    → take solid out ++ meaning room left backslash (drop solid out) rest ≡ total
+    → take solid (out ++ get_or rest 0 0 ∷ []) ++ meaning room 0 backslash (drop solid (out ++ get_or rest 0 0 ∷ [])) (take (length rest - 1) (drop 1 rest)) ≡ total
+unfolding meaning
+kept_loose room left solid backslash out [] total le within off line space tab blank so_far = absurd (omega arith)
+kept_loose room left solid backslash out (b ∷ tail) total le within off line space tab blank so_far =
+    let t : take (length (b ∷ tail) - 1) tail ≡ tail = take_rest (b ∷ tail) 1 in
+    let kept : take solid (out ++ b ∷ []) ≡ take solid out = take-append-le solid out (b ∷ []) within in
+    let loose : drop solid (out ++ b ∷ []) ≡ drop solid out ++ b ∷ [] = drop-append-le solid out (b ∷ []) within in
+    let one : take solid out ++ meaning room left backslash (drop solid out) (b ∷ tail) ≡ take solid out ++ meaning room 0 false (drop solid out ++ b ∷ []) tail = rw (off, line, space, tab, blank) refl in
+    rw (t, off, kept, loose) (sym one ∙ so_far)
+
+pub kept_end : (room left solid : ℕ) (backslash : Bool) (out rest total : List ℕ) → length rest < 1 → take solid out ++ meaning room left backslash (drop solid out) rest ≡ total → out ≡ total
+unfolding meaning
+kept_end room left solid true out [] total lt so_far = sym (take-append-drop solid out) ∙ so_far
+kept_end room left solid false out [] total lt so_far = sym (take-append-drop solid out) ∙ so_far
+kept_end room left solid backslash out (b ∷ tail) total lt so_far = absurd (omega (arith, lt))

@@ -2,7 +2,7 @@
 
 // A leaf-list is an array of values of its type (RFC 7951 section 5.3), each once (RFC 7950 section 7.7); they
 // stand in the order of their values.
-pub static LEAF_LISTS: &str = r#"
+pub const LEAF_LISTS: &str = r#"
 numbers => {"eb:nums":[1,2]} => {"eb:nums":[1,2]}
 no numbers => {"eb:nums":[]} => {}
 numbers turned => {"eb:nums":[2,10,-1,1]} => {"eb:nums":[-1,1,2,10]}
@@ -54,7 +54,7 @@ one text in two entries => {"eb:l":[{"k":"b","tags":["x"]},{"k":"a","tags":["x"]
 
 // Containers are objects (RFC 7951 section 5.2): one with presence is a row of its own, another holds none (RFC
 // 7950 section 7.5.1).
-pub static CONTAINERS: &str = r#"
+pub const CONTAINERS: &str = r#"
 nothing in it => {"eb:plain":{}} => {}
 nothing in what is in it => {"eb:plain":{"inner":{}}} => {}
 a leaf in it => {"eb:plain":{"a":"x"}} => {"eb:plain":{"a":"x"}}
@@ -98,7 +98,7 @@ the lesser container => {"eb:plain":{"zz":1},"eb:here":{"zz":1}} => Unknown /eb:
 "#;
 
 // Containers and leaf-lists in entries (RFC 7951 sections 5.2 to 5.4).
-pub static ENTRIES: &str = r#"
+pub const ENTRIES: &str = r#"
 no tags => {"eb:l":[{"k":"a","tags":[]}]} => {"eb:l":[{"k":"a"}]}
 tags => {"eb:l":[{"k":"a","tags":["y","x"]}]} => {"eb:l":[{"k":"a","tags":["x","y"]}]}
 presence in an entry => {"eb:l":[{"k":"a","p":{}}]} => {"eb:l":[{"k":"a","p":{}}]}

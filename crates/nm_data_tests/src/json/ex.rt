@@ -1,10 +1,8 @@
 //! Texts of module ex: a list of interfaces by their names, and a leafref to one of them.
 
-use super::Case;
-
 // Names of members, containers and lists: RFC 7951 sections 4, 5.2 and 5.4. What holds no rows prints as
 // nothing.
-pub static NAMES: &str = r#"
+pub const NAMES: &str = r#"
 nothing => {} => {}
 an empty container => {"ex:sys":{}} => {}
 an empty list => {"ex:sys":{"iface":[]}} => {}
@@ -26,17 +24,11 @@ a top name with an escape => {"ex\u003asys":{"uplink":"a"}} => {"ex:sys":{"uplin
 "#;
 
 // The rows with line breaks and blanks that a line can't hold.
-pub static NAMES_IN_LINES: &[Case<'static>] = &[
-    ("blanks around", " \t\r\n{ } \n", "{}"),
-    (
-        "line breaks inside",
-        "{\n \"ex:sys\": {\r\n\t\"uplink\": \"a\"\n }\n}\n",
-        r#"{"ex:sys":{"uplink":"a"}}"#,
-    ),
-];
+pub const NAMES_IN_LINES: &str = "blanks around =>  \t\r\n{ } \n => {}\
+§line breaks inside => {\n \"ex:sys\": {\r\n\t\"uplink\": \"a\"\n }\n}\n => {\"ex:sys\":{\"uplink\":\"a\"}}";
 
 // Entries in the order of their paths: by the bytes of their keys (this project's own).
-pub static ENTRIES: &str = r#"
+pub const ENTRIES: &str = r#"
 two in order => {"ex:sys":{"iface":[{"name":"a"},{"name":"b"}]}} => {"ex:sys":{"iface":[{"name":"a"},{"name":"b"}]}}
 two turned => {"ex:sys":{"iface":[{"name":"b"},{"name":"a"}]}} => {"ex:sys":{"iface":[{"name":"a"},{"name":"b"}]}}
 the shorter first => {"ex:sys":{"iface":[{"name":"ab"},{"name":"a"}]}} => {"ex:sys":{"iface":[{"name":"a"},{"name":"ab"}]}}
@@ -51,7 +43,7 @@ a whole entry between bare ones => {"ex:sys":{"iface":[{"name":"c"},{"name":"b",
 
 // Strings: RFC 7951 section 6.2 and RFC 8259 section 7; their lengths count characters (RFC 7950 section
 // 9.4.4).
-pub static TEXTS: &str = r#"
+pub const TEXTS: &str = r#"
 one character => {"ex:sys":{"iface":[{"name":"a"}]}} => {"ex:sys":{"iface":[{"name":"a"}]}}
 32 characters => {"ex:sys":{"iface":[{"name":"abcdefghabcdefghabcdefghabcdefgh"}]}} => {"ex:sys":{"iface":[{"name":"abcdefghabcdefghabcdefghabcdefgh"}]}}
 33 characters => {"ex:sys":{"iface":[{"name":"abcdefghabcdefghabcdefghabcdefghi"}]}} => BadValue /ex:sys/iface/name
@@ -76,15 +68,12 @@ an uplink of 32 characters => {"ex:sys":{"uplink":"éééééééééééééé�
 "#;
 
 // The rows with line breaks and blanks that a line can't hold.
-pub static TEXTS_IN_LINES: &[Case<'static>] = &[(
-    "delete stands as itself",
-    r#"{"ex:sys":{"iface":[{"name":"\u007f"}]}}"#,
-    "{\"ex:sys\":{\"iface\":[{\"name\":\"\x7f\"}]}}",
-)];
+pub const TEXTS_IN_LINES: &str =
+    "delete stands as itself => {\"ex:sys\":{\"iface\":[{\"name\":\"\\u007f\"}]}} => {\"ex:sys\":{\"iface\":[{\"name\":\"\x7f\"}]}}";
 
 // A uint16 of 68 to 9192 is a JSON number (RFC 7951 section 6.1); floats, -0 and numbers beyond 64 bits are
 // none (this project's own).
-pub static NUMBERS: &str = r#"
+pub const NUMBERS: &str = r#"
 the lowest => {"ex:sys":{"iface":[{"name":"a","mtu":68}]}} => {"ex:sys":{"iface":[{"mtu":68,"name":"a"}]}}
 below the lowest => {"ex:sys":{"iface":[{"name":"a","mtu":67}]}} => BadValue /ex:sys/iface[name='a']/mtu
 the highest => {"ex:sys":{"iface":[{"name":"a","mtu":9192}]}} => {"ex:sys":{"iface":[{"mtu":9192,"name":"a"}]}}
@@ -105,7 +94,7 @@ an object => {"ex:sys":{"iface":[{"name":"a","mtu":{}}]}} => BadForm /ex:sys/ifa
 
 // JSON values of another kind than the node wants: RFC 7951 section 5; the kinds of faults are this project's
 // own.
-pub static FORMS: &str = r#"
+pub const FORMS: &str = r#"
 null for all => null => BadForm 
 an array for all => [] => BadForm 
 a string for all => "ex:sys" => BadForm 
@@ -128,7 +117,7 @@ an address as an object => {"ex:sys":{"iface":[{"name":"a","address":{}}]}} => B
 "#;
 
 // Members that lead to no node, where they stand; annotations are none of a configuration (this project's own).
-pub static UNKNOWN: &str = r#"
+pub const UNKNOWN: &str = r#"
 no module at the top => {"sys":{}} => Unknown /sys
 another module at the top => {"ey:sys":{}} => Unknown /ey:sys
 no such module => {"zz:sys":{}} => Unknown /zz:sys
@@ -152,7 +141,7 @@ an annotation of an entry => {"ex:sys":{"iface":[{"@":{},"name":"a"}]}} => Unkno
 "#;
 
 // Keys that lack, and what stands twice (RFC 7950 section 7.8.2); of one name in one object the last stands.
-pub static REPEATED: &str = r#"
+pub const REPEATED: &str = r#"
 no key => {"ex:sys":{"iface":[{"mtu":1500}]}} => MissingKey /ex:sys/iface
 an empty entry => {"ex:sys":{"iface":[{}]}} => MissingKey /ex:sys/iface
 no key in the second => {"ex:sys":{"iface":[{"name":"a"},{}]}} => MissingKey /ex:sys/iface
@@ -175,7 +164,7 @@ a name twice, the last bad => {"ex:sys":{"uplink":"a","uplink":5}} => BadForm /e
 
 // Of more faults the least: by its place in path order, then unknown, bad-form, bad-value, missing-key,
 // repeated (this project's own).
-pub static LEAST: &str = r#"
+pub const LEAST: &str = r#"
 the entry of the lesser key => {"ex:sys":{"iface":[{"name":"b","mtu":1},{"name":"a","mtu":1}]}} => BadValue /ex:sys/iface[name='a']/mtu
 the lesser name in an entry => {"ex:sys":{"iface":[{"name":"a","mtu":1,"address":1}]}} => BadForm /ex:sys/iface[name='a']/address
 a bare list before its entries => {"ex:sys":{"iface":[{"name":"a","mtu":1},{}]}} => MissingKey /ex:sys/iface
@@ -195,7 +184,7 @@ an entry before a second one => {"ex:sys":{"iface":[{"name":"a"},{"name":"a","mt
 "#;
 
 // Texts that are no JSON (RFC 8259).
-pub static NO_JSON: &str = r#"
+pub const NO_JSON: &str = r#"
 no text =>  => not JSON
 blanks alone =>   => not JSON
 an open object => { => not JSON
@@ -220,15 +209,6 @@ another case of a word => {"ex:sys":{"uplink":Null}} => not JSON
 "#;
 
 // The rows with line breaks and blanks that a line can't hold.
-pub static NO_JSON_IN_LINES: &[Case<'static>] = &[
-    (
-        "a raw line break",
-        "{\"ex:sys\":{\"iface\":[{\"name\":\"a\nb\"}]}}",
-        "not JSON",
-    ),
-    (
-        "a raw control character",
-        "{\"ex:sys\":{\"iface\":[{\"name\":\"a\u{1}b\"}]}}",
-        "not JSON",
-    ),
-];
+pub const NO_JSON_IN_LINES: &str =
+    "a raw line break => {\"ex:sys\":{\"iface\":[{\"name\":\"a\nb\"}]}} => not JSON\
+§a raw control character => {\"ex:sys\":{\"iface\":[{\"name\":\"a\u{1}b\"}]}} => not JSON";

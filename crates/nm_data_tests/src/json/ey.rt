@@ -2,7 +2,7 @@
 
 // An int64 is a JSON string (RFC 7951 section 6.1) with an optional sign and decimal digits (RFC 7950 section
 // 9.2.1).
-pub static BIG: &str = r#"
+pub const BIG: &str = r#"
 zero => {"ey:big":"0"} => {"ey:big":"0"}
 one => {"ey:big":"1"} => {"ey:big":"1"}
 below zero => {"ey:big":"-1"} => {"ey:big":"-1"}
@@ -48,7 +48,7 @@ another module => {"ex:big":"1"} => Unknown /ex:big
 
 // A list at the top whose key is a uint8, a JSON number (RFC 7951 sections 5.4 and 6.1); entries by number
 // (this project's own).
-pub static SRV: &str = r#"
+pub const SRV: &str = r#"
 an empty list => {"ey:srv":[]} => {}
 one entry => {"ey:srv":[{"id":1}]} => {"ey:srv":[{"id":1}]}
 the lowest key => {"ey:srv":[{"id":0}]} => {"ey:srv":[{"id":0}]}
@@ -88,7 +88,7 @@ two modules => {"ey:big":"5","ex:sys":{"uplink":"a"}} => {"ex:sys":{"uplink":"a"
 
 // A uint16 is a JSON number (RFC 7951 section 6.1). A default that is left out is no row (RFC 7950 section
 // 7.6.1).
-pub static PORT: &str = r#"
+pub const PORT: &str = r#"
 the lowest => {"ey:srv":[{"id":1,"port":0}]} => {"ey:srv":[{"id":1,"port":0}]}
 the highest => {"ey:srv":[{"id":1,"port":65535}]} => {"ey:srv":[{"id":1,"port":65535}]}
 above the highest => {"ey:srv":[{"id":1,"port":65536}]} => BadValue /ey:srv[id='1']/port
@@ -115,7 +115,7 @@ an annotation => {"ey:srv":[{"id":1,"@port":{}}]} => Unknown /ey:srv[id='1']/@po
 "#;
 
 // The least fault: bare before entries, entries by number, a lesser name first (this project's own).
-pub static ORDER: &str = r#"
+pub const ORDER: &str = r#"
 the lesser number => {"ey:srv":[{"id":10,"port":-1},{"id":9,"port":-1}]} => BadValue /ey:srv[id='9']/port
 the lesser number, spelled with the module => {"ey:srv":[{"id":100,"x":1},{"ey:id":99,"x":1}]} => Unknown /ey:srv[id='99']/x
 a missing key first => {"ey:srv":[{"id":1,"port":-1},{"port":1}]} => MissingKey /ey:srv

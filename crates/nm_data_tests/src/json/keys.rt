@@ -1,10 +1,8 @@
 //! Texts of module ek: lists by keys of each type, by two keys, and in each other.
 
-use super::Case;
-
 // Keys that are numbers are spelled as leafs (RFC 7951 section 6.1); entries are ordered by number (this
 // project's own).
-pub static NUMBERS: &str = r#"
+pub const NUMBERS: &str = r#"
 a key below zero => {"ek:i8":[{"k":-128}]} => {"ek:i8":[{"k":-128}]}
 a key above => {"ek:i8":[{"k":128}]} => BadValue /ek:i8/k
 a key as a string => {"ek:i8":[{"k":"1"}]} => BadForm /ek:i8/k
@@ -34,7 +32,7 @@ a leafref key beyond => {"ek:ref":[{"k":4294967296}]} => BadValue /ek:ref/k
 "#;
 
 // Keys of other types: false before true, others by the bytes of their canonical texts (this project's own).
-pub static WORDS: &str = r#"
+pub const WORDS: &str = r#"
 a key that is true => {"ek:flag":[{"k":true}]} => {"ek:flag":[{"k":true}]}
 false first => {"ek:flag":[{"k":true},{"k":false}]} => {"ek:flag":[{"k":false},{"k":true}]}
 true twice => {"ek:flag":[{"k":true},{"k":true}]} => Repeated /ek:flag[k='true']
@@ -67,14 +65,11 @@ an empty key in a bad entry => {"ek:nil":[{"k":[null],"v":1}]} => Unknown /ek:ni
 "#;
 
 // The rows with line breaks and blanks that a line can't hold.
-pub static WORDS_IN_LINES: &[Case<'static>] = &[(
-    "a line break in a bad entry",
-    r#"{"ek:text":[{"k":"a\nb","v":1}]}"#,
-    "Unknown /ek:text[k='a\nb']/v",
-)];
+pub const WORDS_IN_LINES: &str =
+    "a line break in a bad entry => {\"ek:text\":[{\"k\":\"a\\nb\",\"v\":1}]} => Unknown /ek:text[k='a\nb']/v";
 
 // Two keys, in the order of the key statement: b, a number, before a, a text (RFC 7950 section 7.8.2).
-pub static TWO: &str = r#"
+pub const TWO: &str = r#"
 both keys => {"ek:two":[{"a":"x","b":1}]} => {"ek:two":[{"a":"x","b":1}]}
 both, turned => {"ek:two":[{"b":1,"a":"x"}]} => {"ek:two":[{"a":"x","b":1}]}
 the first key decides => {"ek:two":[{"a":"x","b":2},{"a":"y","b":1}]} => {"ek:two":[{"a":"y","b":1},{"a":"x","b":2}]}
@@ -102,7 +97,7 @@ the lesser entry's => {"ek:two":[{"a":"x","b":10,"y":1},{"a":"x","b":9,"z":"1"}]
 "#;
 
 // Lists in lists; each entry has its keys, and equal keys in other entries are others (RFC 7950 section 7.8.2).
-pub static DEEP: &str = r#"
+pub const DEEP: &str = r#"
 an empty list below => {"ek:two":[{"a":"x","b":1,"deep":[]}]} => {"ek:two":[{"a":"x","b":1}]}
 an entry below => {"ek:two":[{"a":"x","b":1,"deep":[{"k":"p"}]}]} => {"ek:two":[{"a":"x","b":1,"deep":[{"k":"p"}]}]}
 a leaf below => {"ek:two":[{"a":"x","b":1,"deep":[{"k":"p","v":false}]}]} => {"ek:two":[{"a":"x","b":1,"deep":[{"k":"p","v":false}]}]}

@@ -2,7 +2,7 @@
 
 // Integers of at most 32 bits are JSON numbers, wider ones strings (RFC 7951 section 6.1); their ends: RFC 7950
 // section 9.2.
-pub static INTEGERS: &str = r#"
+pub const INTEGERS: &str = r#"
 int8 highest => {"et:i8":127} => {"et:i8":127}
 int8 above => {"et:i8":128} => BadValue /et:i8
 int8 lowest => {"et:i8":-128} => {"et:i8":-128}
@@ -47,7 +47,7 @@ uint64 as a number => {"et:u64":18446744073709551615} => BadForm /et:u64
 
 // Ranges (RFC 7950 section 9.2.4): of the parts 1 to 4 and 10 to 20; of 0 to 5 inside -10 to 10; of decimals
 // 0.5 to 2.5.
-pub static RANGES: &str = r#"
+pub const RANGES: &str = r#"
 the first part => {"et:parts":1} => {"et:parts":1}
 its end => {"et:parts":4} => {"et:parts":4}
 between the parts => {"et:parts":5} => BadValue /et:parts
@@ -79,7 +79,7 @@ no character => {"et:short":""} => BadValue /et:short
 
 // A decimal64 is a JSON string (RFC 7951 section 6.1), a digit and a point at least (RFC 7950 section 9.3.2);
 // surplus zeros are taken.
-pub static DECIMALS: &str = r#"
+pub const DECIMALS: &str = r#"
 a decimal => {"et:d2":"3.14"} => {"et:d2":"3.14"}
 no point => {"et:d2":"3"} => {"et:d2":"3.0"}
 zero => {"et:d2":"0"} => {"et:d2":"0.0"}
@@ -123,7 +123,7 @@ one digit: two => {"et:d1":"0.05"} => BadValue /et:d1
 
 // A boolean is JSON's, empty is [null]; strings, names and bits are JSON strings (RFC 7951 sections 6.2 to 6.5
 // and 6.9).
-pub static FLAGS: &str = r#"
+pub const FLAGS: &str = r#"
 true => {"et:flag":true} => {"et:flag":true}
 false => {"et:flag":false} => {"et:flag":false}
 true as a string => {"et:flag":"true"} => BadForm /et:flag
@@ -177,7 +177,7 @@ a bit's position => {"et:caps":1} => BadForm /et:caps
 "#;
 
 // A leafref is as the leaf that it leads to (RFC 7951 section 6.10). Members stand in the order of their names.
-pub static REFS: &str = r#"
+pub const REFS: &str = r#"
 an int64 that nothing has => {"et:wide-ref":"5"} => {"et:wide-ref":"5"}
 an int64 as a number => {"et:wide-ref":5} => BadForm /et:wide-ref
 an int64 too large => {"et:wide-ref":"9223372036854775808"} => BadValue /et:wide-ref

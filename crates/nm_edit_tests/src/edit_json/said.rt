@@ -1,5 +1,7 @@
+use crate::words::{Ask, are_so, expect, part};
 use nm_edit::Operation;
 use nm_edit_json::said::{Said, said_in, said_in_one};
+use nm_tree::Schema;
 use serde_json::{Error, Value as Json};
 use std::alloc::Global;
 use std::test::Fail;
@@ -40,22 +42,18 @@ null => misread
 [{"ietf-netconf:operation":"merge"}] => misread
 "#;
 
-// Fails where a line `TEXT => WORD` isn't so.
-fn is_said(alloc: Global, line: &str) -> Result<(), Fail> {
-    let (text, expected) = line.split_once(" => ").ok_or("no line")?;
-    let word = said(alloc, text)?;
-    if word == expected {
-        return Ok(());
+// A line `TEXT => WORD`.
+struct Says;
+
+impl Ask for Says {
+    fn is_so(&self, alloc: Global, _schema: &Schema, line: &str) -> Result<(), Fail> {
+        expect(said(alloc, part(line, 0))?, part(line, 1))
     }
-    Err(Fail::new(format_args!("otherwise than {line}")))
 }
 
 #[test]
 fn annotations_say_operations(rt: HostRuntime) -> Result<(), Fail> {
-    for line in ROWS.lines().skip(1) {
-        is_said(rt.alloc(), line)?;
-    }
-    Ok(())
+    are_so(rt.alloc(), &Says, ROWS)
 }
 
 // What is said by none of two names, by the first, by the second, and by both.
@@ -68,10 +66,15 @@ fn said_by_names(value: &Json) -> [&'static str; 4] {
     ]
 }
 
+fn two_names_say(alloc: Global) -> Result<(), Fail> {
+    let value = Json::from_str(alloc, r#"{"ietf-netconf:operation":"create"}"#)?;
+    if said_by_names(&value) == ["unsaid", "create", "create", "misread"] {
+        return Ok(());
+    }
+    Err(Fail::new("two names"))
+}
+
 #[test]
 fn one_of_two_names(rt: HostRuntime) -> Result<(), Fail> {
-    let value = Json::from_str(rt.alloc(), r#"{"ietf-netconf:operation":"create"}"#)?;
-    let words = said_by_names(&value);
-    assert_eq!(rt; words, ["unsaid", "create", "create", "misread"]);
-    Ok(())
+    two_names_say(rt.alloc())
 }

@@ -43,26 +43,26 @@ leaf a { type leafref { @path /x; } default y; } leaf b { type nothing; } => bad
 
 // Two modules, and their first fault, at the mark `@` (RFC 7950 sections 5.1, 5.5, 7.1 and 7.13).
 pub const MODULES: &str = r#"
-module a { namespace "urn:a"; prefix a; import b { prefix b; } leaf x { type b:t; } } => module b { namespace "urn:b"; prefix b; typedef t { type string; } } => fine
-module b { namespace "urn:b"; prefix b; typedef t { type string; } } => module a { namespace "urn:a"; prefix a; import b { prefix other; } leaf x { type other:t; } } => fine
-module a { namespace "urn:a"; prefix a; import b { prefix b; } leaf x { @type b:u; } } => module b { namespace "urn:b"; prefix b; typedef t { type string; } } => bad-reference b:u
-module a { namespace "urn:a"; prefix a; @import c { prefix c; } } => module b { namespace "urn:b"; prefix b; } => unknown c
-module a { namespace "urn:a"; prefix a; import b { @prefix a; } } => module b { namespace "urn:b"; prefix b; } => duplicate a
-module a { namespace "urn:a"; prefix a; } => @module a { namespace "urn:b"; prefix b; } => duplicate a
-module a { namespace "urn:a"; prefix a; } => @module netm-marker { namespace "urn:b"; prefix b; } => duplicate netm-marker
-module a { namespace "urn:a"; prefix a; } => @module b { namespace "urn:b"; } => bad-argument prefix
-module a { namespace "urn:a"; prefix a; } => @module b { prefix b; } => bad-argument namespace
-module a { namespace "urn:a"; prefix a; leaf x { type string; } } => module b { namespace "urn:b"; prefix b; leaf x { type string; } } => fine
-module a { namespace "urn:a"; prefix a; import b { prefix b; } uses b:g; } => module b { namespace "urn:b"; prefix b; grouping g { leaf x { type leafref { path ../y; } } leaf y { type t; } } typedef t { type int8; } } => fine
-module a { namespace "urn:a"; prefix a; import b { prefix b; } uses b:g; } => module b { namespace "urn:b"; prefix b; grouping g { leaf x { type leafref { @path /y; } } } leaf y { type int8; } } => bad-reference /y
-module a { namespace "urn:a"; prefix a; import b { prefix b; } uses b:g; leaf y { type int8; } } => module b { namespace "urn:b"; prefix b; grouping g { leaf x { type leafref { path /y; } } } } => fine
-module a { namespace "urn:a"; prefix a; import b { prefix b; } uses b:g; leaf y { type int8; } } => module b { namespace "urn:b"; prefix b; grouping g { leaf x { type leafref { @path /b:y; } } } } => bad-reference /b:y
-module a { namespace "urn:a"; prefix a; import b { prefix b; } leaf x { type leafref { path /b:c/b:y; } } } => module b { namespace "urn:b"; prefix b; container c { leaf y { type string; } } } => fine
-module a { namespace "urn:a"; prefix a; import b { prefix b; } leaf x { type leafref { @path /b:c/y; } } } => module b { namespace "urn:b"; prefix b; container c { leaf y { type string; } } } => bad-reference /b:c/y
-module a { namespace "urn:a"; prefix a; import b { prefix b; } leaf x { type leafref { path /b:y; } @default z; } } => module b { namespace "urn:b"; prefix b; leaf y { type int8; } } => bad-argument default
-module a { namespace "urn:a"; prefix a; import b { prefix b; } @typedef t { type b:t; } } => module b { namespace "urn:b"; prefix b; import a { prefix a; } typedef t { type a:t; } } => cycle t
-module a { namespace "urn:a"; prefix a; import b { prefix b; } @grouping g { uses b:g; } } => module b { namespace "urn:b"; prefix b; import a { prefix a; } grouping g { uses a:g; } } => cycle g
-module a { namespace "urn:a"; prefix a; leaf x { @type nothing; } } => module b { namespace "urn:b"; prefix b; leaf y; } => bad-reference nothing
-module a { namespace "urn:a"; prefix a; leaf x { type string; } } => module b { namespace "urn:b"; prefix b; @leaf y; } => bad-argument type
-module a { namespace "urn:a"; prefix a; import b { prefix b; } list l { key k; uses b:g; } } => module b { namespace "urn:b"; prefix b; grouping g { leaf k { type string; } } } => fine
+module a { namespace "urn:a"; prefix a; import b { prefix b; } leaf x { type b:t; } } & module b { namespace "urn:b"; prefix b; typedef t { type string; } } => fine
+module b { namespace "urn:b"; prefix b; typedef t { type string; } } & module a { namespace "urn:a"; prefix a; import b { prefix other; } leaf x { type other:t; } } => fine
+module a { namespace "urn:a"; prefix a; import b { prefix b; } leaf x { @type b:u; } } & module b { namespace "urn:b"; prefix b; typedef t { type string; } } => bad-reference b:u
+module a { namespace "urn:a"; prefix a; @import c { prefix c; } } & module b { namespace "urn:b"; prefix b; } => unknown c
+module a { namespace "urn:a"; prefix a; import b { @prefix a; } } & module b { namespace "urn:b"; prefix b; } => duplicate a
+module a { namespace "urn:a"; prefix a; } & @module a { namespace "urn:b"; prefix b; } => duplicate a
+module a { namespace "urn:a"; prefix a; } & @module netm-marker { namespace "urn:b"; prefix b; } => duplicate netm-marker
+module a { namespace "urn:a"; prefix a; } & @module b { namespace "urn:b"; } => bad-argument prefix
+module a { namespace "urn:a"; prefix a; } & @module b { prefix b; } => bad-argument namespace
+module a { namespace "urn:a"; prefix a; leaf x { type string; } } & module b { namespace "urn:b"; prefix b; leaf x { type string; } } => fine
+module a { namespace "urn:a"; prefix a; import b { prefix b; } uses b:g; } & module b { namespace "urn:b"; prefix b; grouping g { leaf x { type leafref { path ../y; } } leaf y { type t; } } typedef t { type int8; } } => fine
+module a { namespace "urn:a"; prefix a; import b { prefix b; } uses b:g; } & module b { namespace "urn:b"; prefix b; grouping g { leaf x { type leafref { @path /y; } } } leaf y { type int8; } } => bad-reference /y
+module a { namespace "urn:a"; prefix a; import b { prefix b; } uses b:g; leaf y { type int8; } } & module b { namespace "urn:b"; prefix b; grouping g { leaf x { type leafref { path /y; } } } } => fine
+module a { namespace "urn:a"; prefix a; import b { prefix b; } uses b:g; leaf y { type int8; } } & module b { namespace "urn:b"; prefix b; grouping g { leaf x { type leafref { @path /b:y; } } } } => bad-reference /b:y
+module a { namespace "urn:a"; prefix a; import b { prefix b; } leaf x { type leafref { path /b:c/b:y; } } } & module b { namespace "urn:b"; prefix b; container c { leaf y { type string; } } } => fine
+module a { namespace "urn:a"; prefix a; import b { prefix b; } leaf x { type leafref { @path /b:c/y; } } } & module b { namespace "urn:b"; prefix b; container c { leaf y { type string; } } } => bad-reference /b:c/y
+module a { namespace "urn:a"; prefix a; import b { prefix b; } leaf x { type leafref { path /b:y; } @default z; } } & module b { namespace "urn:b"; prefix b; leaf y { type int8; } } => bad-argument default
+module a { namespace "urn:a"; prefix a; import b { prefix b; } @typedef t { type b:t; } } & module b { namespace "urn:b"; prefix b; import a { prefix a; } typedef t { type a:t; } } => cycle t
+module a { namespace "urn:a"; prefix a; import b { prefix b; } @grouping g { uses b:g; } } & module b { namespace "urn:b"; prefix b; import a { prefix a; } grouping g { uses a:g; } } => cycle g
+module a { namespace "urn:a"; prefix a; leaf x { @type nothing; } } & module b { namespace "urn:b"; prefix b; leaf y; } => bad-reference nothing
+module a { namespace "urn:a"; prefix a; leaf x { type string; } } & module b { namespace "urn:b"; prefix b; @leaf y; } => bad-argument type
+module a { namespace "urn:a"; prefix a; import b { prefix b; } list l { key k; uses b:g; } } & module b { namespace "urn:b"; prefix b; grouping g { leaf k { type string; } } } => fine
 "#;

@@ -24,14 +24,5 @@ returns-then-len-count-clause-given c =
 pub returns-then-len-count-clause-configuration : goal.returns-then-len-count-clause-configuration
 returns-then-len-count-clause-configuration c = given_law c.answer.result c.args.schema.now (view c.args.value.now) (returns-then-len-count-clause-given c)
 
-pub returns-clause-given : goal.returns-clause-given
-returns-clause-given c =
-    let t = c.args.schema.now in
-    let rows = c.rows-2.inside.rows.items in
-    let is : answered t c.put_rows.new.least c.in_ok-config-2.config ≡ config_read t (view c.args.value.now) =
-    (λ i. answered t (c.in_ok-config-2.ensures.least i) (c.in_ok-config-2.ensures.rows i))
-    ∙ whole_is t (view c.args.value.now) rows c.rows-2.inside.least (c.rows-2.view_is ∙ c.in_ok-rows-2.ensures) in
-    subst (Gives c.answer-2.result) is c.answer-2.ensures
-
 pub returns-clause-configuration : goal.returns-clause-configuration
-returns-clause-configuration c = given_law c.answer-2.result c.args.schema.now (view c.args.value.now) (returns-clause-given c)
+returns-clause-configuration c = given_law c.row_by_row.result c.args.schema.now (view c.args.value.now) c.row_by_row.ensures

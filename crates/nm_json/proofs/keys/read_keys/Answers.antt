@@ -1,5 +1,7 @@
+use Rattle.std.proofs.Common.{◌++◌, map, sym, ap, ◌∙◌, append-nil}
+use Rattle.std.proofs.lemmas.List.{drop_all}
 use Rattle.serde_json.specs.View.{members_view}
-use Rattle.nm_json.specs.Findings.{bare, key_read}
+use Rattle.nm_json.specs.Findings.{bare, key_read, values_of}
 use Rattle.nm_json.proofs.Gathering.{values_step, faults_step, faults_end}
 use Rattle.nm_json.specs.Spots.{spot_of}
 use Rattle.nm_json.proofs.keys.read_keys.Goals as goal
@@ -16,3 +18,10 @@ pub returns-clause-faults : goal.returns-clause-faults
 returns-clause-faults c =
     let read = key_read c.args.schema.now (bare (spot_of c.args.list.now)) (members_view c.args.members.now.entries) in
     faults_end read c.args.keys.now c.loop-key.key-index c.loop-key.gathered _ c.loop-key-test.false c.loop-key.invariant.1
+
+pub returns-clause-values : goal.returns-clause-values
+returns-clause-values c =
+    let read = key_read c.args.schema.now (bare (spot_of c.args.list.now)) (members_view c.args.members.now.entries) in
+    let over = drop_all c.loop-key.key-index c.args.keys.now c.loop-key-test.false in
+    let values = c.loop-key.values.items in
+    sym (append-nil values) ∙ ap (λ ks. values ++ values_of (map read ks)) (sym over) ∙ c.loop-key.invariant.0
