@@ -18,8 +18,6 @@ mod report;
 #[cfg(test)]
 mod run;
 #[cfg(test)]
-mod scenarios;
-#[cfg(test)]
 mod table;
 #[cfg(test)]
 mod trace;

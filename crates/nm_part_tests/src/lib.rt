@@ -1,10 +1,8 @@
-//! Tests of the parts that a device is made of, of its history, and of the board that threads share.
+//! Tests of the parts that a device is made of, and of its history.
 //!
 //! They stand apart from the crates that they test, since a crate's functions are proved once more with its tests.
 #![tactic(auto)]
 
-#[cfg(test)]
-mod chronicle;
 #[cfg(test)]
 mod history;
 #[cfg(test)]
@@ -13,8 +11,6 @@ mod locks;
 mod partial;
 #[cfg(test)]
 mod pending;
-#[cfg(test)]
-mod phases;
 #[cfg(test)]
 mod script;
 #[cfg(test)]

@@ -1,5 +1,5 @@
 use Rattle.std.proofs.Common.{Some, [], ◌∷◌}
-use Rattle.nm_device_tests.proofs.cells.run_drop.Given as goal
+use Rattle.nm_cell_tests.proofs.cells.run_drop.Given as goal
 
 -- the run: one device, one change set
 abbrev pub ghosts-drop_story-N-Ledger : goal.ghosts-drop_story-N-Ledger

@@ -1,5 +1,5 @@
 use Rattle.std.proofs.Common.{Some, [], ◌∷◌}
-use Rattle.nm_device_tests.proofs.courses.run_pass.Given as goal
+use Rattle.nm_cell_tests.proofs.courses.run_pass.Given as goal
 
 -- the run: one device, one change set
 abbrev pub ghosts-first_pass-N-Ledger : goal.ghosts-first_pass-N-Ledger

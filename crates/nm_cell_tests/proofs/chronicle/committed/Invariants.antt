@@ -1,4 +1,4 @@
-use Rattle.nm_part_tests.proofs.chronicle.committed.Given as goal
+use Rattle.nm_cell_tests.proofs.chronicle.committed.Given as goal
 
 -- the run of the call
 abbrev pub ghosts-commit-N-Ledger : goal.ghosts-commit-N-Ledger

@@ -1,4 +1,4 @@
-use Rattle.nm_part_tests.proofs.chronicle.strayed.Given as goal
+use Rattle.nm_cell_tests.proofs.chronicle.strayed.Given as goal
 
 -- the run of the call
 abbrev pub ghosts-stray-N-Ledger : goal.ghosts-stray-N-Ledger

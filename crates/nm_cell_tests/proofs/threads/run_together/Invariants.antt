@@ -1,5 +1,5 @@
 use Rattle.std.proofs.Common.{Some, [], ◌∷◌}
-use Rattle.nm_device_tests.proofs.threads.run_together.Given as goal
+use Rattle.nm_cell_tests.proofs.threads.run_together.Given as goal
 
 -- the run: one device, one change set
 abbrev pub ghosts-together-N-Ledger : goal.ghosts-together-N-Ledger

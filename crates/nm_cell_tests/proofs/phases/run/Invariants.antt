@@ -1,4 +1,4 @@
-use Rattle.nm_part_tests.proofs.phases.run.Given as goal
+use Rattle.nm_cell_tests.proofs.phases.run.Given as goal
 
 -- the run: one device, one change set
 abbrev pub ghosts-story-N-Ledger : goal.ghosts-story-N-Ledger
