@@ -9,11 +9,11 @@ use Rattle.nm_proto.specs.declared.journal.Entry.{Entry}
 use Rattle.nm_history.specs.History.{RecordedState}
 use Rattle.nm_history.specs.Outcome.{outcome_of}
 use Rattle.nm_recovery.specs.Recovery.{is_ended_in, is_started, verdict_in}
+use Rattle.nm_decider_stage.specs.declared.stage.Stage.{Stage}
+use Rattle.nm_decider_stage.specs.declared.stage.Stage.TheVariants.{Live, Refused, Failed, NeedMark, Resync, Leaving, Settled}
+use Rattle.nm_decider_stage.specs.Stages.{is_settled}
 use Rattle.nm_decider.specs.declared.course.NextAction.TheVariants.{Finish}
 use Rattle.nm_decider.specs.declared.seat.Seat.{Seat}
-use Rattle.nm_decider.specs.declared.stage.Stage.{Stage}
-use Rattle.nm_decider.specs.declared.stage.Stage.TheVariants.{Live, Refused, Failed, NeedMark, Resync, Leaving, Settled}
-use Rattle.nm_decider.specs.Stages.{is_settled}
 use Rattle.nm_decider.specs.Course as course
 use Rattle.nm_decider.specs.Course.{CourseState, decided_seat, next_action, seat_count, seats_from}
 use Rattle.nm_decider.specs.Rightly.{ActsRightly}

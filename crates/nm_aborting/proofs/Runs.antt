@@ -15,8 +15,8 @@ use Rattle.nm_device.specs.Device.{is_manager}
 use Rattle.nm_history.specs.Outcome.{is_pending, outcome_of}
 use Rattle.nm_history.specs.History.{RecordedState, recorded}
 use Rattle.nm_recovery.specs.Recovery.{is_ended_in, verdict_in}
+use Rattle.nm_decider_stage.specs.declared.stage.Stage.TheVariants.{Live}
 use Rattle.nm_decider.specs.declared.seat.Seat.{Seat}
-use Rattle.nm_decider.specs.declared.stage.Stage.TheVariants.{Live}
 use Rattle.nm_decider.specs.Course.{seat_count, seats_from}
 use Rattle.nm_wire.specs.Words.{commits_sent}
 use Rattle.nm_manager.specs.Slot.{SideState, SlotState, fresh_side, fresh_slot}

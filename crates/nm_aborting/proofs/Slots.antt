@@ -10,9 +10,9 @@ use Rattle.nm_proto.specs.declared.journal.Entry.{Entry}
 use Rattle.nm_proto.specs.declared.plan.ChangePlan.{ChangePlan}
 use Rattle.nm_history.specs.History.{RecordedState}
 use Rattle.nm_recovery.specs.Recovery.{verdict_in}
+use Rattle.nm_decider_stage.specs.Stages.{broken_stage, learnt, next_ask}
 use Rattle.nm_decider.specs.declared.course.NextAction.TheVariants.{Send}
 use Rattle.nm_decider.specs.declared.seat.Seat.{Seat}
-use Rattle.nm_decider.specs.Stages.{broken_stage, learnt, next_ask}
 use Rattle.nm_decider.specs.Course as course
 use Rattle.nm_decider.specs.Course.{CourseState, asked_next, next_action, noted, renewed}
 use Rattle.nm_decider.specs.Rightly.{IsAsked}

@@ -7,8 +7,8 @@ use Rattle.nm_proto.specs.declared.message.Reply.{Reply}
 use Rattle.nm_proto.specs.declared.journal.AbortCause.{AbortCause}
 use Rattle.nm_proto.specs.declared.journal.Verdict.{Verdict}
 use Rattle.nm_proto.specs.declared.journal.Verdict.TheVariants as verdict
-use Rattle.nm_decider.specs.declared.stage.Stage.{Stage}
-use Rattle.nm_decider.specs.Stages.{aborted_stage, broken_stage, learnt, next_ask}
+use Rattle.nm_decider_stage.specs.declared.stage.Stage.{Stage}
+use Rattle.nm_decider_stage.specs.Stages.{aborted_stage, broken_stage, learnt, next_ask}
 use Rattle.nm_resync.specs.declared.resync.ResyncStage.{ResyncStage}
 use Rattle.nm_resync.specs.declared.resync.ResyncStage.TheVariants.{Opening}
 use Rattle.nm_resync.specs.Resync.{ResyncState, resync_ask, resync_learnt, settled_in}

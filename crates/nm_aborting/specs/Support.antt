@@ -12,9 +12,9 @@ use Rattle.nm_sessions.specs.Sessions.{is_open}
 use Rattle.nm_history.specs.Outcome.{outcome_of, is_pending}
 use Rattle.nm_history.specs.History.{RecordedState}
 use Rattle.nm_recovery.specs.Recovery.{is_ended_in, verdict_in}
+use Rattle.nm_decider_stage.specs.declared.stage.Stage.{Stage}
+use Rattle.nm_decider_stage.specs.declared.stage.Stage.TheVariants.{Live, Resync, Leaving, Settled}
 use Rattle.nm_decider.specs.declared.seat.Seat.{Seat}
-use Rattle.nm_decider.specs.declared.stage.Stage.{Stage}
-use Rattle.nm_decider.specs.declared.stage.Stage.TheVariants.{Live, Resync, Leaving, Settled}
 use Rattle.nm_resync.specs.declared.resync.ResyncStage.{ResyncStage}
 use Rattle.nm_resync.specs.Known.{knows}
 use Rattle.nm_wire.specs.declared.link.Exchange.{Exchange}

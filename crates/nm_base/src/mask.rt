@@ -4,7 +4,7 @@ ghost use Rattle.nm_base.specs.Mask.{mask_contains, AddsToMask, TakesFromMask, I
 use crate::number::{ChangeNo, DeviceNo};
 
 /// A set of devices: bit `d - 1` stands for device `d`.
-#[derive(Clone, Copy, Debug, PartialEq, Eq, Hash)]
+#[derive(Clone, Copy, PartialEq, Eq)]
 pub struct DeviceMask(pub u32);
 
 impl DeviceMask {
@@ -42,7 +42,7 @@ impl DeviceMask {
 }
 
 /// A set of change sets: bit `c - 1` stands for change set `c`.
-#[derive(Clone, Copy, Debug, PartialEq, Eq, Hash)]
+#[derive(Clone, Copy, PartialEq, Eq)]
 pub struct ChangeMask(pub u64);
 
 impl ChangeMask {

@@ -3,7 +3,7 @@ ghost use Rattle.std.specs.Prelude.{◌≡◌, ℕ, ◌≤◌, ◌^◌, ◌<◌,
 use std::marker::Model;
 
 /// The number of a device, from 1 to 32.
-#[derive(Clone, Copy, Debug, PartialEq, Eq, PartialOrd, Ord, Hash)]
+#[derive(Clone, Copy, PartialEq, Eq)]
 pub struct DeviceNo {
     number: u8,
 }
@@ -45,7 +45,7 @@ impl DeviceNo {
 }
 
 /// The number of a change set, from 1 to 64.
-#[derive(Clone, Copy, Debug, PartialEq, Eq, PartialOrd, Ord, Hash)]
+#[derive(Clone, Copy, PartialEq, Eq)]
 pub struct ChangeNo {
     number: u32,
 }
@@ -87,7 +87,7 @@ impl ChangeNo {
 }
 
 /// The id of a NETCONF session on one device, from 1 to 4294967295 (RFC 6241 section 4.1).
-#[derive(Clone, Copy, Debug, PartialEq, Eq, PartialOrd, Ord, Hash)]
+#[derive(Clone, Copy, Debug, PartialEq, Eq)]
 pub struct SessionId {
     number: u32,
 }
@@ -126,9 +126,9 @@ impl SessionId {
 }
 
 /// The place of an edit in the tables of a run, from 0.
-#[derive(Clone, Copy, Debug, PartialEq, Eq, PartialOrd, Ord, Hash)]
+#[derive(Clone, Copy, PartialEq, Eq)]
 pub struct EditNo(pub u32);
 
 /// The place of a list of selected nodes in the tables of a run, from 0.
-#[derive(Clone, Copy, Debug, PartialEq, Eq, PartialOrd, Ord, Hash)]
+#[derive(Clone, Copy, PartialEq, Eq)]
 pub struct SelectNo(pub u32);

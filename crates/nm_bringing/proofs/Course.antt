@@ -7,10 +7,10 @@ use Rattle.nm_proto.specs.declared.message.Request.{Request}
 use Rattle.nm_proto.specs.declared.message.Reply.{Reply}
 use Rattle.nm_proto.specs.declared.journal.Verdict.{Verdict}
 use Rattle.nm_history.specs.History.{RecordedState}
+use Rattle.nm_decider_stage.specs.declared.stage.Stage.{Stage}
+use Rattle.nm_decider_stage.specs.declared.stage.Stage.TheVariants.{Live, Refused, Failed, NeedMark, Resync, Leaving, Settled}
+use Rattle.nm_decider_stage.specs.Stages.{is_acknowledged, learnt, next_ask}
 use Rattle.nm_decider.specs.declared.seat.Seat.{Seat}
-use Rattle.nm_decider.specs.declared.stage.Stage.{Stage}
-use Rattle.nm_decider.specs.declared.stage.Stage.TheVariants.{Live, Refused, Failed, NeedMark, Resync, Leaving, Settled}
-use Rattle.nm_decider.specs.Stages.{is_acknowledged, learnt, next_ask}
 use Rattle.nm_decider.specs.Course.{asked_next, renewed}
 use Rattle.nm_resync.specs.declared.resync.ResyncStage.{ResyncStage}
 use Rattle.nm_wire.specs.declared.link.Exchange.{Exchange}

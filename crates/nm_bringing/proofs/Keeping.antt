@@ -14,10 +14,10 @@ use Rattle.nm_journal.specs.Record.{is_change}
 use Rattle.nm_journal.specs.Entries.{decides, may_follow}
 use Rattle.nm_history.specs.History.{RecordedState}
 use Rattle.nm_recovery.specs.Recovery.{is_started, is_ended_in, verdict_in}
+use Rattle.nm_decider_stage.specs.declared.stage.Stage.TheVariants.{Live}
+use Rattle.nm_decider_stage.specs.Stages.{is_acknowledged, next_ask}
 use Rattle.nm_decider.specs.declared.course.NextAction.TheVariants.{Send, Decide}
 use Rattle.nm_decider.specs.declared.seat.Seat.{Seat}
-use Rattle.nm_decider.specs.declared.stage.Stage.TheVariants.{Live}
-use Rattle.nm_decider.specs.Stages.{is_acknowledged, next_ask}
 use Rattle.nm_decider.specs.Course as course
 use Rattle.nm_decider.specs.Course.{next_action, seat_count, seats_from}
 use Rattle.nm_decider.specs.Rightly.{ActsRightly, IsReady}

@@ -5,8 +5,8 @@ use Rattle.nm_proto.specs.declared.plan.ChangePlan.{ChangePlan}
 use Rattle.nm_proto.specs.Content.{Meaning}
 use Rattle.nm_proto.specs.Plan.{devices_in}
 use Rattle.nm_history.specs.History.{RecordedState, recorded}
+use Rattle.nm_decider_stage.specs.declared.stage.Stage.TheVariants.{Live}
 use Rattle.nm_decider.specs.declared.seat.Seat.{Seat}
-use Rattle.nm_decider.specs.declared.stage.Stage.TheVariants.{Live}
 use Rattle.nm_decider.specs.Course.{seat_count, seat_of, seats_from}
 use Rattle.nm_wire.specs.Wire.{no_links}
 use Rattle.nm_manager.specs.Slot.{SideState, fresh_side, fresh_slot}

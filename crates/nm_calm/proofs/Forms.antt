@@ -12,9 +12,9 @@ use Rattle.nm_proto.specs.declared.plan.Event.TheVariants.{Deliver, Answer}
 use Rattle.nm_proto.specs.declared.plan.PlannedEdit.{PlannedEdit}
 use Rattle.nm_proto.specs.Content.{Meaning, TablesState}
 use Rattle.nm_sessions.specs.Sessions.{without}
-use Rattle.nm_decider.specs.declared.stage.Stage.{Stage}
-use Rattle.nm_decider.specs.declared.stage.Stage.TheVariants.{Live, Leaving, Settled}
-use Rattle.nm_decider.specs.Stages.{next_ask, learnt, trouble_in, is_acknowledged, is_settled}
+use Rattle.nm_decider_stage.specs.declared.stage.Stage.{Stage}
+use Rattle.nm_decider_stage.specs.declared.stage.Stage.TheVariants.{Live, Leaving, Settled}
+use Rattle.nm_decider_stage.specs.Stages.{next_ask, learnt, trouble_in, is_acknowledged, is_settled}
 use Rattle.nm_resync.specs.Resync.{ResyncState}
 use Rattle.nm_wire.specs.declared.link.Exchange.{Exchange}
 use Rattle.nm_wire.specs.declared.link.Way.TheVariants.{Quiet, Asked, Told}

@@ -11,8 +11,8 @@ use Rattle.nm_proto.specs.Content.{Meaning}
 use Rattle.nm_proto.specs.Plan.{is_planned}
 use Rattle.nm_journal.specs.Entries.{may_follow, comes_next}
 use Rattle.nm_journal.specs.Record.{is_change}
+use Rattle.nm_decider_stage.specs.declared.stage.Stage.TheVariants.{Live}
 use Rattle.nm_decider.specs.declared.seat.Seat.{Seat}
-use Rattle.nm_decider.specs.declared.stage.Stage.TheVariants.{Live}
 use Rattle.nm_decider.specs.Course.{seat_of, seats_from, seat_count}
 use Rattle.nm_resync.specs.Resync.{fresh_resync}
 use Rattle.nm_wire.specs.Wire.{no_links}

@@ -9,10 +9,10 @@ use Rattle.nm_proto.specs.declared.journal.AbortCause.{AbortCause}
 use Rattle.nm_proto.specs.declared.message.Request.{Request}
 use Rattle.nm_proto.specs.declared.plan.Event.TheVariants.{Deliver, Answer, Turn}
 use Rattle.nm_proto.specs.Content.{Meaning}
+use Rattle.nm_decider_stage.specs.declared.stage.Stage.{Stage}
+use Rattle.nm_decider_stage.specs.Stages.{next_ask, trouble_in}
 use Rattle.nm_decider.specs.declared.seat.Seat.{Seat}
-use Rattle.nm_decider.specs.declared.stage.Stage.{Stage}
 use Rattle.nm_decider.specs.declared.course.NextAction.TheVariants as next
-use Rattle.nm_decider.specs.Stages.{next_ask, trouble_in}
 use Rattle.nm_decider.specs.Course.{CourseState, noted, next_action, with_seat, with_sent, with_sent_at, with_reply_at}
 use Rattle.nm_resync.specs.Resync.{ResyncState}
 use Rattle.nm_wire.specs.declared.link.Exchange.{Exchange}

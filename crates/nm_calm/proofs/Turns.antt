@@ -10,10 +10,10 @@ use Rattle.nm_proto.specs.declared.journal.Verdict.TheVariants as verdict
 use Rattle.nm_proto.specs.declared.plan.Event.TheVariants.{Turn}
 use Rattle.nm_proto.specs.Content.{Meaning}
 use Rattle.nm_journal.specs.Entries.{may_follow}
+use Rattle.nm_decider_stage.specs.Stages.{next_ask, is_settled}
 use Rattle.nm_decider.specs.declared.seat.Seat.{Seat}
 use Rattle.nm_decider.specs.declared.course.NextAction.{NextAction}
 use Rattle.nm_decider.specs.declared.course.NextAction.TheVariants as next
-use Rattle.nm_decider.specs.Stages.{next_ask, is_settled}
 use Rattle.nm_decider.specs.Course.{CourseState, next_action, decided_seat}
 use Rattle.nm_decider.specs.Rightly.{IsAsked, IsReady, MayCommit, MayEnd}
 use Rattle.nm_decider.proofs.Actions.{rightly}

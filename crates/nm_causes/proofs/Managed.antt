@@ -17,10 +17,10 @@ use Rattle.nm_proto.specs.declared.plan.Event.TheVariants.{Submit, Turn, Renew}
 use Rattle.nm_proto.specs.Plan.{devices_in}
 use Rattle.nm_journal.specs.Entries.{may_follow}
 use Rattle.nm_recovery.specs.Recovery.{verdict_in}
+use Rattle.nm_decider_stage.specs.Stages.{next_ask}
 use Rattle.nm_decider.specs.declared.course.NextAction.{NextAction}
 use Rattle.nm_decider.specs.declared.course.NextAction.TheVariants as next
 use Rattle.nm_decider.specs.declared.seat.Seat.{Seat}
-use Rattle.nm_decider.specs.Stages.{next_ask}
 use Rattle.nm_decider.specs.Course as course
 use Rattle.nm_decider.specs.Course.{CourseState, next_action, action_by, calm_action, decided_action, send_at, send_seat, send_of, awaits}
 use Rattle.nm_decider.specs.Course.{wants_acknowledgement, wants_settling, place_of, fewest_from, kept_from}

@@ -12,7 +12,7 @@ use Rattle.nm_proto.specs.declared.message.Reply.TheVariants.{Done, Opened, Lock
 use Rattle.nm_proto.specs.declared.journal.AbortCause.{AbortCause}
 use Rattle.nm_proto.specs.declared.journal.AbortCause.TheVariants as cause
 use Rattle.nm_device.specs.Table.{opening_user}
-use Rattle.nm_decider.specs.Stages.{fits, tag_in, is_error, trouble_in}
+use Rattle.nm_decider_stage.specs.Stages.{fits, tag_in, is_error, trouble_in}
 use Rattle.nm_history.specs.declared.event.DeviceEvent.{DeviceEvent}
 use Rattle.nm_history.specs.declared.event.Noted.{Noted}
 use Rattle.nm_history.specs.History.{event_by}

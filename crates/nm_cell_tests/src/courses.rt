@@ -337,7 +337,7 @@ fn unlike_fault<R: Wait>(rt: &R, alloc: Global, at: u32) -> Result<Option<PlanFa
 #[test]
 fn each_fault_breaks_its_call(rt: HostRuntime) -> Result<(), Fail> {
     for at in 1..7u32 {
-        assert_eq!(rt; unlike_fault(&rt, rt.alloc(), at)?, None, "request {at}");
+        assert!(rt; unlike_fault(&rt, rt.alloc(), at)? == None, "request {at}");
     }
     Ok(())
 }

@@ -4,7 +4,7 @@ use nm_base::{ChangeNo, DeviceNo};
 use nm_proto::Verdict;
 
 /// One thing that is marked on a change set's line of the board (this project's own).
-#[derive(Clone, Copy, Debug, PartialEq, Eq)]
+#[derive(Clone, Copy, PartialEq, Eq)]
 pub enum Mark {
     /// The device is asked for the change set's confirmed commit.
     Asked { device: DeviceNo },
@@ -23,7 +23,7 @@ pub enum Mark {
 }
 
 /// A call that the board couldn't take.
-#[derive(Clone, Copy, Debug, PartialEq, Eq)]
+#[derive(Clone, Copy, PartialEq, Eq)]
 pub struct Stray {
     pub change: ChangeNo,
     pub mark: Mark,

@@ -50,7 +50,7 @@ use Rattle.nm_marking.proofs.Alone.{run_tells}
 use Rattle.nm_marking.proofs.Drained.{drained_tells}
 use Rattle.nm_marking.proofs.Remains.{run_stays, drained_stays}
 use Rattle.nm_proto.specs.declared.flat.FlatNode.{FlatNode}
-use Rattle.nm_content.specs.declared.place.YangNode.{YangNode}
+use Rattle.nm_content_place.specs.declared.place.YangNode.{YangNode}
 use Rattle.nm_console.proofs.Unmarked.{flat_unmarked, data_unmarked}
 use Rattle.nm_safety.proofs.Lists.{some_is}
 use Rattle.nm_content.specs.Mark.{has_mark}

@@ -10,7 +10,7 @@ use Rattle.nm_proto.specs.declared.plan.Event.TheVariants.{Submit}
 use Rattle.nm_proto.specs.Flat.{flat_text}
 use Rattle.nm_proto.specs.FlatContent.{flat_meaning}
 use Rattle.nm_proto.specs.declared.flat.FlatNode.{FlatNode}
-use Rattle.nm_content.specs.declared.place.YangNode.{YangNode}
+use Rattle.nm_content_place.specs.declared.place.YangNode.{YangNode}
 use Rattle.nm_content.specs.Meaning.{lifted, yang_meaning, yang_text}
 use Rattle.nm_scenario_parts.specs.declared.fault.Fault.{Fault}
 use Rattle.nm_scenario_parts.specs.Line.{line_of}

@@ -5,7 +5,7 @@ use nm_base::{Label, NoMemory};
 use std::alloc::Global;
 
 /// What the program is asked to do.
-#[derive(Clone, Copy, Debug, PartialEq, Eq)]
+#[derive(Clone, Copy, PartialEq, Eq)]
 pub enum Command {
     /// Check what a scenario holds, and count it.
     Check,

@@ -23,7 +23,7 @@ use nm_scenario::{BYTE_LIMIT, ScenarioKind};
 use std::alloc::Global;
 
 /// Why there is nothing to say.
-#[derive(Clone, Copy, Debug, PartialEq, Eq)]
+#[derive(Clone, Copy, PartialEq, Eq)]
 enum Stop {
     ReadFault,
     DiskFault,

@@ -18,7 +18,7 @@ use nm_report::write_journal;
 use std::alloc::Global;
 
 /// Why a command that uses a journal says nothing.
-#[derive(Clone, Copy, Debug, PartialEq, Eq)]
+#[derive(Clone, Copy, PartialEq, Eq)]
 pub enum JournalStop {
     DiskFault,
     NoMemory,

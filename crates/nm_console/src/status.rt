@@ -4,7 +4,7 @@ ghost use Rattle.nm_console.specs.Status.{is_whole, status_for};
 use nm_network::Pair;
 
 /// How the program ended. Its number is the exit status.
-#[derive(Clone, Copy, Debug, PartialEq, Eq)]
+#[derive(Clone, Copy, PartialEq, Eq)]
 pub enum Status {
     /// The text was written whole, and each device has what it should.
     Ok,

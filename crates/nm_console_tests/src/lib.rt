@@ -1,23 +1,16 @@
-//! Tests of the commands, from bytes to bytes.
+//! Tests of what no row of a table tells, since no command does: streams that tell nothing, which file words name, places and
+//! numbers beyond what a scenario can hold, a form that is an example alone, and laws.
 //!
 //! They stand apart from the crates that they test, since a crate's functions are proved once more with its tests.
 #![tactic(auto)]
 
 #[cfg(test)]
-mod check;
+mod laws;
 #[cfg(test)]
-mod console;
-#[cfg(test)]
-mod journal;
-#[cfg(test)]
-mod limit;
-#[cfg(test)]
-mod replay;
+mod reading;
 #[cfg(test)]
 mod report;
 #[cfg(test)]
-mod run;
+mod sample;
 #[cfg(test)]
-mod table;
-#[cfg(test)]
-mod trace;
+mod words;

@@ -1,6 +1,4 @@
 pub mod Mark
-pub mod Place
-pub mod Walk
 pub mod Meaning
 pub mod MarkLaws
 pub mod PlaceLaws

@@ -13,9 +13,9 @@ use Rattle.nm_edit.specs.declared.edit.EditNode.{EditNode}
 use Rattle.nm_edit.specs.EditOf.{IsEditOf}
 use Rattle.nm_edit.specs.Edited.{edited_rows}
 use Rattle.nm_schema.specs.Marker.{HasMarker}
-use Rattle.nm_content.specs.declared.place.YangNode.{YangNode}
+use Rattle.nm_content_place.specs.declared.place.YangNode.{YangNode}
+use Rattle.nm_content_place.specs.Place.{found, exists, overlaps, part, same_at}
 use Rattle.nm_content.specs.Mark.{has_mark, names_marks, with_marks, same_marks, outside_rows}
-use Rattle.nm_content.specs.Place.{found, exists, overlaps, part, same_at}
 
 -- rows over themselves, of which nothing is changed (this project's own)
 abbrev pub lifted : Rows → Overlaid

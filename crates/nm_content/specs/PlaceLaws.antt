@@ -13,10 +13,10 @@ use Rattle.nm_config.specs.Rows.{Rows}
 use Rattle.nm_config.specs.Under.{is_under, under}
 use Rattle.nm_rules.proofs.Among.{both}
 use Rattle.nm_rules.proofs.Placed.{both_true}
-use Rattle.nm_content.specs.declared.place.YangNode.{YangNode}
+use Rattle.nm_content_place.specs.declared.place.YangNode.{YangNode}
+use Rattle.nm_content_place.specs.Place.{overlaps, part, same_value, is_shared, has_part_of, same_at}
 use Rattle.nm_content.specs.Mark.{mark_path, has_mark, mark_at, is_mark, has_marks_of, same_marks}
 use Rattle.nm_content.specs.MarkLaws.{at_itself, at_is, alike}
-use Rattle.nm_content.specs.Place.{overlaps, part, same_value, is_shared, has_part_of, same_at}
 
 -- ---- tests of all paths with rows
 

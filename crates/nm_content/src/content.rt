@@ -11,11 +11,11 @@ ghost use Rattle.nm_content.specs.Mark.{marks_path};
 ghost use Rattle.nm_content.specs.Meaning.{Belongs, lifted, over};
 
 use crate::mark::{has_mark, marked, rows_outside, same_marks};
-use crate::place::{YangNode, found, same_at};
 use crate::touched::checked;
 use nm_base::{ChangeNo, Label, NoMemory};
 use nm_change::apply_rows;
 use nm_config::{Config, RowMap, is_under};
+use nm_content_place::{YangNode, found, same_at};
 use nm_edit::{Edit, EditFault};
 use nm_json_text::write_rows;
 use nm_overlay::Overlay;

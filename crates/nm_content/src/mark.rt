@@ -7,9 +7,9 @@ ghost use Rattle.nm_config.specs.Under.{is_whole as takes_whole, without_under};
 ghost use Rattle.nm_proto.specs.Content.{counted_rows, is_taken};
 ghost use Rattle.nm_content.specs.Mark as spec;
 
-use crate::walk::next_below;
 use nm_base::{ChangeNo, Label, MARKER, NoMemory};
 use nm_config::{Config, RowMap};
+use nm_content_place::next_below;
 use nm_edit::Edit;
 use nm_overlay::Overlay;
 use nm_proto::Marks;

@@ -1,4 +1,5 @@
-use crate::content::{SIZED, SYSTEM, config_of, content_of, edit_of, holds, node_at};
+use crate::content::{SIZED, SYSTEM, config_of, content_of, edit_of, holds};
+use nm_base::Label;
 use nm_content::{YangContent, YangNode, names_marks};
 use nm_edit::Edit;
 use nm_overlay::Overlay;
@@ -15,11 +16,28 @@ struct Parts {
     node: YangNode,
 }
 
-fn parts_of(content: &YangContent, alloc: Global) -> Result<Parts, Fail> {
+fn with_config(
+    content: &YangContent,
+    alloc: Global,
+    edit: Edit,
+    node: YangNode,
+) -> Result<Parts, Fail> {
     let config = config_of(content, alloc, SYSTEM)?;
-    let edit = edit_of(content, alloc, SIZED)?;
-    let node = node_at(content, alloc, "/ex:sys")?;
     Ok(Parts { config, edit, node })
+}
+
+fn with_edit(content: &YangContent, alloc: Global, node: YangNode) -> Result<Parts, Fail> {
+    let edit = edit_of(content, alloc, SIZED)?;
+    with_config(content, alloc, edit, node)
+}
+
+fn node_of(content: &YangContent, alloc: Global) -> Result<YangNode, Fail> {
+    let label = Label::new(alloc, "/ex:sys")?;
+    Ok(content.find(&label)?)
+}
+
+fn parts_of(content: &YangContent, alloc: Global) -> Result<Parts, Fail> {
+    with_edit(content, alloc, node_of(content, alloc)?)
 }
 
 // Whether two threads see the same of them.
@@ -42,10 +60,15 @@ fn is_sent(rt: &impl Threads, content: &YangContent, parts: Parts) -> bool {
     is_whole(content, &parts)
 }
 
+fn crosses(rt: &impl Threads, content: &YangContent, parts: Parts) -> bool {
+    let shared = is_shared(rt, content, &parts);
+    let sent = is_sent(rt, content, parts);
+    shared && sent
+}
+
 fn cross(rt: &impl Threads, content: &YangContent, alloc: Global) -> Result<(), Fail> {
     let parts = parts_of(content, alloc)?;
-    let shared = is_shared(rt, content, &parts);
-    holds(shared && is_sent(rt, content, parts), "a thread")
+    holds(crosses(rt, content, parts), "a thread")
 }
 
 // A configuration, an edit and a node can be shared with a thread, sent to it and sent back.

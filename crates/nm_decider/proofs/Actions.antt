@@ -9,11 +9,11 @@ use Rattle.nm_proto.specs.declared.ask.Ask.{Ask}
 use Rattle.nm_proto.specs.declared.journal.AbortCause.{AbortCause}
 use Rattle.nm_proto.specs.declared.journal.Verdict.{Verdict}
 use Rattle.nm_proto.specs.declared.journal.Verdict.TheVariants as verdict
+use Rattle.nm_decider_stage.specs.declared.stage.Stage.TheVariants.{Live}
+use Rattle.nm_decider_stage.specs.Stages.{next_ask, is_acknowledged, is_settled}
 use Rattle.nm_decider.specs.declared.seat.Seat.{Seat}
-use Rattle.nm_decider.specs.declared.stage.Stage.TheVariants.{Live}
 use Rattle.nm_decider.specs.declared.course.NextAction.{NextAction}
 use Rattle.nm_decider.specs.declared.course.NextAction.TheVariants.{Wait, Send, Decide, Finish}
-use Rattle.nm_decider.specs.Stages.{next_ask, is_acknowledged, is_settled}
 use Rattle.nm_decider.specs.Course.{CourseState, Choice, seat_count, awaits, wants_acknowledgement, wants_settling, may_send, fewer, fewest_from, place_of, send_of, send_seat, send_at, calm_action, decided_action, kept_from, next_action, action_by}
 use Rattle.nm_decider.specs.Rightly.{IsAsked, IsReady, MayCommit, MayAbort, MayEnd, ActsRightly, IsLeastBusy, IsNextInOrder, TakesInOrder, IsStuck, WaitsRightly}
 use Rattle.nm_decider.proofs.Kept.{kept_bit}

@@ -5,10 +5,10 @@ use Rattle.nm_proto.specs.declared.ask.Ask.{Ask}
 use Rattle.nm_proto.specs.declared.message.Reply.{Reply}
 use Rattle.nm_proto.specs.declared.journal.Verdict.{Verdict}
 use Rattle.nm_proto.specs.declared.journal.Verdict.TheVariants as verdict
+use Rattle.nm_decider_stage.specs.declared.stage.Stage.{Stage}
+use Rattle.nm_decider_stage.specs.declared.stage.Stage.TheVariants.{Live, Refused, Failed, NeedMark, Resync, Leaving, Settled}
+use Rattle.nm_decider_stage.specs.Stages.{learnt, aborted_stage, broken_stage}
 use Rattle.nm_decider.specs.declared.seat.Seat.{Seat}
-use Rattle.nm_decider.specs.declared.stage.Stage.{Stage}
-use Rattle.nm_decider.specs.declared.stage.Stage.TheVariants.{Live, Refused, Failed, NeedMark, Resync, Leaving, Settled}
-use Rattle.nm_decider.specs.Stages.{learnt, aborted_stage, broken_stage}
 use Rattle.nm_decider.specs.Course.{CourseState, asked_next, renewed, decided_seat, with_sent_at, with_renewed_at, with_reply_at, with_answer, with_break_at, with_settled_at, with_found}
 use Rattle.nm_decider.specs.Moves.{Move, moved, settled_in, settled_of, member_of}
 use Rattle.nm_decider.specs.Moves.Move.{Sent, Renewed, Answered, Broke, Decided, Found}

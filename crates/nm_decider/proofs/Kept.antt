@@ -5,8 +5,8 @@ use Rattle.std.proofs.lemmas.Nat.Bits.{bit_at-zero}
 use Rattle.std.proofs.lemmas.Bool.Decides.{nat_tests}
 use Rattle.nm_base.specs.Mask.{mask_contains}
 use Rattle.nm_base.proofs.Masks.{with_is}
+use Rattle.nm_decider_stage.specs.Stages.{has_kept}
 use Rattle.nm_decider.specs.declared.seat.Seat.{Seat}
-use Rattle.nm_decider.specs.Stages.{has_kept}
 use Rattle.nm_decider.specs.Course.{kept_from}
 
 empty_mask : (d : ℕ) → mask_contains 0 d ≡ false

@@ -6,12 +6,12 @@ use Rattle.nm_proto.specs.declared.ask.Ask.TheVariants as ask
 use Rattle.nm_proto.specs.declared.message.Reply.{Reply}
 use Rattle.nm_proto.specs.declared.journal.Verdict.{Verdict}
 use Rattle.nm_proto.specs.declared.journal.Verdict.TheVariants as verdict
+use Rattle.nm_decider_stage.specs.declared.stage.Stage.{Stage}
+use Rattle.nm_decider_stage.specs.declared.stage.Stage.TheVariants.{Live, Refused, Failed, NeedMark, Resync, Leaving, Settled}
+use Rattle.nm_decider_stage.specs.Stages.{first_ask, next_ask, fits, is_first, learnt, learnt_other, refused, is_acknowledged, aborted_stage, broken_stage}
 use Rattle.nm_decider.specs.declared.seat.Seat.{Seat}
-use Rattle.nm_decider.specs.declared.stage.Stage.{Stage}
-use Rattle.nm_decider.specs.declared.stage.Stage.TheVariants.{Live, Refused, Failed, NeedMark, Resync, Leaving, Settled}
 use Rattle.nm_decider.specs.declared.course.NextAction.{NextAction}
 use Rattle.nm_decider.specs.declared.course.NextAction.TheVariants as next
-use Rattle.nm_decider.specs.Stages.{first_ask, next_ask, fits, is_first, learnt, learnt_other, refused, is_acknowledged, aborted_stage, broken_stage}
 use Rattle.nm_decider.specs.Course.{CourseState, next_action, may_renew_seat, asked_next, renewed, decided_seat, with_sent_at, with_renewed_at, with_reply_at, with_answer, with_break_at, with_settled_at, with_found}
 use Rattle.nm_decider.specs.Moves.{Move, moved, MayMove, IsDriven, sends_to, is_commit, next_of, asks_commit, commits_asked}
 use Rattle.nm_decider.specs.Moves.Move.{Sent, Renewed, Answered, Broke, Decided, Found}

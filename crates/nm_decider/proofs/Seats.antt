@@ -1,7 +1,7 @@
 -- Loops over seats.
 use Rattle.std.proofs.Common.{◌≡◌, ℕ, zero, suc, ◌+◌, ◌-◌, ◌<◌, List, [], ◌∷◌, ◌++◌, length, map, take, drop, set, get_or, refl, sym, ap, ◌∙◌, add-one, arith}
+use Rattle.nm_decider_stage.specs.declared.stage.Stage.{Stage}
 use Rattle.nm_decider.specs.declared.seat.Seat.{Seat}
-use Rattle.nm_decider.specs.declared.stage.Stage.{Stage}
 use Rattle.nm_decider.specs.Course.{seats_from, seat_of}
 
 -- one of the seats that are left

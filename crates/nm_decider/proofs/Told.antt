@@ -5,9 +5,9 @@ use Rattle.nm_proto.specs.declared.ask.Ask.{Ask}
 use Rattle.nm_proto.specs.declared.message.Reply.{Reply}
 use Rattle.nm_proto.specs.declared.journal.Verdict.{Verdict}
 use Rattle.nm_proto.specs.declared.journal.Verdict.TheVariants as verdict
-use Rattle.nm_decider.specs.declared.stage.Stage.{Stage}
-use Rattle.nm_decider.specs.declared.stage.Stage.TheVariants.{Live, Refused, Failed, NeedMark, Resync, Leaving, Settled}
-use Rattle.nm_decider.specs.Stages.{first_ask, fits, is_first, learnt, learnt_other, learnt_failed, learnt_mark, learnt_leaving, refused}
+use Rattle.nm_decider_stage.specs.declared.stage.Stage.{Stage}
+use Rattle.nm_decider_stage.specs.declared.stage.Stage.TheVariants.{Live, Refused, Failed, NeedMark, Resync, Leaving, Settled}
+use Rattle.nm_decider_stage.specs.Stages.{first_ask, fits, is_first, learnt, learnt_other, learnt_failed, learnt_mark, learnt_leaving, refused}
 use Rattle.nm_decider.specs.Told.{tells, knows, TellsAlone}
 
 nothing_known : (kept : Bool) → None ≡ Some kept → ⊥

@@ -11,12 +11,12 @@ use Rattle.nm_proto.specs.declared.journal.AbortCause.{AbortCause}
 use Rattle.nm_proto.specs.declared.journal.AbortCause.TheVariants as cause
 use Rattle.nm_proto.specs.declared.journal.Verdict.{Verdict}
 use Rattle.nm_proto.specs.declared.journal.Verdict.TheVariants as verdict
-use Rattle.nm_decider.specs.declared.stage.Stage.{Stage}
-use Rattle.nm_decider.specs.declared.stage.Stage.TheVariants as stage
+use Rattle.nm_decider_stage.specs.declared.stage.Stage.{Stage}
+use Rattle.nm_decider_stage.specs.declared.stage.Stage.TheVariants as stage
+use Rattle.nm_decider_stage.specs.Stages.{next_ask, learnt, trouble_in, is_acknowledged, is_settled, has_kept, aborted_stage, broken_stage}
 use Rattle.nm_decider.specs.declared.seat.Seat.{Seat}
 use Rattle.nm_decider.specs.declared.course.NextAction.{NextAction}
 use Rattle.nm_decider.specs.declared.course.NextAction.TheVariants.{Wait, Send, Decide, Finish}
-use Rattle.nm_decider.specs.Stages.{next_ask, learnt, trouble_in, is_acknowledged, is_settled, has_kept, aborted_stage, broken_stage}
 
 pub record CourseState : Type 0 where
   pub change : ℕ

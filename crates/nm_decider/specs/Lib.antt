@@ -1,4 +1,3 @@
-pub mod Stages
 pub mod Told
 pub mod Course
 pub mod Rightly

@@ -5,12 +5,12 @@ use Rattle.nm_proto.specs.declared.ask.Ask.{Ask}
 use Rattle.nm_proto.specs.declared.ask.Ask.TheVariants as ask
 use Rattle.nm_proto.specs.declared.message.Reply.{Reply}
 use Rattle.nm_proto.specs.declared.journal.Verdict.{Verdict}
+use Rattle.nm_decider_stage.specs.declared.stage.Stage.{Stage}
+use Rattle.nm_decider_stage.specs.declared.stage.Stage.TheVariants.{Settled}
+use Rattle.nm_decider_stage.specs.Stages.{next_ask, fits, is_acknowledged}
 use Rattle.nm_decider.specs.declared.seat.Seat.{Seat}
-use Rattle.nm_decider.specs.declared.stage.Stage.{Stage}
-use Rattle.nm_decider.specs.declared.stage.Stage.TheVariants.{Settled}
 use Rattle.nm_decider.specs.declared.course.NextAction.{NextAction}
 use Rattle.nm_decider.specs.declared.course.NextAction.TheVariants as next
-use Rattle.nm_decider.specs.Stages.{next_ask, fits, is_acknowledged}
 use Rattle.nm_decider.specs.Course.{CourseState, next_action, may_renew, with_sent, with_renewed, with_reply, with_break, with_verdict, with_settled}
 
 pub data Move : Type 0 where

@@ -6,9 +6,9 @@ use Rattle.nm_base.specs.declared.mask.DeviceMask.{DeviceMask}
 use Rattle.nm_proto.specs.declared.ask.Ask.{Ask}
 use Rattle.nm_proto.specs.declared.journal.AbortCause.{AbortCause}
 use Rattle.nm_proto.specs.declared.journal.Verdict.TheVariants as verdict
+use Rattle.nm_decider_stage.specs.Stages.{next_ask, is_acknowledged, is_settled, has_kept}
 use Rattle.nm_decider.specs.declared.seat.Seat.{Seat}
 use Rattle.nm_decider.specs.declared.course.NextAction.TheVariants.{Wait, Send, Decide, Finish}
-use Rattle.nm_decider.specs.Stages.{next_ask, is_acknowledged, is_settled, has_kept}
 use Rattle.nm_decider.specs.Course.{CourseState, next_action, awaits, may_send, wants_acknowledgement}
 
 -- what is asked next of a device of the change set that awaits no reply

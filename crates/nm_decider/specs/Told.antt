@@ -5,9 +5,9 @@ use Rattle.nm_proto.specs.declared.ask.Ask.TheVariants as ask
 use Rattle.nm_proto.specs.declared.message.Reply.{Reply}
 use Rattle.nm_proto.specs.declared.message.Reply.TheVariants.{Done, Mark}
 use Rattle.nm_proto.specs.declared.journal.Verdict.{Verdict}
-use Rattle.nm_decider.specs.declared.stage.Stage.{Stage}
-use Rattle.nm_decider.specs.declared.stage.Stage.TheVariants.{Leaving, Settled}
-use Rattle.nm_decider.specs.Stages.{fits, learnt}
+use Rattle.nm_decider_stage.specs.declared.stage.Stage.{Stage}
+use Rattle.nm_decider_stage.specs.declared.stage.Stage.TheVariants.{Leaving, Settled}
+use Rattle.nm_decider_stage.specs.Stages.{fits, learnt}
 
 abbrev pub told_by_confirm : Reply → Option Bool
 told_by_confirm Done = Some true

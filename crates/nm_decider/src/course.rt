@@ -5,14 +5,14 @@ ghost use Rattle.nm_decider.specs.Course.{seat_count, seats_from, seat_of, lost_
 
 use crate::choice::{decided_action, undecided_action};
 use crate::seat::Seat;
-use crate::stage::{Stage, trouble_in};
 use arrayvec::ArrayVec;
 use nm_base::{ChangeNo, DeviceMask, DeviceNo};
+use nm_decider_stage::{Stage, trouble_in};
 use nm_proto::{AbortCause, Ask, Reply, Verdict};
 use std::marker::Model;
 
 /// What the manager does next for a change set.
-#[derive(Clone, Copy, Debug, PartialEq, Eq)]
+#[derive(Clone, Copy, PartialEq, Eq)]
 pub enum NextAction {
     /// Nothing: a reply is awaited.
     Wait,

@@ -6,7 +6,7 @@ ghost use Rattle.nm_proto.specs.declared.journal.Verdict.{Verdict as AVerdict};
 ghost use Rattle.nm_decider.specs.Course.{CourseState, seat_count, new_course};
 ghost use Rattle.nm_proto.specs.declared.ask.Ask.{Ask as AnAsk};
 ghost use Rattle.nm_proto.specs.declared.message.Reply.{Reply as AReply};
-ghost use Rattle.nm_decider.specs.declared.stage.Stage.{Stage as AStage};
+ghost use Rattle.nm_decider_stage.specs.declared.stage.Stage.{Stage as AStage};
 ghost use Rattle.nm_decider.specs.Told.{TellsAlone};
 ghost use Rattle.nm_decider.specs.Rightly.{ActsRightly, TakesInOrder, WaitsRightly};
 ghost use Rattle.nm_decider.specs.Moves.{Move, moved, moved_on, MayMove, IsDriven, commits_asked, commit_done, has_acknowledged, settled_of, member_of};

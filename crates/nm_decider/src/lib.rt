@@ -1,15 +1,14 @@
 //! What the manager does next for a change set, by what each of its devices has answered.
 //!
-//! Stands on `nm_base` and `nm_proto`. The layers above rely on a commit being decided only where every device has
-//! acknowledged, on an abort naming the cause that was noted first, on a confirmed commit being asked once, and on no call taking
-//! memory.
+//! Stands on `nm_decider_stage`, which says where the course of one device stands, and on `nm_base` and `nm_proto`. The layers
+//! above rely on a commit being decided only where every device has acknowledged, on an abort naming the cause that was noted
+//! first, on a confirmed commit being asked once, and on no call taking memory.
 #![tactic(auto)]
 
 pub mod choice;
 pub mod course;
 pub mod laws;
 pub mod seat;
-pub mod stage;
 
 pub use course::{Course, NextAction};
 pub use laws::{
@@ -17,5 +16,5 @@ pub use laws::{
     every_action_is_right, first_trouble_stays, replies_alone_tell, settled_devices_stay,
     waits_are_for_replies,
 };
+pub use nm_decider_stage::Stage;
 pub use seat::Seat;
-pub use stage::Stage;

@@ -1,8 +1,8 @@
-use crate::stage::Stage;
+use nm_decider_stage::Stage;
 use nm_proto::Ask;
 
 /// What the manager knows of one device for a change set.
-#[derive(Clone, Copy, Debug, PartialEq, Eq)]
+#[derive(Clone, Copy, PartialEq, Eq)]
 pub struct Seat {
     /// Whether it is a device of the change set.
     pub is_member: bool,

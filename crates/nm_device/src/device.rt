@@ -165,7 +165,8 @@ impl<C: Content> Device<C> {
 }
 
 impl<C: Content> Device<C> {
-    ghost use Rattle.nm_device.specs.Device.{Does, IsInTime, IsSound};
+    ghost use Rattle.nm_proto.specs.Content.{TablesState};
+    ghost use Rattle.nm_device.specs.Device.{Answers, Does, IsInTime, IsSound};
     ghost use Rattle.nm_device.specs.Table.{device_step};
 
     // One request, by its own function.
@@ -187,10 +188,7 @@ impl<C: Content> Device<C> {
         ensures clock { self.new.clock ≡ self.old.clock }
     {
         match request {
-            Request::Lock { store } => Ok(self.lock(*store, session)),
-            Request::Unlock { store } => Ok(self.unlock(*store, session)),
             Request::PartialLock { select } => self.lock_part(content, tables, session, *select),
-            Request::PartialUnlock { id } => Ok(self.unlock_part(session, *id)),
             Request::Edit {
                 edit,
                 default_operation,
@@ -203,16 +201,44 @@ impl<C: Content> Device<C> {
                 persist,
                 persist_id,
             } => self.commit(content, session, *confirmed, *timeout, persist, persist_id),
-            Request::CancelCommit { persist_id } => Ok(self.cancel(content, session, persist_id)),
-            Request::Discard => Ok(self.discard(session)),
-            Request::HasMark { change } => Ok(Reply::Mark(content.has_mark(
-                self.stores.running(),
-                *change,
-            ))),
-            Request::GetConfig => Ok(Reply::Rows(content.rows(self.stores.running()))),
-            Request::Kill { session: other } => Ok(self.kill(content, session, *other)),
-            Request::CloseSession => Ok(self.close(content, session)),
             Request::OpenSession { .. } => Ok(refuse(Tag::OperationFailed)),
+            Request::Lock { .. }
+            | Request::Unlock { .. }
+            | Request::PartialUnlock { .. }
+            | Request::CancelCommit { .. }
+            | Request::Discard
+            | Request::HasMark { .. }
+            | Request::GetConfig
+            | Request::Kill { .. }
+            | Request::CloseSession => Ok(self.answer_at_once(content, session, request)),
+        }
+    }
+
+    // One request whose answer takes no memory.
+    fn answer_at_once(&mut self, content: &C, session: SessionId, request: &Request) -> Reply
+        requires at_once { takes_no_memory request.now ≡ true }
+        ensures answered { (tables : TablesState C.Edit) → Answers result self.new (device_step (C.meaning content.now) tables self.old session request.now) }
+        ensures error_changes_nothing { is_error result ≡ true → self.new ≡ self.old }
+        ensures text_is_an_error { holds_text result ≡ true → is_error result ≡ true }
+        ensures clock { self.new.clock ≡ self.old.clock }
+    {
+        match request {
+            Request::Lock { store } => self.lock(*store, session),
+            Request::Unlock { store } => self.unlock(*store, session),
+            Request::PartialUnlock { id } => self.unlock_part(session, *id),
+            Request::CancelCommit { persist_id } => self.cancel(content, session, persist_id),
+            Request::Discard => self.discard(session),
+            Request::HasMark { change } => {
+                Reply::Mark(content.has_mark(self.stores.running(), *change))
+            }
+            Request::GetConfig => Reply::Rows(content.rows(self.stores.running())),
+            Request::Kill { session: other } => self.kill(content, session, *other),
+            Request::CloseSession => self.close(content, session),
+            Request::OpenSession { .. }
+            | Request::PartialLock { .. }
+            | Request::Edit { .. }
+            | Request::Validate
+            | Request::Commit { .. } => refuse(Tag::OperationFailed),
         }
     }
 }

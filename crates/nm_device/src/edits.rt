@@ -1,4 +1,4 @@
-ghost use Rattle.std.specs.Prelude.{◌≡◌, None};
+ghost use Rattle.std.specs.Prelude.{◌≡◌, IfOk, true, None};
 ghost use Rattle.std.specs.List.{All};
 ghost use Rattle.nm_device.specs.Device.{path_of};
 
@@ -10,7 +10,7 @@ use nm_proto::{ApplyFault, CheckFault, Content, DefaultOperation, Marks, Reply, 
 impl<C: Content> Device<C> {
     ghost use Rattle.nm_stores.specs.Stores.{candidate_of};
     ghost use Rattle.nm_device.specs.Device.{Does, IsSound};
-    ghost use Rattle.nm_device.specs.Table.{edit_by, edit_gives, validated};
+    ghost use Rattle.nm_device.specs.Table.{edit_by, edit_gives, is_error, validated};
 
     // Edits candidate.
     pub(crate) fn edit(
@@ -26,6 +26,7 @@ impl<C: Content> Device<C> {
         requires edits_belong { All (C.meaning content.now).edit_belongs tables.now.edits }
         ensures stepped { Does result self.old self.new (edit_by (C.meaning content.now) tables.now self.old session number.0 default_operation marks) }
         ensures clock { self.new.clock ≡ self.old.clock }
+        ensures error_changes_nothing { IfOk result (λ reply. is_error reply ≡ true → self.new ≡ self.old) }
     {
         if self.is_held_by_other(Store::Candidate, session) {
             return Ok(refuse(Tag::InUse));
@@ -47,6 +48,7 @@ impl<C: Content> Device<C> {
         requires edit_belongs { (C.meaning content.now).edit_belongs edit.now }
         ensures stepped { Does result self.old self.new (edit_gives self.old ((C.meaning content.now).edited (candidate_of self.old.stores) edit.now default_operation marks)) }
         ensures clock { self.new.clock ≡ self.old.clock }
+        ensures error_changes_nothing { IfOk result (λ reply. is_error reply ≡ true → self.new ≡ self.old) }
     {
         match self.stores.edit(content, edit, default_operation, marks) {
             Ok(()) => Ok(Reply::Done),

@@ -14,7 +14,8 @@ impl<C: Content> Device<C> {
 
     // Takes a global lock.
     pub(crate) fn lock(&mut self, store: Store, session: SessionId) -> Reply
-        ensures { Answers result self.new (locked self.old session store) }
+        ensures answered { Answers result self.new (locked self.old session store) }
+        ensures clock { self.new.clock ≡ self.old.clock }
     {
         match store {
             Store::Running => self.lock_running(session),
@@ -23,7 +24,8 @@ impl<C: Content> Device<C> {
     }
 
     fn lock_running(&mut self, session: SessionId) -> Reply
-        ensures { Answers result self.new (lock_running self.old session (owner_of self.old.locks Store.Running) (least_owner self.old.partials)) }
+        ensures answered { Answers result self.new (lock_running self.old session (owner_of self.old.locks Store.Running) (least_owner self.old.partials)) }
+        ensures clock { self.new.clock ≡ self.old.clock }
     {
         if let Some(holder) = self.locks.owner(Store::Running) {
             return deny(holder.get());
@@ -38,7 +40,8 @@ impl<C: Content> Device<C> {
     }
 
     fn lock_candidate(&mut self, session: SessionId) -> Reply
-        ensures { Answers result self.new (lock_candidate self.old session (owner_of self.old.locks Store.Candidate)) }
+        ensures answered { Answers result self.new (lock_candidate self.old session (owner_of self.old.locks Store.Candidate)) }
+        ensures clock { self.new.clock ≡ self.old.clock }
     {
         if let Some(holder) = self.locks.owner(Store::Candidate) {
             return deny(holder.get());
@@ -52,7 +55,8 @@ impl<C: Content> Device<C> {
     // Takes a lock that is free.
     fn take(&mut self, store: Store, session: SessionId) -> Reply
         requires { owner_of self.old.locks store ≡ None }
-        ensures { Answers result self.new (done (with_lock self.old store session)) }
+        ensures answered { Answers result self.new (done (with_lock self.old store session)) }
+        ensures clock { self.new.clock ≡ self.old.clock }
     {
         let _ = self.locks.take(store, session);
         Reply::Done

@@ -1,4 +1,4 @@
-//! Tests of messages and devices.
+//! Tests of what no command shows of messages and of devices. All else is rows, in crates/netm_rows/data/devices.
 //!
 //! They stand apart from the crates that they test, since a crate's functions are proved once more with its tests.
 #![tactic(auto)]
@@ -8,4 +8,4 @@ mod device;
 #[cfg(test)]
 mod proto;
 #[cfg(test)]
-mod words;
+mod threads;

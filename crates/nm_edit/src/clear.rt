@@ -1,15 +1,17 @@
 //! The nodes that go before the rows of an edit come.
 
-ghost use Rattle.std.specs.Prelude.{◌≡◌, ◌++◌, IfOk, OnOk};
+ghost use Rattle.std.specs.Prelude.{◌≡◌, ◌++◌, ◌∷◌, [], IfOk, OnOk, None, Some};
+ghost use Rattle.nm_path.specs.Spelling.{node_of as found_at};
 ghost use Rattle.nm_rules.specs.Cases as cases;
 ghost use Rattle.nm_edit.specs.Edited as spec;
 ghost use Rattle.nm_edit.specs.Rivals as rival_spec;
 
 use crate::act::Act;
+use crate::front::{further, top};
 use crate::rivals::are_rivals;
 use nm_base::{Label, NoMemory};
 use nm_path::node_of;
-use nm_tree::Schema;
+use nm_tree::{Node, Schema};
 use nm_types::{Chosen, Path, Step, Value};
 use std::alloc::Global;
 
@@ -38,22 +40,37 @@ pub fn gone_of(alloc: Global, acts: &[Act]) -> Result<Vec<Path>, NoMemory>
     Ok(nodes)
 }
 
+// A step that leads nowhere.
+fn nameless(alloc: Global) -> Result<Step, NoMemory>
+    ensures { IfOk result (λ step. step ≡ cases.bare_in None) }
+{
+    let name = Label::new(alloc, "")?;
+    Ok(Step {
+        module: name.copy()?,
+        name,
+        chosen: Chosen::Whole,
+    })
+}
+
+fn step_to(node: &Node) -> Result<Step, NoMemory>
+    ensures { IfOk result (λ step. step ≡ cases.bare_in (Some node.now)) }
+{
+    let module = node.module.copy()?;
+    Ok(Step {
+        module,
+        name: node.name.copy()?,
+        chosen: Chosen::Whole,
+    })
+}
+
 // The step to a node that chooses no entry.
 fn bare(alloc: Global, schema: &Schema, at: usize) -> Result<Step, NoMemory>
     ensures { IfOk result (λ step. step ≡ cases.bare schema.now.nodes at) }
 {
-    let Some(node) = schema.node(at) else {
-        return Ok(Step {
-            module: Label::new(alloc, "")?,
-            name: Label::new(alloc, "")?,
-            chosen: Chosen::Whole,
-        });
-    };
-    Ok(Step {
-        module: node.module.copy()?,
-        name: node.name.copy()?,
-        chosen: Chosen::Whole,
-    })
+    match schema.node(at) {
+        None => nameless(alloc),
+        Some(node) => step_to(node),
+    }
 }
 
 // Puts the path of a node at a place behind the others, where it is a rival of a node that comes there.
@@ -110,6 +127,24 @@ fn put_rivals(
     put_all_rivals(alloc, schema, above, at, nodes)
 }
 
+// Goes a step on, and puts the paths of the rivals of the node there behind the others.
+fn put_next(
+    alloc: Global,
+    schema: &Schema,
+    above: &mut Path,
+    step: &Step,
+    nodes: &mut Vec<Path>,
+) -> Result<(), NoMemory>
+    ensures above { OnOk result (above.new ≡ above.old ++ step.now ∷ []) }
+    ensures nodes { OnOk result (nodes.new.items ≡ nodes.old.items
+        ++ rival_spec.rivals_at schema.now above.old (found_at schema.now (above.old ++ step.now ∷ []))) }
+{
+    let next = further(alloc, above, step)?;
+    put_rivals(alloc, schema, above, node_of(schema, &next), nodes)?;
+    *above = next;
+    Ok(())
+}
+
 // Puts the paths of the rivals of each node on the way to a row that comes behind the others.
 fn put_along(
     alloc: Global,
@@ -119,14 +154,9 @@ fn put_along(
 ) -> Result<(), NoMemory>
     ensures { OnOk result (nodes.new.items ≡ nodes.old.items ++ rival_spec.ousted_by schema.now path.now) }
 {
-    let mut above = Path {
-        steps: Vec::new(alloc),
-    };
+    let mut above = top(alloc);
     for step in &path.steps {
-        let front = above.with_step(alloc, step.copy(alloc)?)?;
-        let at = node_of(schema, &front);
-        put_rivals(alloc, schema, &above, at, nodes)?;
-        above = front;
+        put_next(alloc, schema, &mut above, step, nodes)?;
     }
     Ok(())
 }

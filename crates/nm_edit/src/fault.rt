@@ -4,7 +4,7 @@ use nm_base::{Label, NoMemory, Tag};
 use std::alloc::{AllocError, AllocFailed};
 
 /// Why an edit isn't applied.
-#[derive(Debug, Drop)]
+#[derive(Drop)]
 pub enum EditFault {
     /// The error tag and the path at fault (RFC 6241 section 4.3). The path is empty where the whole is too large.
     Refused { tag: Tag, path: Label },

@@ -1,10 +1,11 @@
 //! What an edit leaves in place above the rows that come.
 
-ghost use Rattle.std.specs.Prelude.{◌≡◌, ◌++◌, IfOk, OnOk};
+ghost use Rattle.std.specs.Prelude.{◌≡◌, ◌++◌, ◌∷◌, [], IfOk, OnOk};
 ghost use Rattle.nm_path.specs.Spelling.{node_of as found_at};
 ghost use Rattle.nm_rules.specs.Standing.{is_own_at};
 ghost use Rattle.nm_edit.specs.Edited as spec;
 
+use crate::front::{go_on, top};
 use nm_base::NoMemory;
 use nm_config::RowMap;
 use nm_path::node_of;
@@ -20,6 +21,20 @@ fn is_own(schema: &Schema, path: &Path) -> bool
         None => false,
         Some(at) => schema.is_guard(at),
     }
+}
+
+// Puts a copy of a row behind the others.
+fn put_copy(
+    alloc: Global,
+    path: &Path,
+    value: &Value,
+    held: &mut Vec<(Path, Value)>,
+) -> Result<(), NoMemory>
+    ensures { OnOk result (held.new.items ≡ held.old.items ++ (path.now, value.now) ∷ []) }
+{
+    let value = value.copy()?;
+    held.push((path.copy(alloc)?, value))?;
+    Ok(())
 }
 
 // Puts the row of a list entry or a container with presence behind the others, where there is one.
@@ -38,8 +53,7 @@ fn put_held<M: RowMap>(
     let Some(value) = config.value(path) else {
         return Ok(());
     };
-    held.push((path.copy(alloc)?, value.copy()?))?;
-    Ok(())
+    put_copy(alloc, path, value, held)
 }
 
 // Puts the rows of the list entries and containers with presence above a path behind the others.
@@ -52,12 +66,10 @@ fn put_held_above<M: RowMap>(
 ) -> Result<(), NoMemory>
     ensures { OnOk result (held.new.items ≡ held.old.items ++ spec.held_above schema.now (M.rows config.now) path.now) }
 {
-    let mut above = Path {
-        steps: Vec::new(alloc),
-    };
+    let mut above = top(alloc);
     for step in &path.steps {
         put_held(alloc, schema, config, &above, held)?;
-        above = above.with_step(alloc, step.copy(alloc)?)?;
+        go_on(alloc, &mut above, step)?;
     }
     Ok(())
 }

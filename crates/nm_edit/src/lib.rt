@@ -10,6 +10,7 @@ mod clear;
 pub mod edit;
 pub mod edited;
 pub mod fault;
+mod front;
 mod hold;
 pub mod laws;
 pub mod moves;

@@ -1,6 +1,6 @@
 //! What an edit does to rows, told by looking alone: some nodes go, and then some rows come.
 
-ghost use Rattle.std.specs.Prelude.{◌≡◌, IfOk, OnOk};
+ghost use Rattle.std.specs.Prelude.{◌≡◌, ◌++◌, IfOk, OnOk};
 ghost use Rattle.nm_edit.specs.Edited as spec;
 
 use crate::act::Act;
@@ -42,8 +42,25 @@ pub fn moves_of<M: RowMap>(
 ) -> Result<Moves, NoMemory>
     ensures { IfOk result (λ moves. moves ≡ spec.moves_by schema.now (M.rows rows.now) acts.items) }
 {
-    let mut goes = gone_of(alloc, &acts)?;
+    let goes = gone_of(alloc, &acts)?;
     let comes = coming_of(alloc, acts)?;
+    moves_with(alloc, schema, rows, goes, comes)
+}
+
+// What some rows that come do to rows, besides the nodes that go anyway.
+fn moves_with<M: RowMap>(
+    alloc: Global,
+    schema: &Schema,
+    rows: &M,
+    mut goes: Vec<Path>,
+    comes: Vec<(Path, Value)>,
+) -> Result<Moves, NoMemory>
+    ensures { IfOk result (λ moves. moves ≡ record {
+      goes = goes.items ++ spec.ousted schema.now comes.items;
+      held = spec.held schema.now (M.rows rows.now) comes.items;
+      comes = comes.items;
+    }) }
+{
     put_ousted(alloc, schema, &comes, &mut goes)?;
     let held = held_of(alloc, schema, rows, &comes)?;
     Ok(Moves { goes, held, comes })

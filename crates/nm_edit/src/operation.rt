@@ -6,7 +6,7 @@ ghost use Rattle.nm_edit.specs.Words as spec;
 use nm_proto::DefaultOperation;
 
 /// What an edit says of a node itself (RFC 6241 section 7.2).
-#[derive(Clone, Copy, Debug, PartialEq, Eq)]
+#[derive(Clone, Copy, PartialEq, Eq)]
 pub enum Operation {
     Merge,
     Replace,
@@ -16,7 +16,7 @@ pub enum Operation {
 }
 
 /// What is done to a node: what the edit says of it or of a node above it, else the default operation.
-#[derive(Clone, Copy, Debug, PartialEq, Eq)]
+#[derive(Clone, Copy, PartialEq, Eq)]
 pub enum Effective {
     Merge,
     Replace,

@@ -3,6 +3,7 @@
 ghost use Rattle.std.specs.Prelude.{◌≡◌, IfOk};
 ghost use Rattle.nm_edit.specs.Standing as spec;
 
+use crate::front::{go_on, top};
 use crate::operation::{Effective, Operation};
 use crate::said::Said;
 use nm_base::NoMemory;
@@ -60,12 +61,10 @@ pub fn standing_at(
 ) -> Result<Standing, NoMemory>
     ensures { IfOk result (λ found. found ≡ spec.standing said.now default_operation path.now) }
 {
-    let mut front = Path {
-        steps: Vec::new(alloc),
-    };
+    let mut front = top(alloc);
     let mut found = at_top(default_operation);
     for step in &path.steps {
-        front = front.with_step(alloc, step.copy(alloc)?)?;
+        go_on(alloc, &mut front, step)?;
         found = stepped(said.get(&front), found);
     }
     Ok(found)

@@ -8,18 +8,17 @@ ghost use Rattle.nm_edit_json.specs.Noted.{gathered as all_noted};
 ghost use Rattle.nm_edit_json.specs.Around.{around_of};
 ghost use Rattle.nm_edit_json.specs.Findings as spec;
 
-use crate::around::{Around, is_there, long_note, notes_in_one, said_of, short_member, short_note};
+use crate::around::{Around, is_there, notes_of, said_of};
 use crate::fault::FaultKind;
 use crate::gathered::Gathered;
-use crate::note::{note_at, note_below, note_misplaced, note_node, told};
-use crate::said::member;
+use crate::note::{note_at, note_below, note_misplaced, note_node_below, told};
 use crate::value::read_noted;
 use nm_base::NoMemory;
 use nm_edit::Operation;
 use nm_json::names::node_named;
-use nm_json::spot::{Spot, step_below};
+use nm_json::spot::Spot;
 use nm_tree::{Node, NodeKind, Schema};
-use nm_types::{Chosen, LeafType};
+use nm_types::LeafType;
 use std::alloc::Global;
 
 // Whether an operation takes a node away.
@@ -55,8 +54,7 @@ fn note_removed(
     if !is_removal(told(said)) {
         return note_misplaced(alloc, gathered, around.above, node, true);
     }
-    let path = step_below(alloc, around.above, node, Chosen::Whole)?;
-    note_node(alloc, gathered, path, around.held, said, None)
+    note_node_below(alloc, gathered, around.above, node, around.held, said, None)
 }
 
 // A leaf-list without a member, which has no entries.
@@ -69,28 +67,13 @@ fn note_empty(
 ) -> Result<(), NoMemory>
     ensures { OnOk result (gathered.new ≡ all_noted gathered.old (spec.empty_found (around_of around.now) node.now leaf_type.now)) }
 {
-    let none = Vec::new(alloc);
-    let short = short_note(alloc, node)?;
-    let long = long_note(alloc, node)?;
-    let notes = notes_in_one(
-        none.as_slice(),
-        short_member(around.within, short.as_str(), around.all),
-        member(around.all, long.as_str()),
-    );
+    let notes = notes_of(alloc, &[], around, node)?;
     let spot = Spot {
         above: around.above,
         number: 0,
         node,
     };
-    read_noted(
-        alloc,
-        gathered,
-        &spot,
-        leaf_type,
-        around.held,
-        notes,
-        none.as_slice(),
-    )
+    read_noted(alloc, gathered, &spot, leaf_type, around.held, notes, &[])
 }
 
 // The annotation of a child without a member, by what the child is.

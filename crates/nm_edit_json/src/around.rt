@@ -1,7 +1,8 @@
 //! Objects, and the annotations of what their members name (RFC 7952 section 5.2).
 
-ghost use Rattle.std.specs.Prelude.{◌≡◌, ◌∷◌, IfOk, MatchOption, None, Some, option_map, string_bytes, length};
+ghost use Rattle.std.specs.Prelude.{◌≡◌, ◌∷◌, ◌++◌, IfOk, OnOk, MatchOption, None, Some, option_map, string_bytes, length};
 ghost use Rattle.serde_json.specs.View.{view, items_view, members_view};
+ghost use Rattle.serde_json.specs.Find.{get_member};
 ghost use Rattle.nm_edit_json.specs.Around.{around_of};
 ghost use Rattle.nm_edit_json.specs.Findings as spec;
 
@@ -30,13 +31,21 @@ pub fn annotated(name: &str) -> Option<&str>
     name.strip_prefix('@')
 }
 
+// Puts an at sign and a name.
+fn put_marked(text: &mut String, name: &str) -> Result<(), NoMemory>
+    ensures { OnOk result (string_bytes text.new ≡ string_bytes text.old ++ 64 ∷ name.now) }
+{
+    text.push('@')?;
+    text.push_str(name)?;
+    Ok(())
+}
+
 // The name of the annotation of a name.
 fn marked(alloc: Global, name: &str) -> Result<String, NoMemory>
     ensures { IfOk result (λ text. string_bytes text ≡ 64 ∷ name.now) }
 {
     let mut text = String::with_capacity(alloc, name.len())?;
-    text.push('@')?;
-    text.push_str(name)?;
+    put_marked(&mut text, name)?;
     Ok(text)
 }
 
@@ -80,16 +89,39 @@ pub fn is_there(alloc: Global, around: &Around, node: &Node) -> Result<bool, NoM
     Ok(member(around.all, long.as_str()).is_some())
 }
 
+// The annotation of a child without its module's name.
+fn short_noted<'v>(
+    alloc: Global,
+    around: &Around<'v>,
+    node: &Node,
+) -> Result<Option<&'v Json>, NoMemory>
+    ensures { IfOk result (λ part. option_map (λ part. view part.now) part
+        ≡ spec.short_member around.now.within (64 ∷ node.now.name) (members_view around.now.all.now.entries)) }
+{
+    let name = short_note(alloc, node)?;
+    Ok(short_member(around.within, name.as_str(), around.all))
+}
+
+// The annotation of a child with its module's name.
+fn long_noted<'v>(
+    alloc: Global,
+    around: &Around<'v>,
+    node: &Node,
+) -> Result<Option<&'v Json>, NoMemory>
+    ensures { IfOk result (λ part. option_map (λ part. view part.now) part
+        ≡ get_member (64 ∷ spec.long_name node.now) (members_view around.now.all.now.entries)) }
+{
+    let name = long_note(alloc, node)?;
+    Ok(member(around.all, name.as_str()))
+}
+
 /// What is said of a leaf.
 pub fn said_of(alloc: Global, around: &Around, node: &Node) -> Result<Said, NoMemory>
     ensures { IfOk result (λ said. said ≡ spec.said_of (around_of around.now) node.now) }
 {
-    let short = short_note(alloc, node)?;
-    let long = long_note(alloc, node)?;
-    Ok(said_in_one(
-        short_member(around.within, short.as_str(), around.all),
-        member(around.all, long.as_str()),
-    ))
+    let short = short_noted(alloc, around, node)?;
+    let long = long_noted(alloc, around, node)?;
+    Ok(said_in_one(short, long))
 }
 
 /// What is said of the container or entry that an object is the value of.
@@ -128,6 +160,21 @@ pub fn notes_in_one<'v>(
         return notes_in(nothing, short);
     }
     None
+}
+
+/// The annotations of the entries of a leaf-list, if they are an array. `nothing` is the one without any.
+pub(crate) fn notes_of<'v>(
+    alloc: Global,
+    nothing: &'v [Json],
+    around: &Around<'v>,
+    node: &Node,
+) -> Result<Option<&'v [Json]>, NoMemory>
+    requires { length nothing.now ≡ 0 }
+    ensures { IfOk result (λ notes. option_map (λ notes. items_view notes.now) notes ≡ spec.notes_of (around_of around.now) node.now) }
+{
+    let short = short_noted(alloc, around, node)?;
+    let long = long_noted(alloc, around, node)?;
+    Ok(notes_in_one(nothing, short, long))
 }
 
 /// What is said of an entry of a leaf-list, if anything stands at its position.

@@ -1,6 +1,6 @@
 //! What can be wrong with the JSON of an edit, and which of two faults is the lesser.
 
-ghost use Rattle.std.specs.Prelude.{◌≡◌, IfOk, OnOk};
+ghost use Rattle.std.specs.Prelude.{◌≡◌, IfOk, OnOk, Some, if◌then◌else◌};
 ghost use Rattle.nm_edit_json.specs.Findings as found;
 ghost use Rattle.nm_edit_json.specs.Whole as spec;
 
@@ -13,7 +13,7 @@ use std::alloc::Global;
 use std::cmp::Ordering;
 
 /// What is wrong with a part of an edit. At one place an earlier kind comes before a later one.
-#[derive(Clone, Copy, Debug, PartialEq, Eq)]
+#[derive(Clone, Copy, PartialEq, Eq)]
 pub enum FaultKind {
     /// A member whose name leads to no node of the schema.
     Unknown,
@@ -95,15 +95,21 @@ fn order(alloc: Global, one: &Fault, other: &Fault) -> Result<Ordering, NoMemory
     Ok(places.then(rank(one.kind).cmp(&rank(other.kind))))
 }
 
+// Whether a fault is the least with those that were found.
+fn is_lesser(alloc: Global, least: &Option<Fault>, fault: &Fault) -> Result<bool, NoMemory>
+    ensures { IfOk result (λ lesser. spec.lesser least.now fault.now ≡ (if lesser then Some fault.now else least.now)) }
+{
+    match least {
+        None => Ok(true),
+        Some(before) => Ok(order(alloc, fault, before)?.is_lt()),
+    }
+}
+
 /// Keeps the least of a fault and those that were found.
 pub fn note_lesser(alloc: Global, least: &mut Option<Fault>, fault: Fault) -> Result<(), NoMemory>
     ensures { OnOk result (least.new ≡ spec.lesser least.old fault) }
 {
-    let Some(before) = least else {
-        *least = Some(fault);
-        return Ok(());
-    };
-    if order(alloc, &fault, before)?.is_lt() {
+    if is_lesser(alloc, least, &fault)? {
         *least = Some(fault);
     }
     Ok(())

@@ -1,11 +1,13 @@
 //! Noting nodes and faults.
 
-ghost use Rattle.std.specs.Prelude.{◌≡◌, ◌∷◌, [], OnOk};
+ghost use Rattle.std.specs.Prelude.{◌≡◌, ◌∷◌, [], IfOk, OnOk, Some};
 ghost use Rattle.nm_types.specs.Path.{whole};
+ghost use Rattle.nm_types.specs.Chosen.{choice_of};
 ghost use Rattle.nm_json.specs.Findings.{step_below as path_below};
 ghost use Rattle.nm_json.specs.Spots.{spot_of};
 ghost use Rattle.nm_edit_json.specs.Noted.{gathered as all_noted};
 ghost use Rattle.nm_edit_json.specs.Findings as spec;
+ghost use Rattle.nm_edit_json.specs.declared.fault.FaultKind.TheVariants.{Annotation};
 
 use crate::fault::{Fault, FaultKind, fault_at};
 use crate::gathered::Gathered;
@@ -74,6 +76,15 @@ pub fn note_at(
     gathered.note_fault(alloc, fault_at(path, kind))
 }
 
+// The place of a name below a path.
+fn place_below(alloc: Global, above: &Path, name: &str) -> Result<Place, NoMemory>
+    ensures { IfOk result (λ place. place ≡ record { path = above.now; below = Some name.now }) }
+{
+    let below = Some(Label::new(alloc, name)?);
+    let path = above.copy(alloc)?;
+    Ok(Place { path, below })
+}
+
 /// Notes a fault at a name below a path.
 #[tactic(auto, unfolding(crate::specs::Noted::gathered))]
 pub fn note_below(
@@ -85,10 +96,7 @@ pub fn note_below(
 ) -> Result<(), NoMemory>
     ensures { OnOk result (gathered.new ≡ all_noted gathered.old (spec.wrong (spec.fault_below above.now name.now kind) ∷ [])) }
 {
-    let place = Place {
-        path: above.copy(alloc)?,
-        below: Some(Label::new(alloc, name)?),
-    };
+    let place = place_below(alloc, above, name)?;
     gathered.note_fault(alloc, Fault { kind, place })
 }
 
@@ -130,6 +138,16 @@ pub fn note_misplaced(
     note_child(alloc, gathered, above, node, FaultKind::Annotation)
 }
 
+// Notes a node, and that what is said of it may not be said there.
+#[tactic(auto, unfolding(crate::specs::Noted::gathered))]
+fn note_misheld(alloc: Global, gathered: &mut Gathered, node: EditNode) -> Result<(), NoMemory>
+    ensures { OnOk result (gathered.new ≡ all_noted gathered.old (spec.named node ∷ spec.wrong (spec.fault_at node.path Annotation) ∷ [])) }
+{
+    let path = node.path.copy(alloc)?;
+    gathered.note_node(alloc, node)?;
+    gathered.note_fault(alloc, fault_at(path, FaultKind::Annotation))
+}
+
 /// Notes a node with what is said of it.
 #[tactic(auto, unfolding(crate::specs::Noted::gathered))]
 pub fn note_node(
@@ -142,25 +160,48 @@ pub fn note_node(
 ) -> Result<(), NoMemory>
     ensures { OnOk result (gathered.new ≡ all_noted gathered.old (spec.node_found path held said value)) }
 {
-    let operation = told(said);
+    let node = EditNode {
+        path,
+        operation: told(said),
+        value,
+    };
     if !is_misplaced(held, said) {
-        return gathered.note_node(
-            alloc,
-            EditNode {
-                path,
-                operation,
-                value,
-            },
-        );
+        return gathered.note_node(alloc, node);
     }
-    let fault = fault_at(path.copy(alloc)?, FaultKind::Annotation);
-    gathered.note_node(
-        alloc,
-        EditNode {
-            path,
-            operation,
-            value,
-        },
-    )?;
-    gathered.note_fault(alloc, fault)
+    note_misheld(alloc, gathered, node)
+}
+
+/// Notes a node below a path with what is said of it.
+pub fn note_node_below(
+    alloc: Global,
+    gathered: &mut Gathered,
+    above: &Path,
+    node: &Node,
+    held: bool,
+    said: Said,
+    value: Option<Value>,
+) -> Result<(), NoMemory>
+    ensures { OnOk result (gathered.new ≡ all_noted gathered.old (spec.node_found (path_below above.now node.now whole) held said value)) }
+{
+    let path = step_below(alloc, above, node, Chosen::Whole)?;
+    note_node(alloc, gathered, path, held, said, value)
+}
+
+/// Notes the node of a spot with what is said of it, and answers its path.
+pub fn note_step(
+    alloc: Global,
+    gathered: &mut Gathered,
+    spot: &Spot,
+    chosen: Chosen,
+    held: bool,
+    said: Said,
+    value: Option<Value>,
+) -> Result<Path, NoMemory>
+    ensures path { IfOk result (λ path. path ≡ path_below spot.now.above.now spot.now.node.now (choice_of chosen)) }
+    ensures noted { OnOk result (gathered.new ≡ all_noted gathered.old
+        (spec.node_found (path_below spot.now.above.now spot.now.node.now (choice_of chosen)) held said value)) }
+{
+    let path = step_below(alloc, spot.above, spot.node, chosen)?;
+    note_node(alloc, gathered, path.copy(alloc)?, held, said, value)?;
+    Ok(path)
 }

@@ -4,6 +4,7 @@ ghost use Rattle.std.specs.Prelude.{◌≡◌, OnOk, Some, None, MatchOption, op
 ghost use Rattle.serde_json.specs.View.{view, items_view};
 ghost use Rattle.nm_types.specs.Path.{entry};
 ghost use Rattle.nm_json.specs.Spots.{spot_of};
+ghost use Rattle.nm_json.specs.Findings.{step_below as path_below};
 ghost use Rattle.nm_json.specs.Values.{leaf_value as value_of_leaf};
 ghost use Rattle.nm_edit_json.specs.Noted.{gathered as all_noted};
 ghost use Rattle.nm_edit_json.specs.Findings as spec;
@@ -11,13 +12,13 @@ ghost use Rattle.nm_edit_json.specs.Findings as spec;
 use crate::around::said_item;
 use crate::fault::kind_of;
 use crate::gathered::Gathered;
-use crate::note::{note_child, note_misfit, note_misplaced, note_node};
+use crate::note::{note_child, note_misfit, note_misplaced, note_node, note_node_below};
 use crate::said::Said;
 use nm_base::NoMemory;
 use nm_json::fault::Refusal;
 use nm_json::leafs::leaf_value;
 use nm_json::spot::{Spot, step_below};
-use nm_types::{Chosen, LeafType};
+use nm_types::{Chosen, LeafType, Value};
 use serde_json::Value as Json;
 use std::alloc::Global;
 
@@ -36,14 +37,31 @@ pub fn read_leaf(
 {
     match leaf_value(alloc, leaf_type, part) {
         Ok(value) => {
-            let path = step_below(alloc, spot.above, spot.node, Chosen::Whole)?;
-            note_node(alloc, gathered, path, held, said, Some(value))
+            let value = Some(value);
+            note_node_below(alloc, gathered, spot.above, spot.node, held, said, value)
         }
         Err(Refusal::Bad(kind)) => {
             note_child(alloc, gathered, spot.above, spot.node, kind_of(kind))
         }
         Err(Refusal::NoMemory) => Err(NoMemory),
     }
+}
+
+// Notes an entry of a leaf-list by its value.
+fn note_value(
+    alloc: Global,
+    gathered: &mut Gathered,
+    spot: &Spot,
+    held: bool,
+    said: Said,
+    value: Value,
+) -> Result<(), NoMemory>
+    ensures { OnOk result (gathered.new ≡ all_noted gathered.old
+        (spec.node_found (path_below spot.now.above.now spot.now.node.now (entry value)) held said (Some value))) }
+{
+    let chosen = Chosen::Entry(value.copy()?);
+    let path = step_below(alloc, spot.above, spot.node, chosen)?;
+    note_node(alloc, gathered, path, held, said, Some(value))
 }
 
 // An entry of a leaf-list.
@@ -60,11 +78,7 @@ fn read_value(
         (spec.value_found (spot_of spot.now) held said (value_of_leaf leaf_type.now (view part.now)))) }
 {
     match leaf_value(alloc, leaf_type, part) {
-        Ok(value) => {
-            let chosen = Chosen::Entry(value.copy()?);
-            let path = step_below(alloc, spot.above, spot.node, chosen)?;
-            note_node(alloc, gathered, path, held, said, Some(value))
-        }
+        Ok(value) => note_value(alloc, gathered, spot, held, said, value),
         Err(Refusal::Bad(kind)) => {
             note_child(alloc, gathered, spot.above, spot.node, kind_of(kind))
         }

@@ -10,18 +10,15 @@ ghost use Rattle.nm_edit_json.specs.Around.{around_of};
 ghost use Rattle.nm_edit_json.specs.Findings as spec;
 
 use crate::absent::note_annotation;
-use crate::around::{
-    Around, annotated, long_note, notes_in_one, own_said, said_of, short_member, short_note,
-};
+use crate::around::{Around, annotated, notes_of, own_said, said_of};
 use crate::fault::FaultKind;
 use crate::gathered::Gathered;
 use crate::keys::read_keys;
-use crate::note::{held_by, note_below, note_child, note_misfit, note_node};
-use crate::said::member;
+use crate::note::{held_by, note_below, note_child, note_misfit, note_step};
 use crate::value::{read_leaf, read_leaf_list};
 use nm_base::NoMemory;
 use nm_json::names::{is_twice, node_named};
-use nm_json::spot::{Spot, step_below};
+use nm_json::spot::Spot;
 use nm_tree::{Node, NodeKind, Schema};
 use nm_types::{Chosen, LeafType, Value};
 use serde_json::{Map, Value as Json};
@@ -80,14 +77,7 @@ fn read_entries_noted(
     ensures { OnOk result (gathered.new ≡ all_noted gathered.old
         (spec.leaf_list_found (spot_of spot.now) leaf_type.now around.now.held (spec.notes_of (around_of around.now) spot.now.node.now) (view part.now))) }
 {
-    let none = Vec::new(alloc);
-    let short = short_note(alloc, spot.node)?;
-    let long = long_note(alloc, spot.node)?;
-    let notes = notes_in_one(
-        none.as_slice(),
-        short_member(around.within, short.as_str(), around.all),
-        member(around.all, long.as_str()),
-    );
+    let notes = notes_of(alloc, &[], around, spot.node)?;
     read_leaf_list(alloc, gathered, spot, leaf_type, around.held, notes, part)
 }
 
@@ -236,8 +226,7 @@ fn read_container(
         Json::Object(members) => {
             let said = own_said(members);
             let value = presence_value(presence);
-            let path = step_below(alloc, spot.above, spot.node, Chosen::Whole)?;
-            note_node(alloc, gathered, path.copy(alloc)?, held, said, value)?;
+            let path = note_step(alloc, gathered, spot, Chosen::Whole, held, said, value)?;
             let around = Around {
                 above: &path,
                 within: Some(spot.number),
@@ -313,15 +302,9 @@ fn read_entry(
                 return Ok(());
             }
             let said = own_said(members);
-            let path = step_below(alloc, spot.above, spot.node, Chosen::Keys(values))?;
-            note_node(
-                alloc,
-                gathered,
-                path.copy(alloc)?,
-                held,
-                said,
-                Some(Value::Present),
-            )?;
+            let chosen = Chosen::Keys(values);
+            let present = Some(Value::Present);
+            let path = note_step(alloc, gathered, spot, chosen, held, said, present)?;
             let around = Around {
                 above: &path,
                 within: Some(spot.number),

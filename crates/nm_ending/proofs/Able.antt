@@ -15,10 +15,10 @@ use Rattle.nm_proto.specs.declared.plan.ChangePlan.{ChangePlan}
 use Rattle.nm_journal.specs.Entries.{ends}
 use Rattle.nm_recovery.specs.Recovery.{is_started, is_ended_in, verdict_in}
 use Rattle.nm_device.specs.Table.{is_opening}
+use Rattle.nm_decider_stage.specs.declared.stage.Stage.{Stage}
+use Rattle.nm_decider_stage.specs.declared.stage.Stage.TheVariants.{Live, Refused, Failed, NeedMark, Resync, Leaving, Settled}
+use Rattle.nm_decider_stage.specs.Stages.{learnt, trouble_in, broken_stage, is_acknowledged, is_settled}
 use Rattle.nm_decider.specs.declared.seat.Seat.{Seat}
-use Rattle.nm_decider.specs.declared.stage.Stage.{Stage}
-use Rattle.nm_decider.specs.declared.stage.Stage.TheVariants.{Live, Refused, Failed, NeedMark, Resync, Leaving, Settled}
-use Rattle.nm_decider.specs.Stages.{learnt, trouble_in, broken_stage, is_acknowledged, is_settled}
 use Rattle.nm_decider.specs.declared.course.NextAction.TheVariants.{Send, Decide, Finish}
 use Rattle.nm_decider.specs.Course as course
 use Rattle.nm_decider.specs.Course.{CourseState, next_action, noted, asked_next, renewed, decided_seat, seat_of, seats_from, seat_count}

@@ -6,9 +6,9 @@ use Rattle.nm_proto.specs.declared.journal.Verdict.{Verdict}
 use Rattle.nm_proto.specs.declared.journal.Verdict.TheVariants as verdict
 use Rattle.nm_history.specs.History.{RecordedState}
 use Rattle.nm_stores.specs.Stores.{is_modified}
+use Rattle.nm_decider_stage.specs.declared.stage.Stage.{Stage}
+use Rattle.nm_decider_stage.specs.declared.stage.Stage.TheVariants.{Live, Refused, Failed, NeedMark, Resync, Leaving, Settled}
 use Rattle.nm_decider.specs.declared.seat.Seat.{Seat}
-use Rattle.nm_decider.specs.declared.stage.Stage.{Stage}
-use Rattle.nm_decider.specs.declared.stage.Stage.TheVariants.{Live, Refused, Failed, NeedMark, Resync, Leaving, Settled}
 use Rattle.nm_resync.specs.Resync.{ResyncState}
 use Rattle.nm_manager.specs.Slot.{SideState, SlotState, is_resync}
 use Rattle.nm_wire.specs.Link.{LinkState}

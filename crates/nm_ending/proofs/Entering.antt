@@ -17,8 +17,8 @@ use Rattle.nm_proto.specs.Plan.{devices_in as planned_in}
 use Rattle.nm_journal.specs.Entries.{starts, decides, aborts, is_within, starts_over, may_follow}
 use Rattle.nm_journal.specs.Record.{is_change}
 use Rattle.nm_recovery.specs.Recovery.{devices_of, verdict_of, devices_in, is_started, is_ended_in, verdict_in}
+use Rattle.nm_decider_stage.specs.Stages.{has_kept}
 use Rattle.nm_decider.specs.declared.seat.Seat.{Seat}
-use Rattle.nm_decider.specs.Stages.{has_kept}
 use Rattle.nm_decider.specs.Course.{kept_from}
 use Rattle.nm_manager.specs.Queues.{tickets_in}
 use Rattle.nm_safety.specs.Safe.{is_abort}

@@ -9,10 +9,10 @@ use Rattle.nm_proto.specs.declared.journal.Verdict.{Verdict}
 use Rattle.nm_proto.specs.declared.journal.Verdict.TheVariants as verdict
 use Rattle.nm_stores.specs.Stores.{is_modified}
 use Rattle.nm_history.specs.History.{RecordedState}
+use Rattle.nm_decider_stage.specs.declared.stage.Stage.{Stage}
+use Rattle.nm_decider_stage.specs.declared.stage.Stage.TheVariants.{Live, Refused, Failed, NeedMark, Resync, Leaving, Settled}
+use Rattle.nm_decider_stage.specs.Stages.{next_ask, first_ask, verdict_ask}
 use Rattle.nm_decider.specs.declared.seat.Seat.{Seat}
-use Rattle.nm_decider.specs.declared.stage.Stage.{Stage}
-use Rattle.nm_decider.specs.declared.stage.Stage.TheVariants.{Live, Refused, Failed, NeedMark, Resync, Leaving, Settled}
-use Rattle.nm_decider.specs.Stages.{next_ask, first_ask, verdict_ask}
 use Rattle.nm_decider.specs.Course as course
 use Rattle.nm_decider.specs.Course.{CourseState, asked_next}
 use Rattle.nm_decider.specs.Rightly.{IsAsked}

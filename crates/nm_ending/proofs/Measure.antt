@@ -10,10 +10,10 @@ use Rattle.nm_proto.specs.declared.journal.Verdict.TheVariants as verdict
 use Rattle.nm_locks.specs.Locks.{owner_of}
 use Rattle.nm_stores.specs.Stores.{is_modified}
 use Rattle.nm_history.specs.History.{RecordedState}
+use Rattle.nm_decider_stage.specs.declared.stage.Stage.{Stage}
+use Rattle.nm_decider_stage.specs.declared.stage.Stage.TheVariants.{Live, Refused, Failed, NeedMark, Resync, Leaving, Settled}
+use Rattle.nm_decider_stage.specs.Stages.{learnt}
 use Rattle.nm_decider.specs.declared.seat.Seat.{Seat}
-use Rattle.nm_decider.specs.declared.stage.Stage.{Stage}
-use Rattle.nm_decider.specs.declared.stage.Stage.TheVariants.{Live, Refused, Failed, NeedMark, Resync, Leaving, Settled}
-use Rattle.nm_decider.specs.Stages.{learnt}
 use Rattle.nm_resync.specs.declared.resync.ResyncStage.{ResyncStage}
 use Rattle.nm_resync.specs.declared.resync.ResyncStage.TheVariants.{Opening, Discarding, Locking, Holding, Confirming, Checking, Closing, Done}
 use Rattle.nm_resync.specs.Resync as resync

@@ -8,9 +8,9 @@ use Rattle.nm_proto.specs.declared.message.Reply.TheVariants as reply
 use Rattle.nm_proto.specs.declared.journal.AbortCause.{AbortCause}
 use Rattle.nm_proto.specs.declared.journal.Verdict.{Verdict}
 use Rattle.nm_proto.specs.declared.journal.Verdict.TheVariants as verdict
-use Rattle.nm_decider.specs.declared.stage.Stage.{Stage}
-use Rattle.nm_decider.specs.declared.stage.Stage.TheVariants.{Live, Refused, Failed, NeedMark, Resync, Leaving, Settled}
-use Rattle.nm_decider.specs.Stages.{first_ask, fits, is_first, learnt, learnt_other, refused, broken_stage}
+use Rattle.nm_decider_stage.specs.declared.stage.Stage.{Stage}
+use Rattle.nm_decider_stage.specs.declared.stage.Stage.TheVariants.{Live, Refused, Failed, NeedMark, Resync, Leaving, Settled}
+use Rattle.nm_decider_stage.specs.Stages.{first_ask, fits, is_first, learnt, learnt_other, refused, broken_stage}
 use Rattle.nm_resync.specs.declared.resync.ResyncStage.{ResyncStage}
 use Rattle.nm_resync.specs.declared.resync.ResyncStage.TheVariants.{Opening, Discarding, Locking, Holding, Confirming, Checking, Closing, Done}
 use Rattle.nm_resync.specs.Resync.{ResyncState, fresh_resync, resync_ask}

@@ -7,9 +7,9 @@ use Rattle.nm_proto.specs.declared.message.Reply.{Reply}
 use Rattle.nm_proto.specs.declared.journal.AbortCause.{AbortCause}
 use Rattle.nm_proto.specs.declared.journal.Verdict.{Verdict}
 use Rattle.nm_proto.specs.declared.journal.Verdict.TheVariants as verdict
-use Rattle.nm_decider.specs.declared.stage.Stage.{Stage}
-use Rattle.nm_decider.specs.declared.stage.Stage.TheVariants.{Live, Refused, Failed, NeedMark, Resync, Leaving, Settled}
-use Rattle.nm_decider.specs.Stages.{next_ask, first_ask, fits, is_first, learnt, learnt_other, refused, trouble_in, is_acknowledged, aborted_stage, broken_stage}
+use Rattle.nm_decider_stage.specs.declared.stage.Stage.{Stage}
+use Rattle.nm_decider_stage.specs.declared.stage.Stage.TheVariants.{Live, Refused, Failed, NeedMark, Resync, Leaving, Settled}
+use Rattle.nm_decider_stage.specs.Stages.{next_ask, first_ask, fits, is_first, learnt, learnt_other, refused, trouble_in, is_acknowledged, aborted_stage, broken_stage}
 use Rattle.nm_decider.specs.Course.{noted}
 use Rattle.nm_pair.specs.Step.{may_stand, may_await}
 use Rattle.nm_ending.specs.Steady.{is_right, right_calm, right_commit, right_abort, is_live}

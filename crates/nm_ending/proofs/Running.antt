@@ -5,7 +5,7 @@ use Rattle.nm_proto.specs.declared.plan.Event.{Event}
 use Rattle.nm_proto.specs.Content.{Meaning, Laws}
 use Rattle.nm_proto.specs.Plan.{devices_in}
 use Rattle.nm_history.specs.History.{recorded}
-use Rattle.nm_decider.specs.declared.stage.Stage.TheVariants.{Live}
+use Rattle.nm_decider_stage.specs.declared.stage.Stage.TheVariants.{Live}
 use Rattle.nm_decider.specs.Course.{seat_count}
 use Rattle.nm_manager.specs.Slot.{fresh_slot, fresh_side}
 use Rattle.nm_manager.specs.Manager.{slots_from}

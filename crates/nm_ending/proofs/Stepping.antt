@@ -7,10 +7,10 @@ use Rattle.nm_proto.specs.declared.journal.Verdict.{Verdict}
 use Rattle.nm_proto.specs.Content.{Meaning}
 use Rattle.nm_stores.specs.Stores.{is_modified}
 use Rattle.nm_history.specs.History.{RecordedState}
+use Rattle.nm_decider_stage.specs.declared.stage.Stage.{Stage}
+use Rattle.nm_decider_stage.specs.declared.stage.Stage.TheVariants.{Resync}
+use Rattle.nm_decider_stage.specs.Stages.{broken_stage, learnt}
 use Rattle.nm_decider.specs.declared.seat.Seat.{Seat}
-use Rattle.nm_decider.specs.declared.stage.Stage.{Stage}
-use Rattle.nm_decider.specs.declared.stage.Stage.TheVariants.{Resync}
-use Rattle.nm_decider.specs.Stages.{broken_stage, learnt}
 use Rattle.nm_decider.specs.Course as course
 use Rattle.nm_decider.specs.Course.{CourseState}
 use Rattle.nm_resync.specs.Resync as resync

@@ -19,9 +19,9 @@ use Rattle.nm_journal.specs.Record.{is_change}
 use Rattle.nm_recovery.specs.Recovery as recovery
 use Rattle.nm_recovery.specs.Recovery.{is_ended_in, verdict_in}
 use Rattle.nm_history.specs.History.{RecordedState}
+use Rattle.nm_decider_stage.specs.declared.stage.Stage.{Stage}
+use Rattle.nm_decider_stage.specs.Stages.{has_kept}
 use Rattle.nm_decider.specs.declared.seat.Seat.{Seat}
-use Rattle.nm_decider.specs.declared.stage.Stage.{Stage}
-use Rattle.nm_decider.specs.Stages.{has_kept}
 use Rattle.nm_decider.specs.declared.course.NextAction.{NextAction}
 use Rattle.nm_decider.specs.declared.course.NextAction.TheVariants as next
 use Rattle.nm_decider.specs.Course as course

@@ -7,10 +7,10 @@ use Rattle.nm_proto.specs.declared.ask.Ask.{Ask}
 use Rattle.nm_proto.specs.declared.journal.AbortCause.{AbortCause}
 use Rattle.nm_proto.specs.declared.journal.Verdict.{Verdict}
 use Rattle.nm_proto.specs.declared.journal.Verdict.TheVariants as verdict
+use Rattle.nm_decider_stage.specs.declared.stage.Stage.{Stage}
+use Rattle.nm_decider_stage.specs.declared.stage.Stage.TheVariants.{Live, Refused, Failed, NeedMark, Resync, Leaving, Settled}
+use Rattle.nm_decider_stage.specs.Stages.{next_ask, all_done, is_acknowledged, is_settled}
 use Rattle.nm_decider.specs.declared.seat.Seat.{Seat}
-use Rattle.nm_decider.specs.declared.stage.Stage.{Stage}
-use Rattle.nm_decider.specs.declared.stage.Stage.TheVariants.{Live, Refused, Failed, NeedMark, Resync, Leaving, Settled}
-use Rattle.nm_decider.specs.Stages.{next_ask, all_done, is_acknowledged, is_settled}
 use Rattle.nm_decider.specs.declared.course.NextAction.TheVariants as next
 use Rattle.nm_decider.specs.Course.{CourseState, next_action, action_by, send_of, send_seat, send_at, place_of, fewest_from, kept_from, awaits, wants_settling, may_send}
 use Rattle.nm_decider.specs.Rightly.{IsStuck}

@@ -7,10 +7,10 @@ use Rattle.nm_proto.specs.declared.journal.Entry.{Entry}
 use Rattle.nm_proto.specs.declared.journal.Verdict.{Verdict}
 use Rattle.nm_proto.specs.declared.journal.Verdict.TheVariants as verdict
 use Rattle.nm_device.specs.Table.{is_opening}
+use Rattle.nm_decider_stage.specs.declared.stage.Stage.{Stage}
+use Rattle.nm_decider_stage.specs.declared.stage.Stage.TheVariants.{Live, Refused, Failed, NeedMark, Resync, Leaving, Settled}
+use Rattle.nm_decider_stage.specs.Stages.{all_done}
 use Rattle.nm_decider.specs.declared.seat.Seat.{Seat}
-use Rattle.nm_decider.specs.declared.stage.Stage.{Stage}
-use Rattle.nm_decider.specs.declared.stage.Stage.TheVariants.{Live, Refused, Failed, NeedMark, Resync, Leaving, Settled}
-use Rattle.nm_decider.specs.Stages.{all_done}
 use Rattle.nm_wire.specs.declared.link.Way.{Way}
 use Rattle.nm_wire.specs.declared.link.Way.TheVariants.{Quiet, Asked, Told}
 use Rattle.nm_wire.specs.Link.{LinkState, session_of, ends}

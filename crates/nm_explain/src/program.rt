@@ -15,7 +15,7 @@ use nm_scenario::BYTE_LIMIT;
 use std::alloc::Global;
 
 /// How the program ended. Its number is the exit status.
-#[derive(Clone, Copy, Debug, PartialEq, Eq)]
+#[derive(Clone, Copy, PartialEq, Eq)]
 pub enum Status {
     /// Nothing is wrong with the scenario.
     Fine,
@@ -53,7 +53,7 @@ impl Status {
 const USAGE: &str = "usage: netm_explain < scenario\n";
 
 /// Why there is nothing to say.
-#[derive(Clone, Copy, Debug, PartialEq, Eq)]
+#[derive(Clone, Copy, PartialEq, Eq)]
 enum Stop {
     ReadFault,
     NoMemory,

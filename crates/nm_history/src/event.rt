@@ -4,7 +4,7 @@ use nm_base::{Label, NoMemory, SessionId};
 use nm_proto::{Reply, Request};
 
 /// One thing that happens at a device.
-#[derive(Clone, PartialEq, Drop)]
+#[derive(Drop)]
 pub enum DeviceEvent {
     /// A user asks for a session (RFC 6241 section 8.1).
     Entered {
@@ -32,14 +32,43 @@ impl DeviceEvent {
     pub fn copy(&self) -> Result<DeviceEvent, NoMemory>
         ensures { IfOk result (λ event. event ≡ self.now) }
     {
-        Ok(self.clone()?)
+        let event = match self {
+            DeviceEvent::Entered { user } => DeviceEvent::Entered { user: user.copy()? },
+            DeviceEvent::Asked { session, request } => DeviceEvent::Asked {
+                session: *session,
+                request: request.copy()?,
+            },
+            DeviceEvent::Lost { session } => DeviceEvent::Lost { session: *session },
+            DeviceEvent::Advanced { seconds } => DeviceEvent::Advanced { seconds: *seconds },
+            DeviceEvent::Restarted => DeviceEvent::Restarted,
+        };
+        Ok(event)
     }
 
     /// Whether the two are equal.
     pub fn same(&self, other: &DeviceEvent) -> bool
         ensures { IsTrue result ↔ (self.now ≡ other.now) }
     {
-        *self == *other
+        match (self, other) {
+            (DeviceEvent::Entered { user }, DeviceEvent::Entered { user: other }) => user.same(
+                other,
+            ),
+            (
+                DeviceEvent::Asked { session, request },
+                DeviceEvent::Asked {
+                    session: asker,
+                    request: other,
+                },
+            ) => session.get() == asker.get() && request.same(other),
+            (DeviceEvent::Lost { session }, DeviceEvent::Lost { session: other }) => {
+                session.get() == other.get()
+            }
+            (DeviceEvent::Advanced { seconds }, DeviceEvent::Advanced { seconds: other }) => {
+                *seconds == *other
+            }
+            (DeviceEvent::Restarted, DeviceEvent::Restarted) => true,
+            _ => false,
+        }
     }
 }
 
@@ -57,11 +86,18 @@ impl Noted {
     pub fn copy(&self) -> Result<Noted, NoMemory>
         ensures { IfOk result (λ entry. entry ≡ self.now) }
     {
-        Ok(Noted {
-            event: self.event.copy()?,
-            reply: copy_reply(&self.reply)?,
-            undone: self.undone,
-        })
+        let reply = copy_reply(&self.reply)?;
+        match self.event.copy() {
+            Ok(event) => Ok(Noted {
+                event,
+                reply,
+                undone: self.undone,
+            }),
+            Err(fault) => {
+                drop(reply);
+                Err(fault)
+            }
+        }
     }
 
     /// Whether the two are equal.

@@ -8,7 +8,7 @@ use nm_base::Label;
 use nm_proto::{Reply, Request};
 
 /// What undid a pending commit (RFC 6241 section 8.4).
-#[derive(Clone, Copy, Debug, PartialEq, Eq)]
+#[derive(Clone, Copy, PartialEq, Eq)]
 pub enum Undoing {
     /// A cancel.
     Cancel,
@@ -21,7 +21,7 @@ pub enum Undoing {
 }
 
 /// What has become of a change set at a device.
-#[derive(Clone, Copy, Debug, PartialEq, Eq)]
+#[derive(Clone, Copy, PartialEq, Eq)]
 pub enum Outcome {
     /// Its commit was not done.
     Never,

@@ -175,10 +175,23 @@ impl<C: Content> Recorded<C> {
         ensures only_sessions { self.new.device ≡ record self.old.device { sessions = self.new.device.sessions } }
     {
         self.history.reserve(1)?;
-        let reply = self.device.open_session(user.copy()?)?;
-        let Copies { kept, told } = copies_of(reply, false)?;
+        let entered = DeviceEvent::Entered { user: user.copy()? };
+        let reply = match self.device.open_session(user) {
+            Ok(reply) => reply,
+            Err(fault) => {
+                drop(entered);
+                return Err(fault);
+            }
+        };
+        let Copies { kept, told } = match copies_of(reply, false) {
+            Ok(copies) => copies,
+            Err(fault) => {
+                drop(entered);
+                return Err(fault);
+            }
+        };
         self.history.push_reserved(Noted {
-            event: DeviceEvent::Entered { user },
+            event: entered,
             reply: Some(kept),
             undone: false,
         });
@@ -232,9 +245,21 @@ impl<C: Content> Recorded<C> {
         self.history.reserve(1)?;
         let asked = request.copy()?;
         let was_pending = self.device.is_pending();
-        let reply = self.device.step(content, tables, session, request)?;
+        let reply = match self.device.step(content, tables, session, request) {
+            Ok(reply) => reply,
+            Err(fault) => {
+                drop(asked);
+                return Err(fault);
+            }
+        };
         let undone = was_pending && !self.device.is_pending() && !asks_for_end(request);
-        let Copies { kept, told } = copies_of(reply, undone)?;
+        let Copies { kept, told } = match copies_of(reply, undone) {
+            Ok(copies) => copies,
+            Err(fault) => {
+                drop(asked);
+                return Err(fault);
+            }
+        };
         self.history.push_reserved(Noted {
             event: DeviceEvent::Asked {
                 session,
@@ -280,14 +305,34 @@ fn copies_of(reply: Reply, undone: bool) -> Result<Copies, NoMemory>
     ensures told { IfOk result (λ copies. copies.told ≡ record { reply = reply; again = reply; undone = undone }) }
     ensures only_errors { OnErr result (holds_text reply ≡ true) }
 {
-    let again = reply.copy()?;
-    let kept = reply.copy()?;
-    Ok(Copies {
-        kept,
-        told: Told {
-            reply,
-            again,
-            undone,
-        },
-    })
+    match twice(&reply) {
+        Ok((kept, again)) => Ok(Copies {
+            kept,
+            told: Told {
+                reply,
+                again,
+                undone,
+            },
+        }),
+        Err(fault) => {
+            drop(reply);
+            Err(fault)
+        }
+    }
+}
+
+// Two copies of a reply.
+fn twice(reply: &Reply) -> Result<(Reply, Reply), NoMemory>
+    ensures first { IfOk result (λ copies. copies.0 ≡ reply.now) }
+    ensures second { IfOk result (λ copies. copies.1 ≡ reply.now) }
+    ensures only_errors { OnErr result (holds_text reply.now ≡ true) }
+{
+    let first = reply.copy()?;
+    match reply.copy() {
+        Ok(second) => Ok((first, second)),
+        Err(fault) => {
+            drop(first);
+            Err(fault)
+        }
+    }
 }

@@ -29,7 +29,25 @@ fn fronts_of(alloc: Global, path: &Path) -> Result<Vec<Path>, NoMemory>
     Ok(fronts)
 }
 
-// The paths of a node below some places, by steps that choose no entries.
+// Puts the paths of a node below some places, by steps that choose no entries, behind others.
+fn put_below(
+    alloc: Global,
+    schema: &Schema,
+    fronts: &[Path],
+    at: usize,
+    paths: &mut Vec<Path>,
+) -> Result<(), NoMemory>
+    ensures { OnOk result (paths.new.items ≡ paths.old.items ++ each (λ above. value.path_in schema.now above at) (filter (spec.is_above schema.now at) fronts.now)) }
+{
+    for above in fronts {
+        if is_above(schema, at, above) {
+            paths.push(path_in(alloc, schema, above, at)?)?;
+        }
+    }
+    Ok(())
+}
+
+// The paths of a node below some places.
 fn paths_below(
     alloc: Global,
     schema: &Schema,
@@ -39,11 +57,7 @@ fn paths_below(
     ensures { IfOk result (λ paths. paths.items ≡ each (λ above. value.path_in schema.now above at) (filter (spec.is_above schema.now at) fronts.now)) }
 {
     let mut paths = Vec::new(alloc);
-    for above in fronts {
-        if is_above(schema, at, above) {
-            paths.push(path_in(alloc, schema, above, at)?)?;
-        }
-    }
+    put_below(alloc, schema, fronts, at, &mut paths)?;
     Ok(paths)
 }
 
@@ -59,16 +73,6 @@ fn has_rule(schema: &Schema, rule: Rule, at: usize) -> bool
     }
 }
 
-// Puts some paths behind others.
-fn put_all(paths: &mut Vec<Path>, more: Vec<Path>) -> Result<(), NoMemory>
-    ensures { OnOk result (paths.new.items ≡ paths.old.items ++ more.items) }
-{
-    for path in more {
-        paths.push(path)?;
-    }
-    Ok(())
-}
-
 // The candidates of a rule on single nodes.
 fn of_nodes(alloc: Global, schema: &Schema, rule: Rule, row: &Path) -> Result<Vec<Path>, NoMemory>
     ensures { IfOk result (λ paths. paths.items ≡ flat_map (spec.below_fronts schema.now row.now) (filter (own.has_rule schema.now rule) (numbers schema.now.nodes))) }
@@ -77,8 +81,7 @@ fn of_nodes(alloc: Global, schema: &Schema, rule: Rule, row: &Path) -> Result<Ve
     let mut paths = Vec::new(alloc);
     for at in 0..schema.len() {
         if has_rule(schema, rule, at) {
-            let more = paths_below(alloc, schema, &fronts, at)?;
-            put_all(&mut paths, more)?;
+            put_below(alloc, schema, &fronts, at, &mut paths)?;
         }
     }
     Ok(paths)
@@ -137,8 +140,7 @@ fn put_mandatory(
         return Ok(());
     }
     let areas = areas_below(alloc, schema, fronts, choice.parent)?;
-    put_choice(alloc, &areas, choice, paths)?;
-    Ok(())
+    put_choice(alloc, &areas, choice, paths)
 }
 
 // The candidates of the rule of mandatory choices.
@@ -153,12 +155,13 @@ fn of_choices(alloc: Global, schema: &Schema, row: &Path) -> Result<Vec<Path>, N
     Ok(paths)
 }
 
-// A path alone.
-fn alone(alloc: Global, path: &Path) -> Result<Vec<Path>, NoMemory>
+/// A path alone.
+pub fn alone(alloc: Global, path: &Path) -> Result<Vec<Path>, NoMemory>
     ensures { IfOk result (λ paths. paths.items ≡ path.now ∷ []) }
 {
+    let copy = path.copy(alloc)?;
     let mut paths = Vec::new(alloc);
-    paths.push(path.copy(alloc)?)?;
+    paths.push(copy)?;
     Ok(paths)
 }
 

@@ -11,13 +11,12 @@ ghost use Rattle.nm_validate.specs.Tables.{AreOfCases};
 ghost use Rattle.nm_incremental.specs.Hanging as hanging;
 
 use crate::guarded::case_reads;
-use crate::paths::{begin, front_count, leads_to};
+use crate::paths::{begin, front_count, leads_to, path_of};
 use nm_base::{NoMemory, Numbers};
 use nm_path::node_of;
 use nm_rule_at::choices::is_area_of;
 use nm_tree::{Reference, Schema};
 use nm_types::Path;
-use nm_validate::cases::bare;
 use nm_validate::front;
 use std::alloc::Global;
 
@@ -83,8 +82,7 @@ fn tells_case(
     if !is_area_of(schema, schema.parent(at), above) {
         return Ok(false);
     }
-    let is = case_reads(alloc, schema, cases, above, case, row)?;
-    Ok(is)
+    case_reads(alloc, schema, cases, above, case, row)
 }
 
 // Whether it may hang on a row whether something stands at or below a node.
@@ -126,8 +124,7 @@ fn any_hangs(
     if here {
         return Ok(true);
     }
-    let is = any_hangs(alloc, schema, cases, schema.parent(node), row)?;
-    Ok(is)
+    any_hangs(alloc, schema, cases, schema.parent(node), row)
 }
 
 // Whether it may hang on a row where the default of a leaf is in use.
@@ -145,8 +142,7 @@ fn default_reads(
     if schema.default(at).is_none() {
         return Ok(false);
     }
-    let is = any_hangs(alloc, schema, cases, Some(at), row)?;
-    Ok(is)
+    any_hangs(alloc, schema, cases, Some(at), row)
 }
 
 // Whether a row concerns the leafref of a node.
@@ -170,8 +166,7 @@ fn reference_concerns(
     if has_value_of(schema, reference.target, row) {
         return Ok(true);
     }
-    let is = default_reads(alloc, schema, cases, reference.target, row)?;
-    Ok(is)
+    default_reads(alloc, schema, cases, reference.target, row)
 }
 
 /// Whether a row concerns some leafref.
@@ -212,8 +207,7 @@ fn ends_at(alloc: Global, schema: &Schema, at: usize, row: &Path) -> Result<bool
     ensures { IfOk result (λ is. is ≡ spec.ends_at schema.now at row.now) }
 {
     let above = front(alloc, row)?;
-    let step = bare(alloc, schema, at)?;
-    let path = above.with_step(alloc, step)?;
+    let path = path_of(alloc, schema, &above, at)?;
     Ok(*row == path)
 }
 
@@ -227,8 +221,7 @@ fn leaf_concerns(alloc: Global, schema: &Schema, leaf: usize, row: &Path) -> Res
     if schema.default(leaf).is_some() {
         return Ok(true);
     }
-    let is = ends_at(alloc, schema, leaf, row)?;
-    Ok(is)
+    ends_at(alloc, schema, leaf, row)
 }
 
 // Whether a row in an entry may tell the value of one of some leafs there.
@@ -264,8 +257,7 @@ fn unique_concerns(
     if !passes(alloc, schema, list, row)? {
         return Ok(false);
     }
-    let is = leafs_concern(alloc, schema, leafs, row)?;
-    Ok(is)
+    leafs_concern(alloc, schema, leafs, row)
 }
 
 // Whether a row concerns one of some unique statements of a list.

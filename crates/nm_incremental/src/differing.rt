@@ -6,6 +6,7 @@ ghost use Rattle.nm_config.specs.Under as under;
 ghost use Rattle.nm_validate.specs.Counts.{behind};
 ghost use Rattle.nm_incremental.specs.Differing as spec;
 
+use crate::candidates::alone;
 use nm_base::NoMemory;
 use nm_config::{RowMap, is_under};
 use nm_types::Path;
@@ -36,11 +37,10 @@ fn put_behind<M: RowMap>(
 fn own_row<M: RowMap>(alloc: Global, config: &M, node: &Path) -> Result<Vec<Path>, NoMemory>
     ensures { IfOk result (λ own. own.items ≡ cond (contains_key (M.rows config.now) node.now) (node.now ∷ []) []) }
 {
-    let mut own = Vec::new(alloc);
-    if config.value(node).is_some() {
-        own.push(node.copy(alloc)?)?;
+    if config.value(node).is_none() {
+        return Ok(Vec::new(alloc));
     }
-    Ok(own)
+    alone(alloc, node)
 }
 
 // The paths of the rows at or below a path.

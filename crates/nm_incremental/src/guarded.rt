@@ -11,12 +11,13 @@ ghost use Rattle.nm_reads.specs.Reads as spec;
 ghost use Rattle.nm_incremental.specs.Guarded as guard;
 
 use crate::members::nodes_of;
+use crate::paths::path_of;
 use nm_base::NoMemory;
 use nm_config::is_under;
 use nm_path::node_of;
 use nm_tree::Schema;
 use nm_types::Path;
-use nm_validate::cases::{bare, others_of};
+use nm_validate::cases::others_of;
 use nm_validate::front;
 use nm_validate::tables::nodes_in;
 use nm_validate::values::{is_whole, step_count};
@@ -32,8 +33,7 @@ fn tells(
 ) -> Result<bool, NoMemory>
     ensures { IfOk result (λ is. is ≡ spec.tells schema.now above.now at row.now) }
 {
-    let step = bare(alloc, schema, at)?;
-    let path = above.with_step(alloc, step)?;
+    let path = path_of(alloc, schema, above, at)?;
     Ok(is_under(&path, row))
 }
 
@@ -68,12 +68,10 @@ pub fn case_reads(
     ensures { IfOk result (λ is. is ≡ spec.case_reads schema.now above.now case row.now) }
 {
     if case < cases.len() {
-        let there = any_tells(alloc, schema, above, nodes_in(cases, case), row)?;
-        return Ok(there);
+        return any_tells(alloc, schema, above, nodes_in(cases, case), row);
     }
     let nodes = nodes_of(alloc, schema, case)?;
-    let there = any_tells(alloc, schema, above, &nodes, row)?;
-    Ok(there)
+    any_tells(alloc, schema, above, &nodes, row)
 }
 
 /// Whether a row is read to tell whether a case, if there is one, holds at a place.
@@ -110,8 +108,7 @@ pub fn beside_reads(
     let Some(nodes) = others else {
         return Ok(false);
     };
-    let is = any_tells(alloc, schema, above, &nodes, row)?;
-    Ok(is)
+    any_tells(alloc, schema, above, &nodes, row)
 }
 
 // Whether a row is read to tell whether the last step of a path is open, by whether it is read above.
@@ -177,8 +174,7 @@ pub fn holds_reads(
     }
     let above = front(alloc, path)?;
     let so_far = holds_reads(alloc, schema, cases, &above, count - 1, row)?;
-    let is = open_reads(alloc, schema, cases, so_far, &above, path, row)?;
-    Ok(is)
+    open_reads(alloc, schema, cases, so_far, &above, path, row)
 }
 
 /// Whether a row is read to tell whether a leaf, or a list or leaf-list as a whole, may stand at a path.
@@ -197,6 +193,5 @@ pub fn stands_reads(
     }
     let above = front(alloc, path)?;
     let so_far = holds_reads(alloc, schema, cases, &above, step_count(&above), row)?;
-    let is = open_reads(alloc, schema, cases, so_far, &above, path, row)?;
-    Ok(is)
+    open_reads(alloc, schema, cases, so_far, &above, path, row)
 }

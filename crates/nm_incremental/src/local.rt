@@ -1,6 +1,6 @@
 //! The rules on single places, judged at those alone at which they read a row that differs.
 
-ghost use Rattle.std.specs.Prelude.{◌≡◌, ◌++◌, ◌≤◌, ◌+◌, IfOk, OnOk, filter, map as each, length, true};
+ghost use Rattle.std.specs.Prelude.{◌≡◌, ◌∷◌, ◌++◌, ◌≤◌, ◌+◌, [], IfOk, OnOk, Some, filter, map as each, length, true};
 ghost use Rattle.std.specs.List.{find};
 ghost use Rattle.std.specs.FinMap.{keys};
 ghost use Rattle.nm_rules.specs.Violated.{violated};
@@ -20,6 +20,14 @@ use nm_types::{Path, Value};
 use std::alloc::Global;
 use std::sync::ledger::Ledger;
 
+// Puts a path behind others, as the key of a row.
+fn put_path(path: Path, all: &mut Vec<(Path, Value)>) -> Result<(), NoMemory>
+    ensures { OnOk result (all.new.items ≡ all.old.items ++ spec.present path ∷ []) }
+{
+    all.push((path, Value::Present))?;
+    Ok(())
+}
+
 // Puts those of some paths at which a rule reads a row behind others.
 fn put_read(
     alloc: Global,
@@ -36,9 +44,27 @@ fn put_read(
 {
     for path in paths {
         if reads_at(alloc, schema, members, rule, &path, row)? {
-            all.push((path, Value::Present))?;
+            put_path(path, all)?;
         }
     }
+    Ok(())
+}
+
+// Puts the paths at which a rule reads a row behind others.
+fn put_row(
+    alloc: Global,
+    schema: &Schema,
+    members: &Members,
+    rule: Rule,
+    row: &Path,
+    all: &mut Vec<(Path, Value)>,
+) -> Result<(), NoMemory>
+    requires members { AreMembers schema.now members.now }
+    requires alone { has_candidates rule ≡ true }
+    ensures { OnOk result (all.new.items ≡ all.old.items ++ each spec.present (spec.read_at schema.now rule row.now)) }
+{
+    let paths = candidates(alloc, schema, rule, row)?;
+    put_read(alloc, schema, members, rule, row, paths, all)?;
     Ok(())
 }
 
@@ -56,11 +82,17 @@ fn read_set(
 {
     let mut all = Vec::new(alloc);
     for row in differing {
-        let paths = candidates(alloc, schema, rule, row)?;
-        put_read(alloc, schema, members, rule, row, paths, &mut all)?;
+        put_row(alloc, schema, members, rule, row, &mut all)?;
     }
     let set = Config::of_rows(alloc, all)?;
     Ok(set)
+}
+
+// A path that was found.
+fn found(alloc: Global, path: &Path) -> Result<Option<Path>, NoMemory>
+    ensures { IfOk result (λ found. found ≡ Some path.now) }
+{
+    Ok(Some(path.copy(alloc)?))
 }
 
 // The first of some paths at which a rule is violated. It takes a step for each path that it judges.
@@ -81,7 +113,7 @@ fn first_violated<M: RowMap, L: Ledger>(
     for (path, _) in paths.iter() {
         steps.tick();
         if judged(alloc, schema, next, members, rule, path)? {
-            return Ok(Some(path.copy(alloc)?));
+            return found(alloc, path);
         }
     }
     Ok(None)

@@ -1,7 +1,8 @@
 //! Nodes above nodes, and what paths begin with.
 
-ghost use Rattle.std.specs.Prelude.{◌≡◌, IfOk, length, suc, take};
+ghost use Rattle.std.specs.Prelude.{◌≡◌, ◌∷◌, ◌++◌, [], IfOk, length, suc, take};
 ghost use Rattle.nm_base.specs.Numbers.{is_among};
+ghost use Rattle.nm_rules.specs.Cases.{bare};
 ghost use Rattle.nm_rules.specs.Guards.{leads_to};
 ghost use Rattle.nm_rules.specs.Places as place;
 ghost use Rattle.nm_reads.specs.Candidates as spec;
@@ -10,6 +11,7 @@ use nm_base::NoMemory;
 use nm_path::node_of;
 use nm_tree::Schema;
 use nm_types::Path;
+use nm_validate::cases::bare;
 use std::alloc::Global;
 
 /// The first steps of a path, so many or all that there are.
@@ -26,6 +28,14 @@ pub fn front_count(path: &Path) -> usize
     ensures { result ≡ suc (length path.now) }
 {
     path.steps.len() + 1
+}
+
+/// The path of a node directly below a place, by a step that chooses no entry.
+pub fn path_of(alloc: Global, schema: &Schema, above: &Path, at: usize) -> Result<Path, NoMemory>
+    ensures { IfOk result (λ path. path ≡ above.now ++ bare schema.now.nodes at ∷ []) }
+{
+    let step = bare(alloc, schema, at)?;
+    above.with_step(alloc, step)
 }
 
 /// Whether a path leads to a node.

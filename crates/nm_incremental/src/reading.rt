@@ -46,8 +46,7 @@ fn mandatory_reads(
     if *path == *row {
         return Ok(true);
     }
-    let is = stands_reads(alloc, schema, cases, path, row)?;
-    Ok(is)
+    stands_reads(alloc, schema, cases, path, row)
 }
 
 // Whether a row is an entry of the list or leaf-list at a path.
@@ -84,8 +83,7 @@ fn min_reads(
         return Ok(true);
     }
     let above = front(alloc, path)?;
-    let is = beside_reads(alloc, schema, cases, &above, at, row)?;
-    Ok(is)
+    beside_reads(alloc, schema, cases, &above, at, row)
 }
 
 // Whether the rule of max-elements reads a row at a path.
@@ -111,8 +109,7 @@ fn max_reads(
     if is_counted(path, row) {
         return Ok(true);
     }
-    let is = stands_reads(alloc, schema, cases, path, row)?;
-    Ok(is)
+    stands_reads(alloc, schema, cases, path, row)
 }
 
 // Whether a row tells that a choice has a node at a place.
@@ -128,8 +125,7 @@ fn choice_reads(
     requires within { at < length schema.now.choices }
     ensures { IfOk result (λ is. is ≡ spec.choice_reads schema.now above.now at row.now) }
 {
-    let is = any_tells(alloc, schema, above, nodes_in(choices, at), row)?;
-    Ok(is)
+    any_tells(alloc, schema, above, nodes_in(choices, at), row)
 }
 
 // Whether a row is read to tell whether a choice is missing at its place.
@@ -153,8 +149,7 @@ fn wanted_reads(
         return Ok(true);
     }
     let count = step_count(above);
-    let is = holds_reads(alloc, schema, &members.cases, above, count, row)?;
-    Ok(is)
+    holds_reads(alloc, schema, &members.cases, above, count, row)
 }
 
 // Whether a row is read of a choice of a number at a path, given what is above the path.
@@ -181,8 +176,7 @@ fn missing_reads(
     if !is_choice_path(alloc, schema, choice, above, path)? {
         return Ok(false);
     }
-    let is = wanted_reads(alloc, schema, members, above, at, choice, row)?;
-    Ok(is)
+    wanted_reads(alloc, schema, members, above, at, choice, row)
 }
 
 // Whether the rule of mandatory choices reads a row at a path.

@@ -61,12 +61,12 @@ fn least_among<M: RowMap, L: Ledger>(
     ensures steps { steps.new ≤ steps.old + length (read.judged_by schema.now differing.now rule) }
 {
     match rule {
-        Rule::ValueType
-        | Rule::Key
-        | Rule::Mandatory
-        | Rule::MinElements
-        | Rule::MaxElements
-        | Rule::MandatoryChoice => {
+        Rule::ValueType => least_read(alloc, schema, next, members, rule, differing, steps),
+        Rule::Key => least_read(alloc, schema, next, members, rule, differing, steps),
+        Rule::Mandatory => least_read(alloc, schema, next, members, rule, differing, steps),
+        Rule::MinElements => least_read(alloc, schema, next, members, rule, differing, steps),
+        Rule::MaxElements => least_read(alloc, schema, next, members, rule, differing, steps),
+        Rule::MandatoryChoice => {
             least_read(alloc, schema, next, members, rule, differing, steps)
         }
         Rule::Leafref => least_leafref(alloc, schema, next, &members.cases, differing),
@@ -116,8 +116,7 @@ fn violation_touched<B: RowMap, M: RowMap, L: Ledger>(
 {
     let differing = differing(alloc, base, next, touched)?;
     let members = members_of(alloc, schema)?;
-    let found = violation_in(alloc, schema, next, &members, &differing, steps)?;
-    Ok(found)
+    violation_in(alloc, schema, next, &members, &differing, steps)
 }
 
 /// Whether a configuration is valid (RFC 7950 section 8), given a valid one and paths at or below which the two differ: the

@@ -66,8 +66,7 @@ pub fn least_leafref<M: RowMap>(
         return Ok(None);
     }
     let grouped = group_rows(alloc, schema, next)?;
-    let found = least_unreached(alloc, schema, next, &grouped)?;
-    Ok(found)
+    least_unreached(alloc, schema, next, &grouped)
 }
 
 /// The least path of an entry that repeats what a unique statement names, where a row that differs concerns unique statements.
@@ -83,8 +82,7 @@ pub fn least_unique<M: RowMap>(
         return Ok(None);
     }
     let grouped = group_rows(alloc, schema, next)?;
-    let found = least_repeated_entry(alloc, schema, next, &grouped)?;
-    Ok(found)
+    least_repeated_entry(alloc, schema, next, &grouped)
 }
 
 // Whether the node that a path leads to stands in a case, if there is one.
@@ -136,6 +134,5 @@ pub fn least_case<M: RowMap>(
         return Ok(None);
     }
     let grouped = group_rows(alloc, schema, next)?;
-    let found = least_other_case(alloc, schema, next, &grouped)?;
-    Ok(found)
+    least_other_case(alloc, schema, next, &grouped)
 }

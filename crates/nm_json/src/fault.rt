@@ -7,7 +7,7 @@ use nm_base::Label;
 use nm_types::Path;
 
 /// What is wrong with a part of a JSON value. At one place an earlier kind comes before a later one.
-#[derive(Clone, Copy, Debug, PartialEq, Eq)]
+#[derive(Clone, Copy, PartialEq, Eq)]
 pub enum JsonKind {
     /// A member whose name leads to no node of the schema.
     Unknown,

@@ -56,7 +56,6 @@ pub fn config_value(alloc: Global, schema: &Schema, config: &Config) -> Result<J
 
 /// The JSON text of a configuration, without blanks. Where the rows are a configuration of the schema, it is read as
 /// that configuration if arrays and objects are nested at most 127 deep.
-#[tactic(auto, using(crate::proofs::Floats::no_float))]
 pub fn write_config(alloc: Global, schema: &Schema, config: &Config) -> Result<String, NoMemory>
     ensures text { IfOk result (λ text. string_bytes text ≡ compact_text (spec.config_data schema.now config.now)) }
     ensures reads_back { IfOk result (λ text. depth (spec.config_data schema.now config.now) ≤ max_depth → read (string_bytes text) ≡ Some (spec.config_data schema.now config.now)) }

@@ -11,9 +11,9 @@ ghost use Rattle.nm_json.specs.Writing.{key_members};
 ghost use Rattle.nm_json_text.specs.Passing as spec;
 
 use crate::alike::{alike_count, below_count, rows_from, rows_to, steps_from};
-use crate::held::{ascends, is_later, write_before, write_held};
+use crate::held::{ascends, begin_member, end_members, later_name};
 use crate::keys::sorted_keys;
-use crate::nodes::{below, keys_of, member_name, narrow_at, node_of};
+use crate::nodes::{below, keys_of, narrow_at, node_of};
 use crate::stop::Stop;
 use crate::text::Text;
 use crate::values::write_value;
@@ -49,13 +49,9 @@ pub fn write_members<'r>(
         let Some((step, _)) = steps_from(row.0, depth).split_first() else {
             return Err(Stop::OutOfOrder);
         };
-        let name = member_name(out.alloc(), place, step)?;
-        if !is_later(&last, name.as_str()) {
-            return Err(Stop::OutOfOrder);
-        }
-        let left = write_before(out, schema, keys_left, values_left, name.as_str())?;
+        let name = later_name(out.alloc(), place, step, &last)?;
+        let left = begin_member(out, schema, keys_left, values_left, name.as_str())?;
         let count = 1 + alike_count(step, depth, more);
-        out.key(name.as_str())?;
         write_group(
             out,
             schema,
@@ -69,8 +65,7 @@ pub fn write_members<'r>(
         last = Some(name);
         done += count;
     }
-    write_held(out, schema, keys_left, values_left)?;
-    out.end_object()
+    end_members(out, schema, keys_left, values_left)
 }
 
 // What stands at the node of some rows, all of one node.

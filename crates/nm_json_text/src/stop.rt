@@ -2,7 +2,7 @@ use nm_base::NoMemory;
 use std::alloc::{AllocError, AllocFailed};
 
 /// Why a pass over rows ends before their end.
-#[derive(Debug, Drop)]
+#[derive(Drop)]
 pub enum Stop {
     NoMemory,
     /// Rows don't stand in the order in which JSON has them, as those of a configuration of a schema do.

@@ -7,9 +7,9 @@ use Rattle.nm_proto.specs.declared.message.Request.{Request}
 use Rattle.nm_proto.specs.declared.message.Reply.{Reply}
 use Rattle.nm_proto.specs.declared.journal.Verdict.{Verdict}
 use Rattle.nm_proto.specs.declared.journal.Verdict.TheVariants as verdict
+use Rattle.nm_decider_stage.specs.declared.stage.Stage.TheVariants.{Resync}
+use Rattle.nm_decider_stage.specs.Stages.{is_acknowledged, learnt, next_ask}
 use Rattle.nm_decider.specs.declared.seat.Seat.{Seat}
-use Rattle.nm_decider.specs.declared.stage.Stage.TheVariants.{Resync}
-use Rattle.nm_decider.specs.Stages.{is_acknowledged, learnt, next_ask}
 use Rattle.nm_decider.specs.Course.{asked_next, decided_seat, renewed}
 use Rattle.nm_resync.specs.Resync as resync
 use Rattle.nm_resync.specs.Resync.{resync_ask, resync_learnt}

@@ -9,9 +9,9 @@ use Rattle.nm_proto.specs.declared.journal.Verdict.TheVariants as verdict
 use Rattle.nm_proto.specs.declared.plan.ChangePlan.{ChangePlan}
 use Rattle.nm_history.specs.History.{RecordedState}
 use Rattle.nm_recovery.specs.Recovery.{verdict_in}
+use Rattle.nm_decider_stage.specs.Stages.{is_acknowledged}
 use Rattle.nm_decider.specs.declared.course.NextAction.TheVariants.{Send, Decide}
 use Rattle.nm_decider.specs.declared.seat.Seat.{Seat}
-use Rattle.nm_decider.specs.Stages.{is_acknowledged}
 use Rattle.nm_decider.specs.Course.{next_action, seat_count}
 use Rattle.nm_decider.specs.Rightly.{ActsRightly, IsReady}
 use Rattle.nm_decider.proofs.Actions.{rightly}

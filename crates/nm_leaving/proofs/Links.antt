@@ -8,9 +8,9 @@ use Rattle.nm_proto.specs.declared.message.Request.{Request}
 use Rattle.nm_proto.specs.declared.journal.Entry.{Entry}
 use Rattle.nm_proto.specs.declared.plan.ChangePlan.{ChangePlan}
 use Rattle.nm_history.specs.History.{RecordedState}
+use Rattle.nm_decider_stage.specs.Stages.{is_acknowledged}
 use Rattle.nm_decider.specs.declared.course.NextAction.TheVariants.{Send}
 use Rattle.nm_decider.specs.declared.seat.Seat.{Seat}
-use Rattle.nm_decider.specs.Stages.{is_acknowledged}
 use Rattle.nm_decider.specs.Course as course
 use Rattle.nm_decider.specs.Course.{CourseState, may_renew_seat, next_action}
 use Rattle.nm_decider.specs.Rightly.{IsAsked}

@@ -8,11 +8,11 @@ use Rattle.nm_proto.specs.declared.journal.Verdict.{Verdict}
 use Rattle.nm_proto.specs.declared.journal.Entry.{Entry}
 use Rattle.nm_proto.specs.declared.plan.ChangePlan.{ChangePlan}
 use Rattle.nm_recovery.specs.Recovery.{is_started, is_ended_in, verdict_in}
+use Rattle.nm_decider_stage.specs.declared.stage.Stage.{Stage}
+use Rattle.nm_decider_stage.specs.declared.stage.Stage.TheVariants.{Live, Resync}
+use Rattle.nm_decider_stage.specs.Stages.{learnt, is_acknowledged, broken_stage}
 use Rattle.nm_decider.specs.declared.course.NextAction.TheVariants.{Send}
 use Rattle.nm_decider.specs.declared.seat.Seat.{Seat}
-use Rattle.nm_decider.specs.declared.stage.Stage.{Stage}
-use Rattle.nm_decider.specs.declared.stage.Stage.TheVariants.{Live, Resync}
-use Rattle.nm_decider.specs.Stages.{learnt, is_acknowledged, broken_stage}
 use Rattle.nm_decider.specs.Course as course
 use Rattle.nm_decider.specs.Course.{CourseState, asked_next, renewed, next_action, may_renew_seat, noted, seat_of, seats_from, seat_count, decided_seat}
 use Rattle.nm_decider.specs.Rightly.{IsAsked}

@@ -4,9 +4,9 @@ use Rattle.nm_proto.specs.declared.plan.ChangePlan.{ChangePlan}
 use Rattle.nm_proto.specs.Content.{Meaning}
 use Rattle.nm_proto.specs.Plan.{devices_in}
 use Rattle.nm_history.specs.History.{RecordedState, recorded}
+use Rattle.nm_decider_stage.specs.declared.stage.Stage.TheVariants.{Live}
 use Rattle.nm_decider.specs.declared.seat.Seat.{Seat}
 use Rattle.nm_decider.specs.Course.{seat_count, seats_from}
-use Rattle.nm_decider.specs.declared.stage.Stage.TheVariants.{Live}
 use Rattle.nm_manager.specs.Slot.{SideState, fresh_side, fresh_slot}
 use Rattle.nm_manager.specs.Manager.{slots_from}
 use Rattle.nm_network.specs.World.{Setting}

@@ -9,8 +9,8 @@ use Rattle.nm_sessions.specs.Sessions.{is_open}
 use Rattle.nm_locks.specs.Locks.{owner_of}
 use Rattle.nm_device.specs.Device.{DeviceState, fresh_device}
 use Rattle.nm_history.specs.History.{RecordedState, replay}
+use Rattle.nm_decider_stage.specs.Stages.{is_acknowledged}
 use Rattle.nm_decider.specs.declared.seat.Seat.{Seat}
-use Rattle.nm_decider.specs.Stages.{is_acknowledged}
 use Rattle.nm_wire.specs.Asks.{ask_of}
 use Rattle.nm_wire.specs.Link.{LinkState, asked_on, session_of}
 use Rattle.nm_wire.specs.Wire.{current_link}

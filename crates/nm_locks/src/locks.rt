@@ -6,7 +6,7 @@ use std::marker::Model;
 
 /// Which sessions own the global locks of running and of candidate (RFC 6241 section 7.5). No call takes
 /// memory.
-#[derive(Debug, Drop)]
+#[derive(Drop)]
 pub struct GlobalLocks {
     running: Option<SessionId>,
     candidate: Option<SessionId>,

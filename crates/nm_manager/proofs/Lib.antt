@@ -3,3 +3,4 @@ pub mod Queues
 pub mod Slots
 pub mod Moments
 pub mod Kept
+pub mod Entered

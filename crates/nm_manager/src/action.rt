@@ -7,7 +7,7 @@ use nm_proto::Verdict;
 use thiserror::Error;
 
 /// What a call did (this project's own).
-#[derive(Clone, Copy, Debug, PartialEq, Eq)]
+#[derive(Clone, Copy, PartialEq, Eq)]
 pub enum Action {
     /// Nothing: it didn't apply, or there was nothing to do.
     Idle,

@@ -1,6 +1,9 @@
 //! The requests of the manager.
 
-ghost use Rattle.std.specs.Prelude.{◌≡◌, IfOk, option_copied, find};
+ghost use Rattle.std.specs.Prelude.{◌≡◌, IfOk, true, false, Some, None, option_copied, find};
+ghost use Rattle.nm_base.specs.Token.{token_of};
+ghost use Rattle.nm_base.specs.Words.{manager};
+ghost use Rattle.nm_proto.specs.declared.message.Request.TheVariants.{OpenSession, Commit, CancelCommit};
 ghost use Rattle.nm_proto.specs.declared.ask.Ask.TheVariants as ask;
 ghost use Rattle.nm_manager.specs.Requests.{is_of_device, edit_for, marks_for, request_for};
 
@@ -23,45 +26,83 @@ pub(crate) fn request_for(
 ) -> Result<Option<Request>, NoMemory>
     ensures { IfOk result (λ request. request ≡ request_for plan.now entries.now change device ask) }
 {
-    let request = match ask {
-        Ask::OpenSession => Request::OpenSession {
-            user: Label::new(alloc, MANAGER)?,
-        },
-        Ask::LockRunning => Request::Lock {
+    match ask {
+        Ask::OpenSession => opening(alloc),
+        Ask::LockRunning => Ok(Some(Request::Lock {
             store: Store::Running,
-        },
-        Ask::LockCandidate => Request::Lock {
+        })),
+        Ask::LockCandidate => Ok(Some(Request::Lock {
             store: Store::Candidate,
-        },
-        Ask::Edit => return Ok(edit_request(plan, entries, change, device)),
-        Ask::Validate => Request::Validate,
-        Ask::CommitConfirmed => Request::Commit {
-            confirmed: true,
-            timeout: Some(plan.timeout),
-            persist: Some(token_of(alloc, change)?),
-            persist_id: None,
-        },
-        Ask::Renew => Request::Commit {
-            confirmed: true,
-            timeout: Some(plan.timeout),
-            persist: None,
-            persist_id: Some(token_of(alloc, change)?),
-        },
-        Ask::Confirm => Request::Commit {
-            confirmed: false,
-            timeout: None,
-            persist: None,
-            persist_id: Some(token_of(alloc, change)?),
-        },
-        Ask::Cancel => Request::CancelCommit {
-            persist_id: Some(token_of(alloc, change)?),
-        },
-        Ask::HasMark => Request::HasMark { change },
-        Ask::Discard => Request::Discard,
-        Ask::CloseSession => Request::CloseSession,
-        Ask::Resync => return Ok(None),
-    };
-    Ok(Some(request))
+        })),
+        Ask::Edit => Ok(edit_request(plan, entries, change, device)),
+        Ask::Validate => Ok(Some(Request::Validate)),
+        Ask::CommitConfirmed => confirmed_commit(alloc, plan.timeout, change),
+        Ask::Renew => follow_up(alloc, plan.timeout, change),
+        Ask::Confirm => confirming_commit(alloc, change),
+        Ask::Cancel => cancelling(alloc, change),
+        Ask::HasMark => Ok(Some(Request::HasMark { change })),
+        Ask::Discard => Ok(Some(Request::Discard)),
+        Ask::CloseSession => Ok(Some(Request::CloseSession)),
+        Ask::Resync => Ok(None),
+    }
+}
+
+// The request for a session.
+fn opening(alloc: Global) -> Result<Option<Request>, NoMemory>
+    ensures { IfOk result (λ request. request ≡ Some (OpenSession manager)) }
+{
+    Ok(Some(Request::OpenSession {
+        user: Label::new(alloc, MANAGER)?,
+    }))
+}
+
+// The confirmed commit of a change set, under its token.
+fn confirmed_commit(
+    alloc: Global,
+    timeout: u32,
+    change: ChangeNo,
+) -> Result<Option<Request>, NoMemory>
+    ensures { IfOk result (λ request. request ≡ Some (Commit true (Some timeout) (Some (token_of change)) None)) }
+{
+    Ok(Some(Request::Commit {
+        confirmed: true,
+        timeout: Some(timeout),
+        persist: Some(token_of(alloc, change)?),
+        persist_id: None,
+    }))
+}
+
+// The follow-up to a confirmed commit, which sets its timer anew.
+fn follow_up(alloc: Global, timeout: u32, change: ChangeNo) -> Result<Option<Request>, NoMemory>
+    ensures { IfOk result (λ request. request ≡ Some (Commit true (Some timeout) None (Some (token_of change)))) }
+{
+    Ok(Some(Request::Commit {
+        confirmed: true,
+        timeout: Some(timeout),
+        persist: None,
+        persist_id: Some(token_of(alloc, change)?),
+    }))
+}
+
+// The commit that confirms a change set.
+fn confirming_commit(alloc: Global, change: ChangeNo) -> Result<Option<Request>, NoMemory>
+    ensures { IfOk result (λ request. request ≡ Some (Commit false None None (Some (token_of change)))) }
+{
+    Ok(Some(Request::Commit {
+        confirmed: false,
+        timeout: None,
+        persist: None,
+        persist_id: Some(token_of(alloc, change)?),
+    }))
+}
+
+// The cancel of a confirmed commit.
+fn cancelling(alloc: Global, change: ChangeNo) -> Result<Option<Request>, NoMemory>
+    ensures { IfOk result (λ request. request ≡ Some (CancelCommit (Some (token_of change)))) }
+{
+    Ok(Some(Request::CancelCommit {
+        persist_id: Some(token_of(alloc, change)?),
+    }))
 }
 
 // The edit of a device, whose marks are those of the change sets that are ended there, and its own.

@@ -308,6 +308,7 @@ fn send_on(
         return Ok(Action::Idle);
     };
     if !side.may_go(opens(in_fact)) {
+        drop(request);
         return Ok(Action::Idle);
     }
     let link = side.go_out(opens(in_fact), request)?;
@@ -336,6 +337,7 @@ fn renew_on(
         return Ok(Action::Idle);
     };
     if !side.may_go(false) {
+        drop(request);
         return Ok(Action::Idle);
     }
     let link = side.go_out(false, request)?;

@@ -1,19 +1,17 @@
-//! Tests of the journal, of links, and of what is asked for a change set.
+//! Tests of numbers, tags and tokens, of sources, sinks and disks, and of the journal, links and queues, as far as no command shows what they
+//! do.
 //!
-//! They stand apart from the crates that they test, since a crate's functions are proved once more with its tests.
+//! They stand apart from the crates that they test, since a crate's functions are proved once more with its tests. What a command shows
+//! stands in the tables of `netm_rows`.
 #![tactic(auto)]
 
 #[cfg(test)]
-mod decider;
+mod base;
+#[cfg(test)]
+mod disk;
+#[cfg(test)]
+mod io;
 #[cfg(test)]
 mod journal;
 #[cfg(test)]
-mod order;
-#[cfg(test)]
-mod recovery;
-#[cfg(test)]
-mod resync;
-#[cfg(test)]
-mod wire;
-#[cfg(test)]
-mod words;
+mod queues;

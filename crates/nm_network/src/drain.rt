@@ -12,7 +12,7 @@ use nm_manager::Manager;
 use nm_proto::{Content, Event};
 
 /// What is looked for at the devices of a change set.
-#[derive(Clone, Copy, Debug, PartialEq, Eq)]
+#[derive(Clone, Copy, PartialEq, Eq)]
 pub(crate) enum Rule {
     /// A link that isn't current is lost.
     Lose,

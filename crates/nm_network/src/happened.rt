@@ -56,7 +56,7 @@ pub enum Happened {
 }
 
 /// A link on which a request was sent.
-#[derive(Clone, Copy, Debug, PartialEq, Eq)]
+#[derive(Clone, Copy, PartialEq, Eq)]
 pub struct Sending {
     pub device: DeviceNo,
     /// The link's number, from 1.

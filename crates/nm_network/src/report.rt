@@ -17,7 +17,7 @@ use nm_recovery::{is_started, verdict_in};
 use std::alloc::Global;
 
 /// A change set and a device.
-#[derive(Clone, Copy, Debug, PartialEq, Eq)]
+#[derive(Clone, Copy, PartialEq, Eq)]
 pub struct Pair {
     pub change: ChangeNo,
     pub device: DeviceNo,

@@ -6,6 +6,7 @@ ghost use Rattle.std.specs.List.{All};
 ghost use Rattle.nm_manager.specs.Requests.{IsWellFormed};
 ghost use Rattle.nm_history.specs.History.{recorded};
 ghost use Rattle.nm_network.specs.World.{happened_of};
+ghost use Rattle.nm_manager.specs.declared.action.Action.TheVariants as action;
 
 use crate::happened::Happened;
 use crate::operator::Operator;
@@ -174,16 +175,33 @@ pub(crate) fn happened_of(action: &Action, request: Option<Request>) -> Happened
     ensures { result ≡ happened_of action.now request }
 {
     match action {
+        Action::Sent { device, link } => sent(*device, *link, request),
+        _ => unsent(action),
+    }
+}
+
+// The request that went out on a link, where there is one.
+fn sent(device: DeviceNo, link: u32, request: Option<Request>) -> Happened
+    ensures { result ≡ happened_of (action.Sent device link) request }
+{
+    match request {
+        Some(request) => Happened::Sent {
+            device,
+            link,
+            request,
+        },
+        None => Happened::Idle,
+    }
+}
+
+// What an action is that sent nothing.
+fn unsent(action: &Action) -> Happened
+    ensures { result ≡ happened_of action.now None }
+{
+    match action {
         Action::Idle => Happened::Idle,
         Action::Started => Happened::Started,
-        Action::Sent { device, link } => match request {
-            Some(request) => Happened::Sent {
-                device: *device,
-                link: *link,
-                request,
-            },
-            None => Happened::Idle,
-        },
+        Action::Sent { .. } => Happened::Idle,
         Action::Handled => Happened::Handled,
         Action::Broken => Happened::Broken,
         Action::Decided(verdict) => Happened::Decided(*verdict),

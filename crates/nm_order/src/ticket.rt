@@ -1,7 +1,7 @@
 use nm_base::{ChangeNo, DeviceMask};
 
 /// A change set that was submitted, and its devices.
-#[derive(Clone, Copy, Debug)]
+#[derive(Clone, Copy)]
 pub struct Ticket {
     pub change: ChangeNo,
     pub devices: DeviceMask,

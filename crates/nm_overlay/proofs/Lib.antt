@@ -10,3 +10,4 @@ pub mod Below
 pub mod Count
 pub mod Merge
 pub mod Said
+pub mod Copied

@@ -1,6 +1,6 @@
 //! Places in a list of pairs that ascends by path.
 
-ghost use Rattle.std.specs.Prelude.{◌≡◌, ◌≤◌, IfOk, OnOk, OnErr, Some, not, filter, option_copied, slice_get};
+ghost use Rattle.std.specs.Prelude.{◌≡◌, ◌≤◌, ◌++◌, ◌∷◌, [], IfOk, OnOk, OnErr, Some, not, filter, option_copied, slice_get};
 ghost use Rattle.std.specs.Ordering.{eq_by_cmp};
 ghost use Rattle.std.specs.List as list;
 ghost use Rattle.std.specs.FinMap as map;
@@ -97,7 +97,20 @@ pub fn put(
         pairs[place] = (path, change);
         return Ok(());
     }
-    pairs.insert(place, (path, change))?;
+    insert_at(pairs, place, (path, change))
+}
+
+// Puts a pair at a place, before those that stand there and behind it.
+fn insert_at(
+    pairs: &mut Vec<(Path, Option<Value>)>,
+    place: usize,
+    pair: (Path, Option<Value>),
+) -> Result<(), NoMemory>
+    requires { place ≤ pairs.old.len }
+    ensures ok { OnOk result (pairs.new.items ≡ list.insert pairs.old.items place pair) }
+    ensures err { OnErr result (pairs.new.items ≡ pairs.old.items) }
+{
+    pairs.insert(place, pair)?;
     Ok(())
 }
 
@@ -158,9 +171,21 @@ pub fn copy_pairs(
 {
     let mut copies = Vec::with_capacity(alloc, pairs.len())?;
     for pair in pairs {
-        copies.push(copy_pair(alloc, pair)?)?;
+        put_copy(alloc, pair, &mut copies)?;
     }
     Ok(copies)
+}
+
+// Puts a copy of a pair behind the others.
+fn put_copy(
+    alloc: Global,
+    pair: &(Path, Option<Value>),
+    copies: &mut Vec<(Path, Option<Value>)>,
+) -> Result<(), NoMemory>
+    ensures { OnOk result (copies.new.items ≡ copies.old.items ++ pair.now ∷ []) }
+{
+    copies.push(copy_pair(alloc, pair)?)?;
+    Ok(())
 }
 
 fn copy_pair(alloc: Global, pair: &(Path, Option<Value>)) -> Result<(Path, Option<Value>), NoMemory>

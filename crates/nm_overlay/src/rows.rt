@@ -85,7 +85,7 @@ pub fn gone_under<M: RowMap>(
         if !is_under(node, next) {
             return Ok(gone);
         }
-        gone.push((next.copy(alloc)?, None))?;
+        put_gone(alloc, next, &mut gone)?;
         passed = next;
     }
     Ok(gone)
@@ -103,8 +103,20 @@ fn own_gone<M: RowMap>(
     if base.value(node).is_none() {
         return Ok(gone);
     }
-    gone.push((node.copy(alloc)?, None))?;
+    put_gone(alloc, node, &mut gone)?;
     Ok(gone)
+}
+
+// Puts behind the others that the row at a path is gone.
+fn put_gone(
+    alloc: Global,
+    path: &Path,
+    gone: &mut Vec<(Path, Option<Value>)>,
+) -> Result<(), NoMemory>
+    ensures { OnOk result (gone.new.items ≡ gone.old.items ++ gone_at path.now ∷ []) }
+{
+    gone.push((path.copy(alloc)?, None))?;
+    Ok(())
 }
 
 /// How many rows there are, and 4294967295 where there are more. It walks the pairs, not the rows.
@@ -189,8 +201,7 @@ pub fn list<'a>(
     let mut all = Vec::with_capacity(alloc, base.len())?;
     let mut rest = pairs;
     for (path, value) in base.iter() {
-        rest = list_before(&mut all, path, rest)?;
-        rest = list_row(&mut all, path, value, rest)?;
+        rest = list_turn(&mut all, path, value, rest)?;
     }
     list_all(&mut all, rest)?;
     Ok(all)
@@ -202,9 +213,39 @@ pub fn copies_of(alloc: Global, rows: &[(&Path, &Value)]) -> Result<Vec<(Path, V
 {
     let mut copies = Vec::with_capacity(alloc, rows.len())?;
     for (path, value) in rows {
-        copies.push((path.copy(alloc)?, value.copy()?))?;
+        put_copy(alloc, path, value, &mut copies)?;
     }
     Ok(copies)
+}
+
+// Puts a copy of a row behind the others.
+fn put_copy(
+    alloc: Global,
+    path: &Path,
+    value: &Value,
+    copies: &mut Vec<(Path, Value)>,
+) -> Result<(), NoMemory>
+    ensures { OnOk result (copies.new.items ≡ copies.old.items ++ (path.now, value.now) ∷ []) }
+{
+    let value = value.copy()?;
+    copies.push((path.copy(alloc)?, value))?;
+    Ok(())
+}
+
+// Lists what stands at the pairs before a row of the base, and then that row or what the next pair says of it. It answers the
+// pairs behind that.
+fn list_turn<'a>(
+    all: &mut Vec<(&'a Path, &'a Value)>,
+    path: &'a Path,
+    value: &'a Value,
+    pairs: &'a [(Path, Option<Value>)],
+) -> Result<&'a [(Path, Option<Value>)], NoMemory>
+    ensures rest { IfOk result (λ rest. rest.now ≡ behind_row path.now (drop (front (is_before path.now) pairs.now) pairs.now)) }
+    ensures items { OnOk result (each deref_pair all.new.items
+        ≡ (each deref_pair all.old.items ++ rows_before path.now pairs.now) ++ row_with path.now value.now (drop (front (is_before path.now) pairs.now) pairs.now)) }
+{
+    let rest = list_before(all, path, pairs)?;
+    list_row(all, path, value, rest)
 }
 
 // Lists what stands at the pairs before a path, and answers the pairs from it on.
@@ -248,15 +289,27 @@ fn list_row<'a>(
     ensures items { OnOk result (each deref_pair all.new.items ≡ each deref_pair all.old.items ++ row_with path.now value.now pairs.now) }
 {
     let [pair, more @ ..] = pairs else {
-        all.push((path, value))?;
+        list_own(all, path, value)?;
         return Ok(pairs);
     };
     if *path == pair.0 {
         list_pair(all, pair)?;
         return Ok(more);
     }
-    all.push((path, value))?;
+    list_own(all, path, value)?;
     Ok(pairs)
+}
+
+// Lists a row.
+fn list_own<'a>(
+    all: &mut Vec<(&'a Path, &'a Value)>,
+    path: &'a Path,
+    value: &'a Value,
+) -> Result<(), NoMemory>
+    ensures { OnOk result (each deref_pair all.new.items ≡ each deref_pair all.old.items ++ (path.now, value.now) ∷ []) }
+{
+    all.push((path, value))?;
+    Ok(())
 }
 
 // Lists what stands at pairs.

@@ -2,7 +2,7 @@
 use Rattle.std.proofs.Common.{◌≡◌, ℕ, Some, None, refl, arith}
 use Rattle.nm_proto.specs.declared.ask.Ask.TheVariants as ask
 use Rattle.nm_history.specs.History.{recorded}
-use Rattle.nm_decider.specs.declared.stage.Stage.TheVariants.{Live}
+use Rattle.nm_decider_stage.specs.declared.stage.Stage.TheVariants.{Live}
 use Rattle.nm_decider.specs.Course.{seat_of}
 use Rattle.nm_wire.specs.Wire.{no_links}
 use Rattle.nm_pair.proofs.Basics.{never}

@@ -7,10 +7,10 @@ use Rattle.nm_proto.specs.declared.journal.Verdict.{Verdict}
 use Rattle.nm_proto.specs.declared.journal.Verdict.TheVariants as verdict
 use Rattle.nm_history.specs.Outcome.{outcome_of}
 use Rattle.nm_history.specs.History.{RecordedState}
+use Rattle.nm_decider_stage.specs.declared.stage.Stage.{Stage}
+use Rattle.nm_decider_stage.specs.declared.stage.Stage.TheVariants.{Live, Resync}
+use Rattle.nm_decider_stage.specs.Stages.{is_acknowledged, broken_stage}
 use Rattle.nm_decider.specs.declared.seat.Seat.{Seat}
-use Rattle.nm_decider.specs.declared.stage.Stage.{Stage}
-use Rattle.nm_decider.specs.declared.stage.Stage.TheVariants.{Live, Resync}
-use Rattle.nm_decider.specs.Stages.{is_acknowledged, broken_stage}
 use Rattle.nm_decider.specs.Course.{seat_of, decided_seat}
 use Rattle.nm_wire.specs.Link.{LinkState, closed_link}
 use Rattle.nm_wire.specs.Words.{commits_sent, holds}

@@ -6,10 +6,10 @@ use Rattle.nm_proto.specs.declared.ask.Ask.TheVariants as ask
 use Rattle.nm_proto.specs.declared.message.Request.{Request}
 use Rattle.nm_proto.specs.declared.journal.Verdict.{Verdict}
 use Rattle.nm_proto.specs.declared.journal.Verdict.TheVariants as verdict
+use Rattle.nm_decider_stage.specs.declared.stage.Stage.{Stage}
+use Rattle.nm_decider_stage.specs.declared.stage.Stage.TheVariants.{Live, Resync}
+use Rattle.nm_decider_stage.specs.Stages.{next_ask, learnt, broken_stage}
 use Rattle.nm_decider.specs.declared.seat.Seat.{Seat}
-use Rattle.nm_decider.specs.declared.stage.Stage.{Stage}
-use Rattle.nm_decider.specs.declared.stage.Stage.TheVariants.{Live, Resync}
-use Rattle.nm_decider.specs.Stages.{next_ask, learnt, broken_stage}
 use Rattle.nm_decider.specs.Course.{seat_of, decided_seat}
 use Rattle.nm_resync.specs.declared.resync.ResyncStage.{ResyncStage}
 use Rattle.nm_resync.specs.declared.resync.ResyncStage.TheVariants.{Opening}

@@ -9,8 +9,8 @@ use Rattle.nm_proto.specs.declared.journal.Entry.TheVariants.{Decided}
 use Rattle.nm_proto.specs.declared.journal.Verdict.{Verdict}
 use Rattle.nm_journal.specs.Entries.{decides, ends}
 use Rattle.nm_recovery.specs.Recovery.{verdict_in, verdict_of, is_ended_in}
+use Rattle.nm_decider_stage.specs.declared.stage.Stage.{Stage}
 use Rattle.nm_decider.specs.declared.seat.Seat.{Seat}
-use Rattle.nm_decider.specs.declared.stage.Stage.{Stage}
 use Rattle.nm_decider.specs.Course.{seats_from, seat_of}
 use Rattle.nm_journal.specs.Record.{is_device}
 use Rattle.nm_manager.specs.Slot.{SideState}

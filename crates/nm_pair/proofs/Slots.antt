@@ -2,7 +2,7 @@
 use Rattle.std.proofs.Common.{◌≡◌, ◌<◌, map, ◌∙◌, ℕ, ◌+◌, ◌-◌, Bool, true, false, ◌&&◌, List, Option, Some, None, IfSome, is_some, is_none, slice_get, slice_set, option_map, refl, sym, ap, subst, arith}
 use Rattle.std.proofs.lemmas.Option.{slice_get-map, slice_get_within}
 use Rattle.nm_base.specs.Mask.{mask_contains}
-use Rattle.nm_decider.specs.declared.stage.Stage.TheVariants.{Live, Resync}
+use Rattle.nm_decider_stage.specs.declared.stage.Stage.TheVariants.{Live, Resync}
 use Rattle.nm_recovery.specs.Recovery.{is_started, is_ended_in, verdict_in}
 use Rattle.nm_manager.specs.Manager.{starts_anew}
 use Rattle.nm_pair.proofs.Basics.{never}
@@ -14,10 +14,10 @@ use Rattle.nm_proto.specs.declared.journal.Verdict.{Verdict}
 use Rattle.nm_proto.specs.declared.journal.Entry.{Entry}
 use Rattle.nm_proto.specs.declared.plan.ChangePlan.{ChangePlan}
 use Rattle.nm_history.specs.History.{RecordedState}
+use Rattle.nm_decider_stage.specs.declared.stage.Stage.{Stage}
+use Rattle.nm_decider_stage.specs.Stages.{next_ask, learnt, is_acknowledged, broken_stage}
 use Rattle.nm_decider.specs.declared.course.NextAction.TheVariants.{Send}
 use Rattle.nm_decider.specs.declared.seat.Seat.{Seat}
-use Rattle.nm_decider.specs.declared.stage.Stage.{Stage}
-use Rattle.nm_decider.specs.Stages.{next_ask, learnt, is_acknowledged, broken_stage}
 use Rattle.nm_decider.specs.Course as course
 use Rattle.nm_decider.specs.Course.{CourseState, asked_next, renewed, next_action, may_renew_seat, seat_of, seats_from, seat_count, decided_seat}
 use Rattle.nm_decider.specs.Rightly.{IsAsked}

@@ -19,10 +19,10 @@ use Rattle.nm_proto.specs.declared.plan.ChangePlan.{ChangePlan}
 use Rattle.nm_journal.specs.Entries.{decides}
 use Rattle.nm_journal.specs.Record.{is_device}
 use Rattle.nm_recovery.specs.Recovery.{verdict_in, is_ended_in, is_started}
+use Rattle.nm_decider_stage.specs.declared.stage.Stage.{Stage}
+use Rattle.nm_decider_stage.specs.declared.stage.Stage.TheVariants.{Live, Resync, Settled}
+use Rattle.nm_decider_stage.specs.Stages.{next_ask, learnt, trouble_in, broken_stage, fits, is_error, tag_in}
 use Rattle.nm_decider.specs.declared.seat.Seat.{Seat}
-use Rattle.nm_decider.specs.declared.stage.Stage.{Stage}
-use Rattle.nm_decider.specs.declared.stage.Stage.TheVariants.{Live, Resync, Settled}
-use Rattle.nm_decider.specs.Stages.{next_ask, learnt, trouble_in, broken_stage, fits, is_error, tag_in}
 use Rattle.nm_base.specs.Tag.{tag_number}
 use Rattle.nm_decider.specs.Course as course
 use Rattle.nm_decider.specs.declared.course.NextAction.TheVariants.{Send}

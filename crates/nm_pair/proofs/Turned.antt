@@ -9,8 +9,8 @@ use Rattle.nm_proto.specs.declared.journal.Verdict.{Verdict}
 use Rattle.nm_history.specs.declared.outcome.Outcome.{Outcome}
 use Rattle.nm_history.specs.Outcome.{outcome_of}
 use Rattle.nm_history.specs.History.{RecordedState}
+use Rattle.nm_decider_stage.specs.Stages.{next_ask, is_acknowledged}
 use Rattle.nm_decider.specs.declared.seat.Seat.{Seat}
-use Rattle.nm_decider.specs.Stages.{next_ask, is_acknowledged}
 use Rattle.nm_resync.specs.declared.resync.ResyncStage.TheVariants.{Opening}
 use Rattle.nm_base.specs.Count.{raised}
 use Rattle.nm_decider.specs.Course.{asked_next, renewed}

@@ -18,10 +18,10 @@ use Rattle.nm_history.specs.Outcome.{outcome_of, is_pending}
 use Rattle.nm_history.specs.History.{RecordedState}
 use Rattle.nm_standing.specs.Numbered.{has_author}
 use Rattle.nm_standing.specs.Token.{commits_done, waits_under}
+use Rattle.nm_decider_stage.specs.declared.stage.Stage.{Stage}
+use Rattle.nm_decider_stage.specs.declared.stage.Stage.TheVariants.{Live, Refused}
+use Rattle.nm_decider_stage.specs.Stages.{all_done, is_acknowledged}
 use Rattle.nm_decider.specs.declared.seat.Seat.{Seat}
-use Rattle.nm_decider.specs.declared.stage.Stage.{Stage}
-use Rattle.nm_decider.specs.declared.stage.Stage.TheVariants.{Live, Refused}
-use Rattle.nm_decider.specs.Stages.{all_done, is_acknowledged}
 use Rattle.nm_decider.specs.Moves.{is_commit}
 use Rattle.nm_wire.specs.Asks.{ask_of}
 use Rattle.nm_wire.specs.Link.{LinkState, fresh_link, asked_on, outstanding, session_of}

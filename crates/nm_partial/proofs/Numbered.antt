@@ -1,11 +1,20 @@
 -- What is granted, given back and forgotten leaves the ids in their order.
-use Rattle.std.proofs.Common.{◌≡◌, ℕ, ◌+◌, ◌<◌, ◌≤◌, Bool, not, List, [], ◌∷◌, length, map, filter, get_or, ap, ◌∙◌, refl, arith, length-append}
+use Rattle.std.proofs.Common.{◌≡◌, ℕ, ◌+◌, ◌<◌, ◌≤◌, ◌==◌, Bool, true, false, not, cond, ◌||◌, nat_le, List, [], ◌∷◌, ◌++◌, length, map, filter, get_or, Some, None, ap, ◌∙◌, refl, arith, length-append}
+use Rattle.std.proofs.lemmas.Bool.Decides.{nat_tests}
 use Rattle.std.proofs.lemmas.List.{get_or-map, length-map}
 use Rattle.std.proofs.lemmas.List.Elements.{All-push, All-weaker, All-filter, All-map}
 use Rattle.std.proofs.lemmas.List.Filters.{length-filter_both}
 use Rattle.std.proofs.lemmas.List.Kept.{AllPairs-filter}
 use Rattle.std.proofs.lemmas.List.Quantifiers.{all_pairs_push}
-use Rattle.nm_partial.specs.Partial.{PartialLock, PartialState, IsNumbered, granted, lock_limit}
+use Rattle.nm_partial.specs.Partial.{PartialLock, PartialState, IsNumbered, granted, lock_limit, greatest_id, next_id}
+
+if_none : (a b : Bool) (some id : ℕ) → cond (a || b) None (Some some) ≡ Some id → (a ≡ false) × (id ≡ some)
+if_none true b some id h = absurd (let e : None ≡ Some id = h in cc)
+if_none false true some id h = absurd (let e : None ≡ Some id = h in cc)
+if_none false false some id h = (refl, let e : Some some ≡ Some id = h in cc)
+
+below : (limit count : ℕ) → nat_le limit count ≡ false → count < limit
+below limit count h = grind (arith, nat_tests)
 
 module _ {Node : Type 0} where
   pub numbered-none : (last : ℕ) → IsNumbered {Node = Node} (record { locks = []; last = last })
@@ -26,6 +35,13 @@ module _ {Node : Type 0} where
             (omega arith, omega arith);
         few = omega (arith, length-append partials.locks (new ∷ []));
       }
+
+  -- the next id, where there is one, goes to the lock that comes
+  pub numbered-next : (partials : PartialState Node) (session id : ℕ) (nodes : List Node) (locks : List (PartialLock Node)) → IsNumbered partials → next_id partials ≡ Some id
+      → locks ≡ partials.locks ++ record { id = id; session = session; nodes = nodes } ∷ [] → IsNumbered (record { locks = locks; last = id })
+  numbered-next partials session id nodes locks n next pushed =
+      let is = if_none (nat_le lock_limit (length partials.locks)) (partials.last == greatest_id) (partials.last + 1) id next in
+      rw (pushed, is.1) (numbered-granted partials session nodes n (below lock_limit (length partials.locks) is.0))
 
   pub numbered-filter : (keeps : PartialLock Node → Bool) (locks : List (PartialLock Node)) (last : ℕ) → IsNumbered (record { locks = locks; last = last }) → IsNumbered (record { locks = filter keeps locks; last = last })
   numbered-filter keeps locks last n = record {

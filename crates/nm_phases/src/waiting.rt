@@ -3,7 +3,7 @@
 use nm_base::ChangeNo;
 
 /// The confirmed commit that waits at a device to be confirmed (RFC 6241 section 8.4).
-#[derive(Clone, Copy, Debug, PartialEq, Eq)]
+#[derive(Clone, Copy, PartialEq, Eq)]
 pub enum Waiting {
     /// None does.
     Nothing,

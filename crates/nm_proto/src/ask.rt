@@ -1,7 +1,7 @@
 //! What the manager asks of a device.
 
 /// What the manager asks of a device for a change set, by the steps of its protocol (this project's own).
-#[derive(Clone, Copy, Debug, PartialEq, Eq)]
+#[derive(Clone, Copy, PartialEq, Eq)]
 pub enum Ask {
     OpenSession,
     LockRunning,

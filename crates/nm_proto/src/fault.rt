@@ -6,7 +6,7 @@ ghost use Rattle.std.specs.Prelude.{◌≡◌, ◌↔◌, IsTrue};
 pub const PLAN_LIMIT: usize = 1000;
 
 /// What goes wrong at a request of the manager (this project's own).
-#[derive(Clone, Copy, Debug, PartialEq, Eq)]
+#[derive(Clone, Copy, PartialEq, Eq)]
 pub enum PlanFault {
     /// The session is lost, and the request isn't done.
     Drop,
@@ -19,7 +19,7 @@ pub enum PlanFault {
 }
 
 /// One fault of a device: what goes wrong, and at which request of the manager there.
-#[derive(Clone, Copy, Debug, PartialEq, Eq)]
+#[derive(Clone, Copy, PartialEq, Eq)]
 pub struct PlanEntry {
     /// The number of the request among those of the manager at the device, from 1.
     pub at: u32,

@@ -17,7 +17,7 @@ use std::marker::Model;
 pub const GREATEST_VALUE: u64 = 1_000_000;
 
 /// Contents of numbered cells, so that managers and devices can be used without YANG.
-#[derive(Clone, Copy, Debug)]
+#[derive(Clone, Copy)]
 pub struct FlatContent {
     alloc: Global,
 }
@@ -83,7 +83,7 @@ pub struct FlatEdit {
 }
 
 /// A node of flat contents: one key.
-#[derive(Clone, Copy, Debug, PartialEq, Eq, PartialOrd, Ord, Hash)]
+#[derive(Clone, Copy, PartialEq, Eq)]
 pub struct FlatNode(pub u32);
 
 impl Content for FlatContent {

@@ -3,7 +3,7 @@ ghost use Rattle.std.specs.Prelude.{◌≡◌, ◌↔◌, IsTrue};
 use nm_base::{ChangeNo, DeviceMask, DeviceNo, Tag};
 
 /// Why a change set is aborted.
-#[derive(Clone, Copy, Debug, PartialEq, Eq)]
+#[derive(Clone, Copy, PartialEq, Eq)]
 pub enum AbortCause {
     /// A device answered a request with an error of this tag.
     Refused { device: DeviceNo, tag: Tag },
@@ -25,7 +25,7 @@ impl AbortCause {
 }
 
 /// What is decided of a change set.
-#[derive(Clone, Copy, Debug, PartialEq, Eq)]
+#[derive(Clone, Copy, PartialEq, Eq)]
 pub enum Verdict {
     /// Each of its devices is to have it.
     Commit,
@@ -43,7 +43,7 @@ impl Verdict {
 }
 
 /// An entry of the manager's journal.
-#[derive(Clone, Copy, Debug, PartialEq, Eq)]
+#[derive(Clone, Copy, PartialEq, Eq)]
 pub enum Entry {
     /// The change set was submitted, for these devices.
     Started {

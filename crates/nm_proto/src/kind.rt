@@ -4,7 +4,7 @@ ghost use Rattle.std.specs.Prelude.{◌≡◌};
 ghost use Rattle.nm_proto.specs.Kind.{kind_word};
 
 /// What is wrong with a scenario, by the words of its line (this project's own).
-#[derive(Clone, Copy, Debug, PartialEq, Eq)]
+#[derive(Clone, Copy, PartialEq, Eq)]
 pub enum ScenarioKind {
     /// More than 16,777,216 bytes.
     TooLong,

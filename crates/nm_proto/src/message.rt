@@ -1,11 +1,11 @@
 //! What is asked of devices and what they answer.
 
-ghost use Rattle.std.specs.Prelude.{◌≡◌, ◌↔◌, IsTrue, IfOk, IsOk, false};
+ghost use Rattle.std.specs.Prelude.{◌≡◌, ◌↔◌, IsTrue, IfOk, IsOk, None, false};
 
 use nm_base::{ChangeMask, ChangeNo, EditNo, Label, NoMemory, SelectNo, SessionId, Tag};
 
 /// A datastore of a device (RFC 8342 section 5).
-#[derive(Clone, Copy, Debug, PartialEq, Eq, Hash)]
+#[derive(Clone, Copy, PartialEq, Eq)]
 pub enum Store {
     Running,
     Candidate,
@@ -21,7 +21,7 @@ impl Store {
 }
 
 /// The default operation of an edit (RFC 6241 section 7.2).
-#[derive(Clone, Copy, Debug, PartialEq, Eq, Hash)]
+#[derive(Clone, Copy, PartialEq, Eq)]
 pub enum DefaultOperation {
     Merge,
     Replace,
@@ -39,7 +39,7 @@ impl DefaultOperation {
 }
 
 /// What an edit does to the marks of change sets in a configuration.
-#[derive(Clone, Copy, Debug, PartialEq, Eq, Hash)]
+#[derive(Clone, Copy, PartialEq, Eq)]
 pub struct Marks {
     /// The change set whose mark comes, last of all.
     pub add: ChangeNo,
@@ -57,7 +57,7 @@ impl Marks {
 }
 
 /// What is asked of a device (RFC 6241 sections 7 and 8, RFC 5717).
-#[derive(Clone, PartialEq, Drop)]
+#[derive(PartialEq, Drop)]
 pub enum Request {
     OpenSession {
         user: Label,
@@ -102,7 +102,7 @@ pub enum Request {
 }
 
 /// The word of a request, as it stands in a scenario and in a trace (this project's own). Here alone it is written.
-#[derive(Clone, Copy, Debug)]
+#[derive(Clone, Copy)]
 pub enum RequestWord {
     Open,
     Lock,
@@ -176,7 +176,43 @@ impl Request {
         ensures value { IfOk result (λ request. request ≡ self.now) }
         ensures without_text { asks_with_text self.now ≡ false → IsOk result }
     {
-        Ok(self.clone()?)
+        let request = match self {
+            Request::OpenSession { user } => Request::OpenSession { user: user.copy()? },
+            Request::Lock { store } => Request::Lock { store: *store },
+            Request::Unlock { store } => Request::Unlock { store: *store },
+            Request::PartialLock { select } => Request::PartialLock { select: *select },
+            Request::PartialUnlock { id } => Request::PartialUnlock { id: *id },
+            Request::Edit {
+                edit,
+                default_operation,
+                marks,
+            } => Request::Edit {
+                edit: *edit,
+                default_operation: *default_operation,
+                marks: *marks,
+            },
+            Request::Validate => Request::Validate,
+            Request::Commit {
+                confirmed,
+                timeout,
+                persist,
+                persist_id,
+            } => Request::Commit {
+                confirmed: *confirmed,
+                timeout: *timeout,
+                persist: copy_of(persist)?,
+                persist_id: copy_of(persist_id)?,
+            },
+            Request::CancelCommit { persist_id } => Request::CancelCommit {
+                persist_id: copy_of(persist_id)?,
+            },
+            Request::Discard => Request::Discard,
+            Request::HasMark { change } => Request::HasMark { change: *change },
+            Request::GetConfig => Request::GetConfig,
+            Request::Kill { session } => Request::Kill { session: *session },
+            Request::CloseSession => Request::CloseSession,
+        };
+        Ok(request)
     }
 
     /// Whether the two are equal.
@@ -187,8 +223,19 @@ impl Request {
     }
 }
 
+// An equal text, where there is one.
+fn copy_of(text: &Option<Label>) -> Result<Option<Label>, NoMemory>
+    ensures value { IfOk result (λ copied. copied ≡ text.now) }
+    ensures without_text { text.now ≡ None → IsOk result }
+{
+    match text {
+        Some(text) => Ok(Some(text.copy()?)),
+        None => Ok(None),
+    }
+}
+
 /// What a device answers.
-#[derive(Clone, PartialEq, Drop)]
+#[derive(PartialEq, Drop)]
 pub enum Reply {
     Done,
     Opened(SessionId),
@@ -214,7 +261,19 @@ impl Reply {
         ensures value { IfOk result (λ reply. reply ≡ self.now) }
         ensures without_text { holds_text self.now ≡ false → IsOk result }
     {
-        Ok(self.clone()?)
+        let reply = match self {
+            Reply::Done => Reply::Done,
+            Reply::Opened(session) => Reply::Opened(*session),
+            Reply::LockId(id) => Reply::LockId(*id),
+            Reply::Mark(there) => Reply::Mark(*there),
+            Reply::Rows(count) => Reply::Rows(*count),
+            Reply::Error { tag, session, path } => Reply::Error {
+                tag: *tag,
+                session: *session,
+                path: copy_of(path)?,
+            },
+        };
+        Ok(reply)
     }
 
     /// Whether the two are equal.

@@ -32,7 +32,7 @@ impl ChangePlan {
 }
 
 /// One change set's edit of one device.
-#[derive(Clone, Copy, Debug, PartialEq, Eq)]
+#[derive(Clone, Copy, PartialEq, Eq)]
 pub struct PlannedEdit {
     pub device: DeviceNo,
     pub edit: EditNo,
@@ -40,7 +40,7 @@ pub struct PlannedEdit {
 }
 
 /// One thing that happens in a run (this project's own). Links of a change set and a device are numbered from 1, operators too.
-#[derive(Clone, PartialEq, Drop)]
+#[derive(PartialEq, Drop)]
 pub enum Event {
     /// The change set is submitted.
     Submit {
@@ -117,7 +117,72 @@ impl Event {
     pub fn copy(&self) -> Result<Event, NoMemory>
         ensures { IfOk result (λ event. event ≡ self.now) }
     {
-        Ok(self.clone()?)
+        let event = match self {
+            Event::Submit { change } => Event::Submit { change: *change },
+            Event::Turn { change } => Event::Turn { change: *change },
+            Event::Deliver {
+                change,
+                device,
+                link,
+            } => Event::Deliver {
+                change: *change,
+                device: *device,
+                link: *link,
+            },
+            Event::Answer {
+                change,
+                device,
+                link,
+                number,
+            } => Event::Answer {
+                change: *change,
+                device: *device,
+                link: *link,
+                number: *number,
+            },
+            Event::Break { change, device } => Event::Break {
+                change: *change,
+                device: *device,
+            },
+            Event::Lose {
+                change,
+                device,
+                link,
+            } => Event::Lose {
+                change: *change,
+                device: *device,
+                link: *link,
+            },
+            Event::Advance { device, seconds } => Event::Advance {
+                device: *device,
+                seconds: *seconds,
+            },
+            Event::Restart { device } => Event::Restart { device: *device },
+            Event::Forget { change } => Event::Forget { change: *change },
+            Event::Crash => Event::Crash,
+            Event::Renew { change, device } => Event::Renew {
+                change: *change,
+                device: *device,
+            },
+            Event::Foreign {
+                operator,
+                device,
+                request,
+            } => Event::Foreign {
+                operator: *operator,
+                device: *device,
+                request: request.copy()?,
+            },
+            Event::Leave { operator, device } => Event::Leave {
+                operator: *operator,
+                device: *device,
+            },
+            Event::Round { change, turns } => Event::Round {
+                change: *change,
+                turns: *turns,
+            },
+        };
+        Ok(event)
     }
 
     /// Whether the two are equal.

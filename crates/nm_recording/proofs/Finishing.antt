@@ -6,10 +6,10 @@ use Rattle.nm_base.specs.Mask.{mask_contains}
 use Rattle.nm_proto.specs.declared.journal.Entry.{Entry}
 use Rattle.nm_history.specs.declared.outcome.Outcome.{Outcome}
 use Rattle.nm_history.specs.Outcome.{is_final}
+use Rattle.nm_decider_stage.specs.declared.stage.Stage.{Stage}
+use Rattle.nm_decider_stage.specs.Stages.{has_kept, is_settled}
 use Rattle.nm_decider.specs.declared.seat.Seat.{Seat}
-use Rattle.nm_decider.specs.declared.stage.Stage.{Stage}
 use Rattle.nm_decider.specs.declared.course.NextAction.TheVariants.{Finish}
-use Rattle.nm_decider.specs.Stages.{has_kept, is_settled}
 use Rattle.nm_decider.specs.Course.{next_action}
 use Rattle.nm_decider.specs.Rightly.{MayEnd}
 use Rattle.nm_resync.specs.declared.resync.ResyncStage.{ResyncStage}

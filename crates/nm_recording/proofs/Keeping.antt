@@ -5,9 +5,9 @@ use Rattle.std.proofs.lemmas.Option.{slice_get_within, get_or_from_slice_get}
 use Rattle.nm_proto.specs.declared.journal.Entry.{Entry}
 use Rattle.nm_proto.specs.declared.journal.Verdict.{Verdict}
 use Rattle.nm_proto.specs.declared.journal.Verdict.TheVariants as verdict
+use Rattle.nm_decider_stage.specs.Stages.{is_acknowledged}
 use Rattle.nm_decider.specs.declared.course.NextAction.TheVariants.{Decide}
 use Rattle.nm_decider.specs.declared.seat.Seat.{Seat}
-use Rattle.nm_decider.specs.Stages.{is_acknowledged}
 use Rattle.nm_decider.specs.Course.{next_action, seat_count}
 use Rattle.nm_decider.specs.Rightly.{ActsRightly, IsReady}
 use Rattle.nm_decider.proofs.Actions.{rightly}

@@ -10,10 +10,10 @@ use Rattle.nm_proto.specs.declared.journal.Verdict.{Verdict}
 use Rattle.nm_history.specs.declared.outcome.Outcome.{Outcome}
 use Rattle.nm_history.specs.Outcome.{is_final, is_undone, outcome_of}
 use Rattle.nm_history.specs.History.{RecordedState}
+use Rattle.nm_decider_stage.specs.declared.stage.Stage.{Stage}
+use Rattle.nm_decider_stage.specs.declared.stage.Stage.TheVariants.{NeedMark, Resync, Leaving, Settled}
+use Rattle.nm_decider_stage.specs.Stages.{is_acknowledged}
 use Rattle.nm_decider.specs.declared.seat.Seat.{Seat}
-use Rattle.nm_decider.specs.declared.stage.Stage.{Stage}
-use Rattle.nm_decider.specs.declared.stage.Stage.TheVariants.{NeedMark, Resync, Leaving, Settled}
-use Rattle.nm_decider.specs.Stages.{is_acknowledged}
 use Rattle.nm_resync.specs.declared.resync.ResyncStage.{ResyncStage}
 use Rattle.nm_resync.specs.declared.resync.ResyncStage.TheVariants.{Checking}
 use Rattle.nm_resync.specs.Known.{knows}

@@ -9,7 +9,7 @@ use nm_proto::{Entry, Verdict};
 use std::alloc::Global;
 
 /// What a journal tells of a change set that was submitted.
-#[derive(Clone, Copy, Debug, PartialEq, Eq)]
+#[derive(Clone, Copy, PartialEq, Eq)]
 pub struct Found {
     pub change: ChangeNo,
     pub devices: DeviceMask,

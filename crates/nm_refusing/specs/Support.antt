@@ -15,9 +15,9 @@ use Rattle.nm_device.specs.Commit.{is_zero, names_reserved}
 use Rattle.nm_device.specs.Device.{DeviceState, fresh_device, is_manager}
 use Rattle.nm_history.specs.History.{RecordedState, replay}
 use Rattle.nm_standing.specs.Token.{waits_under}
+use Rattle.nm_decider_stage.specs.declared.stage.Stage.{Stage}
+use Rattle.nm_decider_stage.specs.declared.stage.Stage.TheVariants.{Live, Failed}
 use Rattle.nm_decider.specs.declared.seat.Seat.{Seat}
-use Rattle.nm_decider.specs.declared.stage.Stage.{Stage}
-use Rattle.nm_decider.specs.declared.stage.Stage.TheVariants.{Live, Failed}
 use Rattle.nm_wire.specs.Asks.{ask_of, same_ask}
 use Rattle.nm_wire.specs.Link.{LinkState, asked_on, session_of}
 use Rattle.nm_wire.specs.Words.{commits_sent, owns}

@@ -7,7 +7,7 @@ use nm_proto::{Ask, Reply};
 use std::marker::Model;
 
 /// Where the resynchronisation of a device stands, by what is asked next.
-#[derive(Clone, Copy, Debug, PartialEq, Eq)]
+#[derive(Clone, Copy, PartialEq, Eq)]
 pub enum ResyncStage {
     /// A session.
     Opening,
@@ -28,7 +28,7 @@ pub enum ResyncStage {
 }
 
 /// The resynchronisation of one device for a change set. No call takes memory.
-#[derive(Clone, Copy, Debug, PartialEq, Eq)]
+#[derive(Clone, Copy, PartialEq, Eq)]
 pub struct Resync {
     // Whether the change set is to be committed.
     commit: bool,

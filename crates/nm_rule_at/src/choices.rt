@@ -66,8 +66,7 @@ fn has_node<M: RowMap>(
     requires within { at < length schema.now.choices }
     ensures { IfOk result (λ has. has ≡ spec.has_node schema.now (M.rows config.now) above.now at) }
 {
-    let there = any_at(alloc, schema, config, above, nodes_in(choices, at))?;
-    Ok(there)
+    any_at(alloc, schema, config, above, nodes_in(choices, at))
 }
 
 // Whether a choice may be wanted at a place: its case holds there, and what guards the place.
@@ -85,8 +84,7 @@ fn is_wanted<M: RowMap>(
     if !holds_at(alloc, schema, config, cases, &[], above, step_count(above))? {
         return Ok(false);
     }
-    let allowed = is_allowed_in(alloc, schema, config, cases, above, choice.case_in)?;
-    Ok(allowed)
+    is_allowed_in(alloc, schema, config, cases, above, choice.case_in)
 }
 
 // Whether a path is that of a choice of a number that has no node though it has to have one, given what is above the path.
@@ -151,6 +149,21 @@ fn is_path_of(path: &Path, child: &Option<Child>) -> bool
     }
 }
 
+// Whether a path is that of the first child of a choice at a place that is of another case than the first.
+fn is_other_in<M: RowMap>(
+    alloc: Global,
+    schema: &Schema,
+    config: &M,
+    path: &Path,
+    choice: usize,
+    above: &Path,
+) -> Result<bool, NoMemory>
+    ensures { IfOk result (λ is. is ≡ spec.is_path_of path.now (spec.first_other (spec.children_of schema.now (M.rows config.now) choice above.now))) }
+{
+    let child = first_other(alloc, schema, config, choice, above)?;
+    Ok(is_path_of(path, &child))
+}
+
 /// Whether a path is that of the first child that is of another case than the first child of its choice (RFC 7950 section 7.9).
 pub fn is_other_case<M: RowMap>(
     alloc: Global,
@@ -162,8 +175,8 @@ pub fn is_other_case<M: RowMap>(
 {
     let above = front(alloc, path)?;
     for choice in 0..choice_count(schema) {
-        let child = first_other(alloc, schema, config, choice, &above)?;
-        if is_path_of(path, &child) {
+        let is = is_other_in(alloc, schema, config, path, choice, &above)?;
+        if is {
             return Ok(true);
         }
     }

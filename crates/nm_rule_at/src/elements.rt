@@ -29,8 +29,7 @@ fn has_beside<M: RowMap>(
     ensures { IfOk result (λ has. has ≡ spec.has_beside schema.now (M.rows config.now) above.now at (case_at schema.now.nodes at)) }
 {
     let others = others_of(alloc, schema, cases, at)?;
-    let allowed = is_allowed_by(alloc, schema, config, above, &others)?;
-    Ok(allowed)
+    is_allowed_by(alloc, schema, config, above, &others)
 }
 
 // Whether min-elements of a node are wanted at a path.
@@ -49,8 +48,7 @@ fn wants_elements<M: RowMap>(
         return Ok(false);
     }
     let above = front(alloc, path)?;
-    let has = has_beside(alloc, schema, config, cases, &above, at)?;
-    Ok(has)
+    has_beside(alloc, schema, config, cases, &above, at)
 }
 
 /// Whether a path is that of a list or a leaf-list with too few entries, where they are wanted (RFC 7950 section 7.7.5).
@@ -73,8 +71,7 @@ pub fn has_too_few<M: RowMap>(
     if has_at_least(config, path, min) {
         return Ok(false);
     }
-    let wants = wants_elements(alloc, schema, config, cases, path, at)?;
-    Ok(wants)
+    wants_elements(alloc, schema, config, cases, path, at)
 }
 
 /// Whether a path is that of a list or a leaf-list with too many entries (RFC 7950 section 7.7.6).
@@ -97,6 +94,5 @@ pub fn has_too_many<M: RowMap>(
     if !has_more(config, path, max) {
         return Ok(false);
     }
-    let wanted = stands(alloc, schema, config, cases, &[], path)?;
-    Ok(wanted)
+    stands(alloc, schema, config, cases, &[], path)
 }

@@ -54,6 +54,5 @@ pub fn rule_at<M: RowMap>(
     ensures { IfOk result (λ is. is ≡ violated schema.now (M.rows config.now) rule path.now) }
 {
     let members = members_of(alloc, schema)?;
-    let is = judged(alloc, schema, config, &members, rule, path)?;
-    Ok(is)
+    judged(alloc, schema, config, &members, rule, path)
 }

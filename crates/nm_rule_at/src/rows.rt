@@ -3,6 +3,8 @@
 ghost use Rattle.std.specs.Prelude.{◌≡◌, IfOk};
 ghost use Rattle.nm_rules.specs.declared.rule.Rule.TheVariants as rule;
 ghost use Rattle.nm_rules.specs.Violated.{violated};
+ghost use Rattle.nm_validate.specs.Groups.{IsGrouped};
+ghost use Rattle.nm_reached.specs.Lost.{is_lost_at};
 
 use nm_base::NoMemory;
 use nm_config::{Config, RowMap};
@@ -10,7 +12,7 @@ use nm_path::node_of;
 use nm_reached::is_lost_row;
 use nm_tree::Schema;
 use nm_types::Path;
-use nm_validate::areas::{NodeRow, group_rows};
+use nm_validate::areas::{Grouped, NodeRow, group_rows};
 use nm_validate::fits_row;
 use nm_validate::keys::has_keys;
 use std::alloc::Global;
@@ -51,6 +53,21 @@ pub fn has_bad_key<M: RowMap>(
     Ok(!has)
 }
 
+// Whether a row has a leafref that isn't reached, by the rows as they are grouped.
+fn is_lost<M: RowMap>(
+    alloc: Global,
+    schema: &Schema,
+    config: &M,
+    grouped: &Grouped<'_>,
+    row: &NodeRow<'_>,
+) -> Result<bool, NoMemory>
+    requires { IsGrouped schema.now (M.rows config.now) grouped.now }
+    ensures { IfOk result (λ lost. lost ≡ is_lost_at schema.now (M.rows config.now) row.now.node row.now.path.now row.now.value.now) }
+{
+    let mut kept = Config::new(alloc);
+    is_lost_row(alloc, schema, config, grouped, row, &mut kept)
+}
+
 /// Whether the row at a path has a leafref, its own or that of a key, that doesn't reach what it refers to (RFC 7950 section
 /// 9.9). It goes over all rows.
 pub fn is_unreached<M: RowMap>(
@@ -67,7 +84,5 @@ pub fn is_unreached<M: RowMap>(
     let grouped = group_rows(alloc, schema, config)?;
     let node = node_of(schema, path);
     let row = NodeRow { path, value, node };
-    let mut kept = Config::new(alloc);
-    let lost = is_lost_row(alloc, schema, config, &grouped, &row, &mut kept)?;
-    Ok(lost)
+    is_lost(alloc, schema, config, &grouped, &row)
 }

@@ -105,8 +105,7 @@ fn is_repeated<M: RowMap>(
         return Ok(false);
     };
     let rows = grouped.rows.as_slice();
-    let is = is_repeated_in(alloc, schema, config, grouped, rows, entry, leafs, &values)?;
-    Ok(is)
+    is_repeated_in(alloc, schema, config, grouped, rows, entry, leafs, &values)
 }
 
 // Whether an entry before another has the same values in all leafs that one of some statements names.
@@ -149,6 +148,5 @@ pub fn is_repeated_entry<M: RowMap>(
     };
     let grouped = group_rows(alloc, schema, config)?;
     let uniques = schema.uniques(at);
-    let is = is_repeated_in_all(alloc, schema, config, &grouped, path, uniques)?;
-    Ok(is)
+    is_repeated_in_all(alloc, schema, config, &grouped, path, uniques)
 }

@@ -10,8 +10,8 @@ use Rattle.nm_history.specs.History.{RecordedState, recorded}
 use Rattle.nm_standing.specs.Telling.{TellsToken}
 use Rattle.nm_standing.proofs.Numbers.{fresh_numbered}
 use Rattle.nm_standing.proofs.Tells.{pending_told_first, token_told_first}
+use Rattle.nm_decider_stage.specs.declared.stage.Stage.TheVariants.{Live}
 use Rattle.nm_decider.specs.declared.seat.Seat.{Seat}
-use Rattle.nm_decider.specs.declared.stage.Stage.TheVariants.{Live}
 use Rattle.nm_decider.specs.Course.{seat_of, seats_from, seat_count}
 use Rattle.nm_manager.specs.Slot.{SideState, fresh_side, fresh_slot}
 use Rattle.nm_manager.specs.Manager.{slots_from}

@@ -15,7 +15,7 @@ use Rattle.nm_history.specs.History.{RecordedState}
 use Rattle.nm_recovery.specs.Recovery.{is_started, is_ended_in, verdict_in}
 use Rattle.nm_standing.specs.Numbered.{IsNumbered}
 use Rattle.nm_standing.specs.Telling.{TellsPending, TellsToken}
-use Rattle.nm_decider.specs.declared.stage.Stage.TheVariants.{Live}
+use Rattle.nm_decider_stage.specs.declared.stage.Stage.TheVariants.{Live}
 use Rattle.nm_decider.specs.Course.{seats_from, seat_count}
 use Rattle.nm_wire.specs.Asks.{ask_of, same_ask}
 use Rattle.nm_wire.specs.Link.{LinkState, session_of, asked_on}

@@ -42,3 +42,4 @@ pub mod Known
 pub mod Faulting
 pub mod Reached
 pub mod FactsAre
+pub mod Fronts

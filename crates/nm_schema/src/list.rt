@@ -86,9 +86,11 @@ fn further(grounds: &Grounds<'_, '_>, number: Option<usize>, row: usize) -> Opti
 fn reached(grounds: &Grounds<'_, '_>, number: usize, way: &Numbers) -> Option<usize>
     ensures { result ≡ spec.reached grounds.now.rows grounds.now.facts number way.now }
 {
-    way.as_slice()
-        .iter()
-        .fold(Some(number), |spot, row| further(grounds, spot, *row))
+    let mut spot = Some(number);
+    for row in way.as_slice() {
+        spot = further(grounds, spot, *row);
+    }
+    spot
 }
 
 // The leafs of a list that a `unique` names. None where they aren't known.

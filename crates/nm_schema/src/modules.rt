@@ -86,7 +86,6 @@ fn answer_rows(alloc: Global, rows: &Rows) -> Result<Schema, SchemaFault>
 /// is a value of its leaf's type.
 ///
 /// Modules give a tree where nothing is wrong with them, and are refused where anything is.
-#[tactic(auto, using(crate::proofs::Sound::answer_named, crate::proofs::Sound::answer_sound, crate::proofs::Marked::answer_marked, crate::proofs::Wholes::answer_whole, crate::proofs::Faulting::answer_built, crate::proofs::Faulting::answer_faultless, crate::proofs::Faulting::answer_refused))]
 pub fn build(alloc: Global, modules: &[Statement]) -> Result<Schema, SchemaFault>
     ensures answers { spec.Answers modules.now result }
     ensures built { spec.Gives result (spec.built_of modules.now) }

@@ -1,7 +1,7 @@
 //! One choice, and one case.
 
 /// A choice among those of one statement.
-#[derive(Clone, Copy, Debug)]
+#[derive(Clone, Copy)]
 pub struct Fork {
     /// Its row.
     pub row: usize,
@@ -10,7 +10,7 @@ pub struct Fork {
 }
 
 /// A case among those of one statement.
-#[derive(Clone, Copy, Debug)]
+#[derive(Clone, Copy)]
 pub struct Branch {
     /// The number of its choice.
     pub choice: usize,

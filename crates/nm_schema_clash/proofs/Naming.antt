@@ -6,7 +6,7 @@ use Rattle.std.specs.Ordering.{is_eq, nat_cmp}
 use Rattle.std.specs.Cmp.Lexicographic.{slice_cmp}
 use Rattle.std.proofs.lemmas.Grind.{common_steps}
 use Rattle.std.proofs.lemmas.Bool.{cases_eq}
-use Rattle.std.proofs.lemmas.List.{length-set, get_or-set_same, get_or-set_other, length-replicate}
+use Rattle.std.proofs.lemmas.List.{drop_all, length-set, get_or-set_same, get_or-set_other, length-replicate}
 use mathlib.Core.Path.{fun_ext}
 use Rattle.std.proofs.lemmas.Map.Text.{is_eq-slice_cmp}
 use Rattle.nm_schema_rows.specs.declared.row.Row.{Row}
@@ -47,6 +47,24 @@ pub find_passed : (p : List ℕ → Bool) (rows : List Row) (nodes : List ℕ) (
 find_passed p rows nodes i all lt is e =
     let h : find p (map (argument_at rows) (drop i nodes)) ≡ find p (map (argument_at rows) (drop (i + 1) nodes)) = rw (names-drop rows nodes i lt, e) refl in
     sym h ∙ is
+
+pub find_end : (p : List ℕ → Bool) (rows : List Row) (nodes : List ℕ) (i : ℕ) (all : Option (List ℕ)) → length nodes ≤ i → find p (map (argument_at rows) (drop i nodes)) ≡ all → None ≡ all
+find_end p rows nodes i all le is = sym (ap (λ (l : List ℕ). find p (map (argument_at rows) l)) (drop_all i nodes le)) ∙ is
+
+pub any_found : (p : List ℕ → Bool) (rows : List Row) (nodes : List ℕ) (i : ℕ) (all : Bool) → i < length nodes → list_any p (map (argument_at rows) (drop i nodes)) ≡ all
+    → p (argument_at rows (get_or nodes i 0)) ≡ true → true ≡ all
+any_found p rows nodes i all lt is e =
+    let h : list_any p (map (argument_at rows) (drop i nodes)) ≡ true = rw (names-drop rows nodes i lt, e) refl in
+    sym h ∙ is
+
+pub any_passed : (p : List ℕ → Bool) (rows : List Row) (nodes : List ℕ) (i : ℕ) (all : Bool) → i < length nodes → list_any p (map (argument_at rows) (drop i nodes)) ≡ all
+    → p (argument_at rows (get_or nodes i 0)) ≡ false → list_any p (map (argument_at rows) (drop (i + 1) nodes)) ≡ all
+any_passed p rows nodes i all lt is e =
+    let h : list_any p (map (argument_at rows) (drop i nodes)) ≡ list_any p (map (argument_at rows) (drop (i + 1) nodes)) = rw (names-drop rows nodes i lt, e) refl in
+    sym h ∙ is
+
+pub any_end : (p : List ℕ → Bool) (rows : List Row) (nodes : List ℕ) (i : ℕ) (all : Bool) → length nodes ≤ i → list_any p (map (argument_at rows) (drop i nodes)) ≡ all → false ≡ all
+any_end p rows nodes i all le is = sym (ap (λ (l : List ℕ). list_any p (map (argument_at rows) l)) (drop_all i nodes le)) ∙ is
 
 or_turn : (a b c : Bool) → (b || (a || c)) ≡ ((a || b) || c)
 or_turn true true c = refl

@@ -91,7 +91,12 @@ fn are_apart_from(
 fn is_brought(known: &Known<'_>, wide: &[usize], name: &Label) -> bool
     ensures { result ≡ list_any (λ i. spec.brings known.now name.now i) wide.now }
 {
-    wide.iter().any(|at| known.brings(*at, name))
+    for at in wide {
+        if known.brings(*at, name) {
+            return true;
+        }
+    }
+    false
 }
 
 impl Earlier {

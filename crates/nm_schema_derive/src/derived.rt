@@ -69,7 +69,7 @@ impl Model for Derived {
 }
 
 /// Why a restriction makes no type.
-#[derive(Clone, Copy, Debug)]
+#[derive(Clone, Copy)]
 pub enum StepFault {
     /// The type that is restricted allows no such restriction.
     Misplaced,
@@ -103,7 +103,7 @@ impl<T: Drop> From<AllocFailed<T>> for StepFault {
 }
 
 /// A substatement of `type` that a built-in type cannot do without.
-#[derive(Clone, Copy, Debug)]
+#[derive(Clone, Copy)]
 pub enum Lacking {
     FractionDigits,
     Enum,
@@ -266,6 +266,20 @@ impl Derived {
         }
     }
 
+    // The type with the range or length that a text makes of its nearest, or of its own bounds.
+    fn with_parts(
+        self,
+        alloc: Global,
+        form: &NumberForm,
+        own: &(i128, i128),
+        text: &str,
+    ) -> Result<Derived, StepFault>
+        ensures { Gives result (limited self (narrowed form.now own.now self.limits text.now)) }
+    {
+        let parts = narrowed(alloc, form, own, &self.limits, text)?;
+        self.with_limit(parts)
+    }
+
     /// The type with the range of a `range` statement (RFC 7950 section 9.2.4).
     ///
     /// Misplaced where the type is neither an integer type nor `decimal64`. A `decimal64` without its
@@ -276,13 +290,11 @@ impl Derived {
         match &self.shape {
             TypeShape::Integer { low, high } => {
                 let own = (*low, *high);
-                let parts = narrowed(alloc, &NumberForm::Integer, &own, &self.limits, text)?;
-                self.with_limit(parts)
+                self.with_parts(alloc, &NumberForm::Integer, &own, text)
             }
             TypeShape::Decimal { digits } => {
                 let form = NumberForm::Decimal { digits: *digits };
-                let parts = narrowed(alloc, &form, &SCALED, &self.limits, text)?;
-                self.with_limit(parts)
+                self.with_parts(alloc, &form, &SCALED, text)
             }
             TypeShape::BareDecimal => Ok(self),
             _ => Err(StepFault::Misplaced),
@@ -296,10 +308,7 @@ impl Derived {
         ensures exact { Gives result (with_length self text.now) }
     {
         match &self.shape {
-            TypeShape::Text => {
-                let parts = narrowed(alloc, &NumberForm::Length, &LENGTHS, &self.limits, text)?;
-                self.with_limit(parts)
-            }
+            TypeShape::Text => self.with_parts(alloc, &NumberForm::Length, &LENGTHS, text),
             _ => Err(StepFault::Misplaced),
         }
     }

@@ -5,7 +5,7 @@ ghost use Rattle.nm_schema_derive.specs.Form.{moved, moved_if, behind, fits_poin
 use nm_base::read_decimal;
 
 /// How the numbers of a range, a length, a value or a position are written (RFC 7950 section 14).
-#[derive(Clone, Copy, Debug)]
+#[derive(Clone, Copy)]
 pub enum NumberForm {
     /// An `integer-value`: of a range of integers, or of an enumeration.
     Integer,

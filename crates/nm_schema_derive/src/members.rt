@@ -16,7 +16,7 @@ pub struct Member {
 }
 
 /// Which numbers the names of a type have.
-#[derive(Clone, Copy, Debug)]
+#[derive(Clone, Copy)]
 pub enum Numbering {
     /// Values of an enumeration: -2147483648 to 2147483647 (RFC 7950 section 9.6.4.2).
     Values,
@@ -25,7 +25,7 @@ pub enum Numbering {
 }
 
 /// What is wrong with an `enum` or a `bit` statement.
-#[derive(Clone, Copy, Debug)]
+#[derive(Clone, Copy)]
 pub enum ListFlaw {
     /// A statement before it has its name.
     NameRepeated,
@@ -42,7 +42,7 @@ pub enum ListFlaw {
 }
 
 /// Why statements make no members.
-#[derive(Clone, Copy, Debug)]
+#[derive(Clone, Copy)]
 pub enum ListFault {
     /// The first statement with a flaw, from 0, and its flaw.
     Flawed { at: usize, flaw: ListFlaw },

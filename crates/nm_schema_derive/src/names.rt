@@ -2,7 +2,7 @@ ghost use Rattle.std.specs.Prelude.{◌≡◌};
 ghost use Rattle.nm_schema_derive.specs.BuiltIn.{built_in_of, integer_named, other_named};
 
 /// A built-in type of RFC 7950 section 4.2.4 that this project has.
-#[derive(Clone, Copy, Debug)]
+#[derive(Clone, Copy)]
 pub enum BuiltIn {
     /// `int8` to `int64` and `uint8` to `uint64`, by their lowest and highest numbers.
     Integer { low: i128, high: i128 },

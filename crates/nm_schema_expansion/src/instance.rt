@@ -1,7 +1,7 @@
 //! One node of the tree.
 
 /// A node of the tree of modules.
-#[derive(Clone, Copy, Debug)]
+#[derive(Clone, Copy)]
 pub struct Instance {
     /// The number of the node that it stands in, and None at the top.
     pub parent: Option<usize>,

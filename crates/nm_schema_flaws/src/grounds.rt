@@ -1,11 +1,15 @@
 //! What the faults of modules are found by.
 
-ghost use Rattle.std.specs.Prelude.{◌≡◌, IfOk, MatchOption, None, Some};
+ghost use Rattle.std.specs.Prelude.{◌≡◌, ℕ, IfOk, MatchOption, None, Some, false, length, is_some, slice_index_or};
 ghost use Rattle.nm_schema_shape.specs.Outline.{outline};
+ghost use Rattle.nm_schema_shape.specs.Config.{Marks};
 ghost use Rattle.nm_schema_leafref.specs.Known.{AreLeafrefs, ArePaths};
+ghost use Rattle.nm_schema_keys.specs.ConfigUse.{ConfigUse, IsConfigUse};
 ghost use Rattle.nm_schema_keys.specs.Keys as keys;
 ghost use Rattle.nm_schema_keys.specs.Uniques as uniques;
 ghost use Rattle.nm_schema_typing.specs.Defaults as defaults;
+ghost use Rattle.nm_schema_typing.specs.Flaws.{AreMeanings};
+ghost use Rattle.nm_schema_typing.specs.Listing.{AreJudgements};
 ghost use Rattle.nm_schema_flaws.specs.Facts as spec;
 
 use crate::cycle::cycle_of;
@@ -53,6 +57,56 @@ impl<'g, 'a> Model for Grounds<'g, 'a> {
     ghost invariant = { λ g. AreGrounds g.names.now (facts_of g.cycle g.configured.now g.in_state.now g.is_key.items g.expansion.now.nodes g.leafrefs.faults) g.definitions.now g.shape.now g.clashes g.expansion.now g.types g.judgements.items g.defaults g.leafrefs g.keys.items g.flawed_uniques.items };
 }
 
+/// What the types of rows are known by.
+#[derive(Drop)]
+struct Typed {
+    types: Types,
+    judgements: Vec<Judgement>,
+    defaults: Defaults,
+}
+
+// Types, what is to be said of them, and defaults.
+fn typed_of(alloc: Global, rows: &Rows, definitions: &[Option<usize>]) -> Result<Typed, NoMemory>
+    ensures meanings { IfOk result (λ typed. AreMeanings rows.now definitions.now typed.types.meanings) }
+    ensures judgements { IfOk result (λ typed. AreJudgements rows.now definitions.now typed.judgements.items) }
+    ensures defaults { IfOk result (λ typed. (i : ℕ) → defaults.joined (slice_index_or typed.defaults i None) ≡ defaults.default_of rows.now definitions.now i) }
+{
+    let types = types_of(alloc, rows, definitions)?;
+    let judgements = judgements_of(alloc, rows, definitions, &types)?;
+    let defaults = defaults_of(alloc, rows, definitions)?;
+    Ok(Typed {
+        types,
+        judgements,
+        defaults,
+    })
+}
+
+/// What lists are known by.
+#[derive(Drop)]
+struct Keyed {
+    keys: Vec<Option<Keys>>,
+    is_key: Vec<bool>,
+    flawed_uniques: Vec<bool>,
+}
+
+// The keys of lists, which rows are keys, and which `unique` statements have a flaw.
+fn keyed_of(alloc: Global, names: &RowNames<'_>, shape: &Shape<'_>) -> Result<Keyed, NoMemory>
+    requires { names.now ≡ shape.now.rows }
+    ensures keys { (standing : ConfigUse) → IsConfigUse shape.now.rows shape.now.groupings standing → IfOk result (λ keyed. (i : ℕ) → slice_index_or keyed.keys.items i None ≡ keys.keys_of shape.now.rows shape.now.groupings standing i) }
+    ensures marks { (standing : ConfigUse) → IsConfigUse shape.now.rows shape.now.groupings standing → IfOk result (λ keyed. Marks (keys.IsKey shape.now.rows shape.now.groupings standing) keyed.is_key.items) }
+    ensures size { IfOk result (λ keyed. length keyed.is_key.items ≡ length shape.now.rows) }
+    ensures flawed { (standing : ConfigUse) → IsConfigUse shape.now.rows shape.now.groupings standing → IfOk result (λ keyed. (i : ℕ) → slice_index_or keyed.flawed_uniques.items i false ≡ is_some (uniques.unique_flaw shape.now.rows shape.now.groupings standing i)) }
+{
+    let keys = keys_of_all(alloc, names, shape)?;
+    let is_key = key_leafs(alloc, names, shape)?;
+    let flawed_uniques = flawed_uniques(alloc, names, shape)?;
+    Ok(Keyed {
+        keys,
+        is_key,
+        flawed_uniques,
+    })
+}
+
 impl<'g, 'a> Grounds<'g, 'a> {
     /// What the faults of the modules of some names are found by. The rows of the names, their definitions and all that is made
     /// of these are kept by the caller, each for the ones made after it.
@@ -72,28 +126,25 @@ impl<'g, 'a> Grounds<'g, 'a> {
     {
         expansion.laws();
         let rows = names.rows();
-        let types = types_of(alloc, rows, definitions)?;
-        let judgements = judgements_of(alloc, rows, definitions, &types)?;
-        let defaults = defaults_of(alloc, rows, definitions)?;
-        let clashes = clashes_of(alloc, rows, definitions)?;
-        let leafrefs = leafrefs_of(alloc, names, paths, shape, expansion, &types, definitions)?;
-        let keys = keys_of_all(alloc, names, shape)?;
-        let is_key = key_leafs(alloc, names, shape)?;
-        let flawed_uniques = flawed_uniques(alloc, names, shape)?;
         let cycle = cycle_of(alloc, names)?;
+        let clashes = clashes_of(alloc, rows, definitions)?;
+        let typed = typed_of(alloc, rows, definitions)?;
+        let keyed = keyed_of(alloc, names, shape)?;
+        let types = &typed.types;
+        let leafrefs = leafrefs_of(alloc, names, paths, shape, expansion, types, definitions)?;
         Ok(Grounds {
             names,
             definitions,
             shape,
             clashes,
             expansion,
-            types,
-            judgements,
-            defaults,
+            types: typed.types,
+            judgements: typed.judgements,
+            defaults: typed.defaults,
             leafrefs,
-            keys,
-            is_key,
-            flawed_uniques,
+            keys: keyed.keys,
+            is_key: keyed.is_key,
+            flawed_uniques: keyed.flawed_uniques,
             configured: shape.configured(),
             in_state: shape.in_state(),
             cycle,

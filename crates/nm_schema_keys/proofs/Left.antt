@@ -20,6 +20,10 @@ in_front_more front y (Some ys) = ap (λ l. Some l) (append_assoc front (y ∷ [
 pub front_step : {X Y : Type 0} (f : X → Option Y) (x : X) (rest : List X) (front : List Y) (y : Y) → Some y ≡ f x → in_front (front ++ y ∷ []) (all_there (map f rest)) ≡ in_front front (all_there (map f (x ∷ rest)))
 front_step f x rest front y is = in_front_more front y (all_there (map f rest)) ∙ ap (λ o. in_front front (all_there (o ∷ map f rest))) is
 
+-- a value that isn't there is missing in all
+pub front_none : {X Y : Type 0} (f : X → Option Y) (x : X) (rest : List X) (front : List Y) → f x ≡ None → None ≡ in_front front (all_there (map f (x ∷ rest)))
+front_none f x rest front none = sym (ap (λ o. in_front front (all_there (o ∷ map f rest))) none)
+
 -- an element more isn't what is looked for
 pub find_step : {X : Type 0} (p : X → Bool) (x : X) (rest : List X) → p x ≡ false → find p rest ≡ find p (x ∷ rest)
 find_step p x rest is = sym (ap (λ b. cond b (Some x) (find p rest)) is)
@@ -30,6 +34,9 @@ leads_told o n loses owner list word b same told is = ap (λ (p : Outline). lead
 
 pub way_told : (o n : Outline) (loses : Bool) (owner list : ℕ) (word : List ℕ) (f : Option (List ℕ)) (way : List ℕ) → o ≡ n → f ≡ way_of o.rows o.groupings loses owner list word → f ≡ Some way → Some way ≡ way_of n.rows n.groupings loses owner list word
 way_told o n loses owner list word f way same told is = sym is ∙ told ∙ ap (λ (p : Outline). way_of p.rows p.groupings loses owner list word) same
+
+pub no_way_told : (o n : Outline) (loses : Bool) (owner list : ℕ) (word : List ℕ) (f : Option (List ℕ)) → o ≡ n → f ≡ way_of o.rows o.groupings loses owner list word → f ≡ None → way_of n.rows n.groupings loses owner list word ≡ None
+no_way_told o n loses owner list word f same told none = ap (λ (p : Outline). way_of p.rows p.groupings loses owner list word) (sym same) ∙ sym told ∙ none
 
 pub unique_told : (o n : Outline) (at : ℕ) (f : Option (List (List ℕ))) (unique : List (List ℕ)) → o ≡ n → ((standing : ConfigUse) → IsConfigUse o.rows o.groupings standing → f ≡ unique_at o.rows o.groupings standing at) → f ≡ Some unique
     → (standing : ConfigUse) → IsConfigUse n.rows n.groupings standing → Some unique ≡ unique_at n.rows n.groupings standing at
@@ -54,3 +61,8 @@ pub first_flaw : (astray : List ℕ → Bool) (words : List (Bor (List ℕ))) (f
     → option_map flaw.BadReference found ≡ unique_words_flaw astray (map (λ (t : Bor (List ℕ)). t.now) words)
 first_flaw astray [] first found some told is = cc
 first_flaw astray (word ∷ words) first found some told is = ap (λ (o : Option (List ℕ)). option_map flaw.BadReference o) (sym is ∙ told)
+
+pub no_unique_told : (o n : Outline) (at : ℕ) (f : Option (List (List ℕ))) → o ≡ n → ((standing : ConfigUse) → IsConfigUse o.rows o.groupings standing → f ≡ unique_at o.rows o.groupings standing at) → f ≡ None
+    → (standing : ConfigUse) → IsConfigUse n.rows n.groupings standing → unique_at n.rows n.groupings standing at ≡ None
+no_unique_told o n at f same told none = λ standing used.
+    sym (subst (λ (p : Outline). (standing : ConfigUse) → IsConfigUse p.rows p.groupings standing → f ≡ unique_at p.rows p.groupings standing at) same told standing used) ∙ none

@@ -1,6 +1,6 @@
 //! Where a name leads, and what fits there.
 
-ghost use Rattle.std.specs.Prelude.{◌≡◌, Some, slice_get};
+ghost use Rattle.std.specs.Prelude.{◌≡◌, Some, is_some, slice_get};
 ghost use Rattle.nm_schema_rows.specs.Rows.{has_word};
 ghost use Rattle.nm_schema_shape.specs.Arguments.{argument_at};
 ghost use Rattle.nm_schema_shape.specs.Config.{is_state, says_false};
@@ -8,7 +8,7 @@ ghost use Rattle.nm_schema_shape.specs.Holding.{is_node};
 ghost use Rattle.nm_schema_keys.specs.ConfigUse.{ConfigUse, IsConfigUse, is_lost, loses_state};
 ghost use Rattle.nm_schema_keys.specs.Found as spec;
 
-use nm_schema_rows::{Rows, Word};
+use nm_schema_rows::{Flaw, Rows, Word};
 use nm_schema_shape::Shape;
 
 /// Where a name leads.
@@ -113,4 +113,11 @@ pub(crate) fn loses_state(shape: &Shape<'_>, list: usize) -> bool
     ensures { (standing : ConfigUse) → IsConfigUse shape.now.rows shape.now.groupings standing → result ≡ loses_state standing list }
 {
     shape.is_configuration(list) || !shape.is_in_state(list)
+}
+
+/// Whether there is a flaw, which is let go.
+pub(crate) fn is_there(flaw: Option<Flaw>) -> bool
+    ensures { result ≡ is_some flaw }
+{
+    flaw.is_some()
 }

@@ -5,7 +5,7 @@ ghost use Rattle.nm_schema_keys.specs.ConfigUse.{ConfigUse, IsConfigUse};
 ghost use Rattle.nm_schema_keys.specs.Words.{words_of};
 ghost use Rattle.nm_schema_keys.specs.Keys as spec;
 
-use crate::found::{Found, loses_state};
+use crate::found::{Found, is_there, loses_state};
 use crate::leafs::Keys;
 use crate::members::Members;
 use crate::said::{Said, said_at};
@@ -142,11 +142,11 @@ fn said_keys<'a>(
     ensures exact { IfOk result (λ keys. keys ≡ spec.key_words_leafs (spec.key_leaf members.now.rows members.now.nodes loses said.now.owner) (is_some members.now.nodes) (words_of said.now.text)) }
     ensures within { IfOk result (λ keys. IfSome keys (All (λ leaf. leaf < length members.now.rows))) }
 {
-    let mut keys = Keys::new(alloc);
-    if said_flaw(alloc, members, loses, said, &mut keys)?.is_some() {
+    if !members.are_known() {
         return Ok(None);
     }
-    if !members.are_known() {
+    let mut keys = Keys::new(alloc);
+    if is_there(said_flaw(alloc, members, loses, said, &mut keys)?) {
         return Ok(None);
     }
     Ok(Some(keys))

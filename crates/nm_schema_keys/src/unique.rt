@@ -7,7 +7,7 @@ ghost use Rattle.nm_schema_keys.specs.ConfigUse.{ConfigUse, IsConfigUse, loses_s
 ghost use Rattle.nm_schema_keys.specs.Uniques as spec;
 
 use crate::finder::Finder;
-use crate::found::{Found, has_word, loses_state};
+use crate::found::{Found, has_word, is_there, loses_state};
 use crate::passage::Passage;
 use crate::said::{Said, said_at};
 use crate::words::{pieces_of, words_of};
@@ -291,6 +291,37 @@ impl<'n, 'a, 's> Finder<'n, 'a, 's> {
         let words = words_of(alloc, said.text)?;
         self.words_ways(alloc, start, &words)
     }
+
+    // Whether each row, of all that there are, is a `unique` statement that has a flaw.
+    fn marks(&mut self, alloc: Global, count: usize) -> Result<Vec<bool>, NoMemory>
+        requires { count ≡ length self.old.rows }
+        ensures size { IfOk result (λ marks. length marks.items ≡ count) }
+        ensures marks { (standing : ConfigUse) → IsConfigUse self.old.rows self.old.groupings standing → IfOk result (λ marks. (at : ℕ) → slice_index_or marks.items at false ≡ is_some (spec.unique_flaw self.old.rows self.old.groupings standing at)) }
+    {
+        let mut marks = Vec::with_capacity(alloc, count)?;
+        for at in 0..count {
+            match self.unique_flaw(alloc, at) {
+                Ok(flaw) => marks.push(is_there(flaw))?,
+                Err(error) => return Err(error),
+            }
+        }
+        Ok(marks)
+    }
+
+    // What each of some statements says.
+    fn all_at(&mut self, alloc: Global, numbers: &[usize]) -> Result<Option<Uniques>, NoMemory>
+        ensures { (standing : ConfigUse) → IsConfigUse self.old.rows self.old.groupings standing → IfOk result (λ uniques. uniques ≡ all_there (map (spec.unique_at self.old.rows self.old.groupings standing) numbers.now)) }
+    {
+        let mut all = Vec::new(alloc);
+        for at in numbers {
+            match self.unique_at(alloc, *at) {
+                Ok(Some(unique)) => all.push(unique)?,
+                Ok(None) => return Ok(None),
+                Err(error) => return Err(error),
+            }
+        }
+        Ok(Some(Uniques { all }))
+    }
 }
 
 /// What is wrong with the `unique` statement of the row of a number in a list (RFC 7950 section 7.8.3): no word at all
@@ -323,14 +354,7 @@ pub fn flawed_uniques(
     ensures marks { (standing : ConfigUse) → IsConfigUse shape.now.rows shape.now.groupings standing → IfOk result (λ marks. (at : ℕ) → slice_index_or marks.items at false ≡ is_some (spec.unique_flaw shape.now.rows shape.now.groupings standing at)) }
 {
     let mut finder = Finder::new(alloc, names, shape);
-    let mut marks = Vec::with_capacity(alloc, names.rows().len())?;
-    for at in 0..names.rows().len() {
-        match finder.unique_flaw(alloc, at) {
-            Ok(flaw) => marks.push(flaw.is_some())?,
-            Err(error) => return Err(error),
-        }
-    }
-    Ok(marks)
+    finder.marks(alloc, names.rows().len())
 }
 
 #[tactic(auto, unfolding(crate::specs::Uniques::is_unique))]
@@ -366,13 +390,5 @@ pub fn uniques_of(
 {
     let numbers = uniques_among(alloc, names.rows(), names.rows().below(list))?;
     let mut finder = Finder::new(alloc, names, shape);
-    let mut all = Vec::new(alloc);
-    for at in &numbers {
-        match finder.unique_at(alloc, *at) {
-            Ok(Some(unique)) => all.push(unique)?,
-            Ok(None) => return Ok(None),
-            Err(error) => return Err(error),
-        }
-    }
-    Ok(Some(Uniques { all }))
+    finder.all_at(alloc, &numbers)
 }

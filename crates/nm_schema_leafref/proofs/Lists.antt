@@ -1,5 +1,5 @@
 -- Lists that have the values of a function.
-use Rattle.std.proofs.Common.{◌≡◌, ◌<◌, ◌≤◌, ◌+◌, ◌∙◌, ◌⊎◌, inl, inr, ℕ, zero, suc, List, [], ◌∷◌, ◌++◌, length, slice_index_or, refl, sym, ap, arith}
+use Rattle.std.proofs.Common.{◌≡◌, ◌<◌, ◌≤◌, ◌+◌, ◌∙◌, ◌⊎◌, inl, inr, ℕ, zero, suc, List, [], ◌∷◌, ◌++◌, length, replicate, slice_index_or, refl, sym, ap, arith}
 use Rattle.std.proofs.lemmas.Bool.{cases_lt}
 use Rattle.std.proofs.lemmas.List.{length-append}
 
@@ -43,3 +43,9 @@ all_each f none n xs h rest i (inr le) = past xs i none (omega (arith, h.size)) 
 -- all of them, where the rest are none
 pub lists_all : {X : Type 0} (f : ℕ → X) (none : X) (n : ℕ) (xs : List X) → Lists f none n xs → ((i : ℕ) → n ≤ i → f i ≡ none) → (i : ℕ) → slice_index_or xs i none ≡ f i
 lists_all f none n xs h rest i = all_each f none n xs h rest i (cases_lt i n)
+
+-- a list of one value has no other
+pub one_value : {X : Type 0} (n i : ℕ) (x : X) → slice_index_or (replicate n x) i x ≡ x
+one_value zero i x = refl
+one_value (suc n) zero x = refl
+one_value (suc n) (suc i) x = one_value n i x

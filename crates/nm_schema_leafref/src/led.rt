@@ -3,7 +3,7 @@
 ghost use Rattle.std.specs.Prelude.{◌≡◌, None, slice_index_or, false};
 
 /// Where the path of a leafref leads.
-#[derive(Clone, Copy, Debug)]
+#[derive(Clone, Copy)]
 pub enum Led {
     /// To a leaf or leaf-list, by the number of its node.
     Node(usize),

@@ -4,7 +4,7 @@ ghost use Rattle.std.specs.Prelude.{◌≡◌, ◌↔◌, IsTrue};
 ghost use Rattle.nm_schema_rows.specs.Word as spec;
 
 /// What the keyword of a statement is, as far as this project reads it (RFC 7950 section 14).
-#[derive(Clone, Copy, Debug)]
+#[derive(Clone, Copy)]
 pub enum Word {
     Module,
     YangVersion,

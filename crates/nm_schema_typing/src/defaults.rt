@@ -9,6 +9,7 @@ ghost use Rattle.nm_schema_typing.specs.Flaws.{AreMeanings};
 ghost use Rattle.nm_schema_typing.specs.Defaults as spec;
 
 use crate::edges::{is_type, is_typed, type_graph};
+use crate::listing::bad_argument;
 use crate::meaning::Meaning;
 use crate::restricting::argument_below;
 use crate::types::Types;
@@ -121,7 +122,7 @@ pub fn default_flaw(
     if is_default(alloc, rows, typedefs, types, parent, text.as_str())? {
         return Ok(None);
     }
-    Ok(Some(Flaw::BadArgument(row.keyword.copy()?)))
+    bad_argument(row)
 }
 
 /// The text of a default, if there is one.

@@ -1,12 +1,15 @@
 //! What is wrong with the `enum` and `bit` statements of types.
 
-ghost use Rattle.std.specs.Prelude.{◌≡◌, ℕ, List, Option, Result, Some, None, IfOk, slice_get, slice_index_or};
+ghost use Rattle.std.specs.Prelude.{◌≡◌, ℕ, List, Option, Result, Some, None, IfOk, map, slice_get, slice_index_or};
 ghost use Rattle.nm_schema_derive.specs.Built.{Derivation};
 ghost use Rattle.nm_schema_derive.specs.Step.{Gives};
 ghost use Rattle.nm_schema_derive.specs.declared.derived.StepFault.{StepFault};
+ghost use Rattle.nm_schema_derive.specs.declared.members.Numbering.TheVariants.{Values, Positions};
+ghost use Rattle.nm_schema_rows.specs.declared.flaw.Flaw.TheVariants.{BadArgument, Duplicate};
 ghost use Rattle.nm_schema_rows.specs.declared.row.Row.{Row};
 ghost use Rattle.nm_schema_rows.specs.Flaw.{text_of};
 ghost use Rattle.nm_schema_typing.specs.Flaws.{AreMeanings};
+ghost use Rattle.nm_schema_typing.specs.Restricting.{listed_at};
 ghost use Rattle.nm_schema_typing.specs.Listing as spec;
 
 use crate::flaws::base_above;
@@ -18,7 +21,7 @@ use nm_schema_rows::{Flaw, Row, Rows, Word};
 use std::alloc::Global;
 
 /// What is wrong with the `enum` or the `bit` statements of a type.
-#[derive(Clone, Copy, Debug)]
+#[derive(Clone, Copy)]
 pub enum Judged {
     Fine,
     /// The type that is restricted takes none.
@@ -28,7 +31,7 @@ pub enum Judged {
 }
 
 /// What is wrong with the `enum` statements and with the `bit` statements of a type.
-#[derive(Clone, Copy, Debug)]
+#[derive(Clone, Copy)]
 pub struct Judgement {
     pub names: Judged,
     pub bits: Judged,
@@ -91,6 +94,20 @@ fn judged_of(numbers: &[usize], made: Result<Derived, StepFault>) -> Result<Judg
     }
 }
 
+// The type that the `enum` or `bit` statements of some rows make of another.
+fn made_of(
+    alloc: Global,
+    rows: &Rows,
+    numbers: &[usize],
+    numbering: &Numbering,
+    base: &Derived,
+) -> Result<Derived, StepFault>
+    ensures { Gives result (spec.with_listed numbering.now base.now (map (listed_at rows.now (spec.numberer numbering.now)) numbers.now)) }
+{
+    let listed = listed_of(alloc, rows, numberer(numbering), numbers)?;
+    with_listed(alloc, numbering, base.copy()?, &listed)
+}
+
 // What is wrong with the `enum` or `bit` statements in a row, if they restrict a type.
 #[tactic(auto, unfolding(crate::specs::Listing::judged_on))]
 fn judged_on(
@@ -106,9 +123,21 @@ fn judged_on(
     if numbers.is_empty() {
         return Ok(Judged::Fine);
     }
-    let listed = listed_of(alloc, rows, numberer(numbering), &numbers)?;
-    let made = with_listed(alloc, numbering, base.copy()?, &listed);
-    judged_of(&numbers, made)
+    judged_of(&numbers, made_of(alloc, rows, &numbers, numbering, base))
+}
+
+// What is wrong with those in a row, if they restrict a type.
+fn judgement_on(
+    alloc: Global,
+    rows: &Rows,
+    at: usize,
+    base: &Derived,
+) -> Result<Judgement, NoMemory>
+    ensures { IfOk result (λ judgement. judgement ≡ record { names = spec.judged_on rows.now at Values base.now; bits = spec.judged_on rows.now at Positions base.now }) }
+{
+    let names = judged_on(alloc, rows, at, &Numbering::Values, base)?;
+    let bits = judged_on(alloc, rows, at, &Numbering::Positions, base)?;
+    Ok(Judgement { names, bits })
 }
 
 // What is wrong with those in the `type` statement of a row, if it is one.
@@ -128,10 +157,7 @@ fn judgement_at(
             names: Judged::Fine,
             bits: Judged::Fine,
         }),
-        Some(base) => Ok(Judgement {
-            names: judged_on(alloc, rows, at, &Numbering::Values, &base)?,
-            bits: judged_on(alloc, rows, at, &Numbering::Positions, &base)?,
-        }),
+        Some(base) => judgement_on(alloc, rows, at, &base),
     }
 }
 
@@ -162,6 +188,20 @@ fn argument_text(alloc: Global, row: &Row) -> Result<Label, NoMemory>
     }
 }
 
+// A second one of a name or a number, by the text of the statement.
+fn duplicate(alloc: Global, row: &Row) -> Result<Option<Flaw>, NoMemory>
+    ensures { IfOk result (λ found. found ≡ Some (Duplicate (text_of row.now.argument))) }
+{
+    Ok(Some(Flaw::Duplicate(argument_text(alloc, row)?)))
+}
+
+// A bad argument, by the keyword of the statement.
+pub(crate) fn bad_argument(row: &Row) -> Result<Option<Flaw>, NoMemory>
+    ensures { IfOk result (λ found. found ≡ Some (BadArgument row.now.keyword)) }
+{
+    Ok(Some(Flaw::BadArgument(row.keyword.copy()?)))
+}
+
 // A flaw told at the `enum` or `bit` statement itself.
 fn own_flaw(
     alloc: Global,
@@ -172,17 +212,17 @@ fn own_flaw(
     ensures { IfOk result (λ found. found ≡ spec.own_flaw row.now numbered flaw) }
 {
     match flaw {
-        ListFlaw::NameRepeated => Ok(Some(Flaw::Duplicate(argument_text(alloc, row)?))),
+        ListFlaw::NameRepeated => duplicate(alloc, row),
         ListFlaw::NumberRepeated => {
             if numbered {
                 return Ok(None);
             }
-            Ok(Some(Flaw::Duplicate(argument_text(alloc, row)?)))
+            duplicate(alloc, row)
         }
         ListFlaw::BadNumber => Ok(None),
         ListFlaw::OtherThanBase => Ok(None),
-        ListFlaw::NoNumberLeft => Ok(Some(Flaw::BadArgument(row.keyword.copy()?))),
-        ListFlaw::NotInBase => Ok(Some(Flaw::BadArgument(row.keyword.copy()?))),
+        ListFlaw::NoNumberLeft => bad_argument(row),
+        ListFlaw::NotInBase => bad_argument(row),
     }
 }
 
@@ -213,9 +253,9 @@ fn number_flaw(alloc: Global, row: &Row, flaw: ListFlaw) -> Result<Option<Flaw>,
 {
     match flaw {
         ListFlaw::NameRepeated => Ok(None),
-        ListFlaw::NumberRepeated => Ok(Some(Flaw::Duplicate(argument_text(alloc, row)?))),
-        ListFlaw::BadNumber => Ok(Some(Flaw::BadArgument(row.keyword.copy()?))),
-        ListFlaw::OtherThanBase => Ok(Some(Flaw::BadArgument(row.keyword.copy()?))),
+        ListFlaw::NumberRepeated => duplicate(alloc, row),
+        ListFlaw::BadNumber => bad_argument(row),
+        ListFlaw::OtherThanBase => bad_argument(row),
         ListFlaw::NoNumberLeft => Ok(None),
         ListFlaw::NotInBase => Ok(None),
     }

@@ -5,7 +5,7 @@ ghost use Rattle.std.specs.Arc.{arc_value};
 ghost use Rattle.nm_schema_derive.specs.Built.{Derivation};
 ghost use Rattle.nm_schema_derive.specs.Step.{Gives};
 ghost use Rattle.nm_schema_derive.specs.declared.derived.StepFault.{StepFault};
-ghost use Rattle.nm_schema_typing.specs.Restricting.{restrictions_in};
+ghost use Rattle.nm_schema_typing.specs.Restricting.{restrictions_in, restrictions_of};
 ghost use Rattle.nm_schema_typing.specs.Flaws.{to_restrict};
 ghost use Rattle.nm_schema_typing.specs.Meaning as spec;
 
@@ -182,13 +182,20 @@ fn is_path(alloc: Global, rows: &Rows, at: usize) -> Result<bool, NoMemory>
     Ok(path.is_some())
 }
 
+// Whether nothing is restricted in a row.
+fn is_bare_at(alloc: Global, rows: &Rows, at: usize) -> Result<bool, NoMemory>
+    ensures { IfOk result (λ is. is ≡ spec.is_unrestricted (restrictions_of rows.now at)) }
+{
+    let restrictions = restrictions_of(alloc, rows, at)?;
+    Ok(is_unrestricted(&restrictions))
+}
+
 // A leafref with its path and no restriction.
 #[tactic(auto, unfolding(crate::specs::Meaning::leafref_at))]
 fn leafref_at(alloc: Global, rows: &Rows, at: usize) -> Result<Option<Meaning>, NoMemory>
     ensures { IfOk result (λ meaning. meaning ≡ spec.leafref_at rows.now at) }
 {
-    let restrictions = restrictions_of(alloc, rows, at)?;
-    if !is_unrestricted(&restrictions) {
+    if !is_bare_at(alloc, rows, at)? {
         return Ok(None);
     }
     let Some(path) = rows.first_below(at, Word::Path) else {
@@ -210,8 +217,7 @@ fn kept_at(alloc: Global, rows: &Rows, at: usize, path: usize) -> Result<Option<
     if rows.first_below(at, Word::Path).is_some() {
         return Ok(None);
     }
-    let restrictions = restrictions_of(alloc, rows, at)?;
-    if !is_unrestricted(&restrictions) {
+    if !is_bare_at(alloc, rows, at)? {
         return Ok(None);
     }
     Ok(Some(Meaning {

@@ -1,8 +1,9 @@
 //! The restrictions that stand in a `type` statement.
 
-ghost use Rattle.std.specs.Prelude.{◌≡◌, IfOk, Some, None, slice_get, map};
+ghost use Rattle.std.specs.Prelude.{◌≡◌, IfOk, OnOk, Some, None, slice_get, map};
 ghost use Rattle.nm_schema_rows.specs.Rows.{has_word};
 ghost use Rattle.nm_schema_rows.specs.Flaw.{text_of};
+ghost use Rattle.nm_schema_rows.specs.declared.word.Word.TheVariants as word;
 ghost use Rattle.nm_schema_typing.specs.Restricting as spec;
 
 use nm_base::{Label, NoMemory};
@@ -127,22 +128,50 @@ fn listed_below(
     listed_of(alloc, rows, number, &numbers)
 }
 
+// Puts the arguments that restrict a type into its restrictions.
+fn put_arguments(rows: &Rows, at: usize, restrictions: &mut Restrictions) -> Result<(), NoMemory>
+    ensures digits { OnOk result (restrictions.new.digits ≡ spec.argument_below rows.now at word.FractionDigits) }
+    ensures range { OnOk result (restrictions.new.range ≡ spec.argument_below rows.now at word.Range) }
+    ensures longest { OnOk result (restrictions.new.length ≡ spec.argument_below rows.now at word.Length) }
+{
+    restrictions.digits = argument_below(rows, at, Word::FractionDigits)?;
+    restrictions.range = argument_below(rows, at, Word::Range)?;
+    restrictions.length = argument_below(rows, at, Word::Length)?;
+    Ok(())
+}
+
+// Puts the `enum` and `bit` statements into its restrictions.
+fn put_listed(
+    alloc: Global,
+    rows: &Rows,
+    at: usize,
+    restrictions: &mut Restrictions,
+) -> Result<(), NoMemory>
+    ensures names { OnOk result (restrictions.new.names.items ≡ map (spec.listed_at rows.now word.Value) (spec.rows_with rows.now at word.Enum)) }
+    ensures bits { OnOk result (restrictions.new.bits.items ≡ map (spec.listed_at rows.now word.Position) (spec.rows_with rows.now at word.Bit)) }
+    ensures digits { OnOk result (restrictions.new.digits ≡ restrictions.old.digits) }
+    ensures range { OnOk result (restrictions.new.range ≡ restrictions.old.range) }
+    ensures longest { OnOk result (restrictions.new.length ≡ restrictions.old.length) }
+{
+    restrictions.names = listed_below(alloc, rows, at, Word::Enum, Word::Value)?;
+    restrictions.bits = listed_below(alloc, rows, at, Word::Bit, Word::Position)?;
+    Ok(())
+}
+
 /// The restrictions that stand directly in a `type` statement, by its row's number (RFC 7950 section 7.4). There are
 /// none past the last row.
 #[tactic(auto, unfolding(crate::specs::Restricting::restrictions_of))]
 pub fn restrictions_of(alloc: Global, rows: &Rows, at: usize) -> Result<Restrictions, NoMemory>
     ensures exact { IfOk result (λ restrictions. spec.restrictions_in restrictions ≡ spec.restrictions_of rows.now at) }
 {
-    let digits = argument_below(rows, at, Word::FractionDigits)?;
-    let range = argument_below(rows, at, Word::Range)?;
-    let length = argument_below(rows, at, Word::Length)?;
-    let names = listed_below(alloc, rows, at, Word::Enum, Word::Value)?;
-    let bits = listed_below(alloc, rows, at, Word::Bit, Word::Position)?;
-    Ok(Restrictions {
-        digits,
-        range,
-        length,
-        names,
-        bits,
-    })
+    let mut restrictions = Restrictions {
+        digits: None,
+        range: None,
+        length: None,
+        names: Vec::new(alloc),
+        bits: Vec::new(alloc),
+    };
+    put_arguments(rows, at, &mut restrictions)?;
+    put_listed(alloc, rows, at, &mut restrictions)?;
+    Ok(restrictions)
 }

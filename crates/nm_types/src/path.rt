@@ -134,7 +134,7 @@ impl Step {
     {
         self.name
             .cmp(&other.name)
-            .then_with(|| self.chosen.order(&other.chosen))
+            .then(self.chosen.order(&other.chosen))
     }
 
     // The order of two steps at the top, where names are printed with their modules.
@@ -145,9 +145,9 @@ impl Step {
         if self.module.same(&other.module) {
             return self.order_in_module(other);
         }
-        order_of_names(&self.module, &self.name, &other.module, &other.name)
-            .then_with(|| self.module.cmp(&other.module))
-            .then_with(|| self.chosen.order(&other.chosen))
+        let names = order_of_names(&self.module, &self.name, &other.module, &other.name);
+        let modules = self.module.cmp(&other.module);
+        names.then(modules.then(self.chosen.order(&other.chosen)))
     }
 }
 
@@ -204,10 +204,10 @@ impl Ord for Step {
 
     #[tactic(auto, unfolding(crate::specs::Path::printed_cmp))]
     fn cmp(&self, other: &Step) -> Ordering {
+        let modules = self.module.cmp(&other.module);
         self.name
             .cmp(&other.name)
-            .then_with(|| self.module.cmp(&other.module))
-            .then_with(|| self.chosen.order(&other.chosen))
+            .then(modules.then(self.chosen.order(&other.chosen)))
     }
 }
 

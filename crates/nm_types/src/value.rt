@@ -2,6 +2,8 @@ ghost use Rattle.std.specs.Prelude.{◌≡◌, ◌↔◌, IsTrue, IfOk, Some, re
 ghost use Rattle.nm_types.specs.Value.{value_rank, value_number, value_digits, value_text, value_cmp, is_same_value};
 ghost use Rattle.nm_types.specs.ValueLaws.{values_equiv, values_total, values_po};
 ghost use Rattle.std.specs.Cmp;
+ghost use Rattle.std.specs.Cmp.Lexicographic.{slice_cmp};
+ghost use Rattle.std.specs.Ordering.{int_cmp, nat_cmp, ordering_then};
 
 use nm_base::{Label, NoMemory};
 use std::cmp::Ordering;
@@ -95,6 +97,15 @@ impl Value {
             _ => "",
         }
     }
+
+    // The order of two values of one kind: by number, then by the digits after the point, then by the bytes of the text.
+    fn order_in_kind(&self, other: &Value) -> Ordering
+        ensures { result ≡ ordering_then (int_cmp (value_number self.now) (value_number other.now)) (ordering_then (nat_cmp (value_digits self.now) (value_digits other.now)) (slice_cmp nat_cmp (value_text self.now) (value_text other.now))) }
+    {
+        let numbers = self.number().cmp(&other.number());
+        let digits = self.digits().cmp(&other.digits());
+        numbers.then(digits.then(self.text().cmp(other.text())))
+    }
 }
 
 impl PartialEq for Value {
@@ -139,9 +150,7 @@ impl Ord for Value {
             _ => self
                 .rank()
                 .cmp(&other.rank())
-                .then_with(|| self.number().cmp(&other.number()))
-                .then_with(|| self.digits().cmp(&other.digits()))
-                .then_with(|| self.text().cmp(other.text())),
+                .then(self.order_in_kind(other)),
         }
     }
 }

@@ -1,3 +1,4 @@
 pub mod Changed
 pub mod Granted
 pub mod Kept
+pub mod Links

@@ -1,7 +1,7 @@
 //! One link: its past exchanges, the one on its way, and whether the device's side is open.
 
-ghost use Rattle.std.specs.Prelude.{◌≡◌, length, true, IsSome, option_copied, IfOk, OnOk, OnErr};
-ghost use Rattle.nm_wire.specs.Link.{session_in, ends, closes};
+ghost use Rattle.std.specs.Prelude.{◌≡◌, ◌<◌, length, vec_capacity, true, IsSome, option_copied, IfOk, OnOk, OnErr};
+ghost use Rattle.nm_wire.specs.Link.{session_in, ends, closes, greatest_number};
 
 use nm_base::{NoMemory, SessionId};
 use nm_proto::{Reply, Request};
@@ -62,12 +62,18 @@ impl Link {
     pub fn begin(alloc: Global, request: Request) -> Result<Link, NoMemory>
         ensures { IfOk result (λ link. link ≡ sent_on request fresh_link) }
     {
-        Ok(Link {
-            past: Vec::with_capacity(alloc, 1)?,
-            way: Way::Asked(request),
-            is_open: true,
-            session: None,
-        })
+        match Vec::with_capacity(alloc, 1) {
+            Ok(past) => Ok(Link {
+                past,
+                way: Way::Asked(request),
+                is_open: true,
+                session: None,
+            }),
+            Err(_) => {
+                drop(request);
+                Err(NoMemory)
+            }
+        }
     }
 
     /// Sends a request. It takes the room for the exchange, so that its delivery and its handling take none.
@@ -78,12 +84,16 @@ impl Link {
         ensures sent { OnOk result (self.new ≡ sent_on request self.old) }
         ensures unchanged { OnErr result (self.new ≡ self.old) }
     {
-        if self.past.len() >= GREATEST_NUMBER as usize {
-            return Err(NoMemory);
+        match make_room(&mut self.past) {
+            Ok(()) => {
+                drop(mem::replace(&mut self.way, Way::Asked(request)));
+                Ok(())
+            }
+            Err(fault) => {
+                drop(request);
+                Err(fault)
+            }
         }
-        self.past.reserve(1)?;
-        self.way = Way::Asked(request);
-        Ok(())
     }
 
     /// The request that isn't delivered, and None exactly where there is none or the device's side is closed.
@@ -108,14 +118,19 @@ impl Link {
         requires outstanding { IsSome (outstanding self.old) }
         ensures { self.new ≡ told_on reply self.old }
     {
-        let Way::Asked(request) = mem::replace(&mut self.way, Way::Quiet) else {
-            return;
+        let request = match mem::replace(&mut self.way, Way::Quiet) {
+            Way::Asked(request) => request,
+            way => {
+                drop(way);
+                drop(reply);
+                return;
+            }
         };
         if self.session.is_none() {
             self.session = session_in(&reply);
         }
         self.is_open = self.is_open && !closes(&request, &reply);
-        self.way = Way::Told(Exchange { request, reply });
+        drop(mem::replace(&mut self.way, Way::Told(Exchange { request, reply })));
     }
 
     /// The exchange whose reply is handled next, where the number is that of its reply.
@@ -134,7 +149,7 @@ impl Link {
     {
         match mem::replace(&mut self.way, Way::Quiet) {
             Way::Told(exchange) => self.past.push_reserved(exchange),
-            way => self.way = way,
+            way => drop(mem::replace(&mut self.way, way)),
         }
     }
 
@@ -169,6 +184,18 @@ impl Link {
     {
         self.session
     }
+}
+
+// Takes the room for one more exchange, where there is a number for its reply.
+fn make_room(past: &mut Vec<Exchange>) -> Result<(), NoMemory>
+    ensures room { OnOk result ((length past.new.items < vec_capacity past.new) × (length past.new.items < greatest_number)) }
+    ensures same { past.new.items ≡ past.old.items }
+{
+    if past.len() >= GREATEST_NUMBER as usize {
+        return Err(NoMemory);
+    }
+    past.reserve(1)?;
+    Ok(())
 }
 
 // The session that a reply opens.

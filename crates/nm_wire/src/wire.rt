@@ -1,6 +1,6 @@
 //! All links of a change set to a device, of which one at most is current.
 
-ghost use Rattle.std.specs.Prelude.{◌≡◌, ◌<◌, ℕ, false, IfSome, IfNone, ◌≢◌, ◌↔◌, ◌≤◌, length, map, take, true, None, Some, IsSome, IsErr, option_copied, IfOk, OnOk, OnErr, is_some};
+ghost use Rattle.std.specs.Prelude.{◌≡◌, ◌<◌, ℕ, if◌then◌else◌, false, IfSome, IfNone, ◌≢◌, ◌↔◌, ◌≤◌, length, map, take, true, None, Some, IsSome, IsErr, option_copied, IfOk, OnOk, OnErr, is_some};
 ghost use Rattle.std.specs.List.{list_any};
 ghost use Rattle.nm_wire.specs.Link.{closed_link, greatest_number};
 ghost use Rattle.nm_wire.specs.Wire.{has_outstanding, AreClosed};
@@ -58,6 +58,7 @@ impl Wire {
         ensures unchanged { OnErr result (self.new ≡ self.old) }
     {
         let Some(number) = self.links().checked_add(1) else {
+            drop(request);
             return Err(NoMemory);
         };
         self.links.push(Link::begin(self.alloc, request)?)?;
@@ -130,9 +131,7 @@ impl Wire {
         };
         let is_last = ends(&exchange.request, &exchange.reply);
         self.links[link as usize - 1].handle();
-        if is_last {
-            self.current = None;
-        }
+        self.current = current_after(self.current, is_last);
         true
     }
 
@@ -242,6 +241,13 @@ impl Wire {
         }
         self.links.get(number as usize - 1)
     }
+}
+
+// The number of the current link once a reply on it was handled: there is none after its last one.
+fn current_after(current: Option<u32>, is_last: bool) -> Option<u32>
+    ensures { result ≡ (if is_last then None else current) }
+{
+    if is_last { None } else { current }
 }
 
 // The device's sides of all links end, of which those before a place have ended.

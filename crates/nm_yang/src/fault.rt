@@ -7,7 +7,7 @@ use nm_base::NoMemory;
 use std::alloc::{AllocError, AllocFailed};
 
 /// What is wrong with the text of a module.
-#[derive(Clone, Copy, Debug, PartialEq, Eq)]
+#[derive(Clone, Copy, PartialEq, Eq)]
 pub enum YangKind {
     /// A quote that is never closed, at the quote that opens.
     UnclosedQuote,
@@ -34,7 +34,7 @@ pub enum YangKind {
 }
 
 /// The first fault of a text that is read forward.
-#[derive(Clone, Copy, Debug, PartialEq, Eq)]
+#[derive(Clone, Copy, PartialEq, Eq)]
 pub enum YangFault {
     /// The text is no module: where, in bytes from 0, and why.
     Bad {

@@ -2,8 +2,8 @@ use Rattle.std.proofs.Common.{◌≡◌, sym, subst}
 use Rattle.std.specs.List.{list_any}
 use Rattle.nm_overlay.proofs.Below.{not_before_itself}
 use Rattle.nm_overlay.proofs.Order.{Place}
+use Rattle.nm_content_place.specs.Walk.{below_after}
 use Rattle.nm_content.specs.Mark.{has_mark, is_mark_of}
-use Rattle.nm_content.specs.Walk.{below_after}
 use Rattle.nm_content.proofs.Walked.{mark_walked}
 use Rattle.nm_content.proofs.mark.has_mark.Goals as goal
 

@@ -2,8 +2,8 @@ use Rattle.std.proofs.Common.{◌≡◌, false, length}
 use Rattle.std.specs.List.{list_all}
 use Rattle.std.specs.Ordering.{is_lt}
 use Rattle.nm_types.specs.Path.{path_cmp}
+use Rattle.nm_content_place.specs.Walk.{below_after}
 use Rattle.nm_content.specs.Mark.{has_marks_of}
-use Rattle.nm_content.specs.Walk.{below_after}
 use Rattle.nm_content.proofs.Walked.{is_marked}
 use Rattle.nm_content.proofs.mark.has_marks_of.Given as goal
 

@@ -1,4 +1,4 @@
-use Rattle.std.proofs.Common.{◌≡◌, ◌∷◌, [], ◌++◌, ◌+◌, drop, sym, ap, ◌∙◌, append-nil, append_assoc}
+use Rattle.std.proofs.Common.{◌∷◌, [], ◌++◌, ◌+◌, drop, sym, ap, ◌∙◌, append-nil, append_assoc}
 use Rattle.std.proofs.lemmas.List.{drop_all}
 use Rattle.nm_path.specs.Spelling.{node_of}
 use Rattle.nm_edit.specs.Rivals.{rivals_at, ousted_from}
@@ -16,12 +16,11 @@ loop-step-preserved c =
     let next = above ++ step ∷ [] in
     let left = drop (i + 1) items in
     let here = rivals_at t above (node_of t next) in
-    let is_next : c.in_ok-front.front ≡ next = c.in_ok-front.ensures ∙ ap (λ s. above ++ s ∷ []) c.in_ok-copy.ensures in
-    let put = c.in_ok-put_rivals.ensures ∙ ap (λ at. nodes ++ rivals_at t above at) (c.node_of-at.ensures.value ∙ ap (node_of t) is_next) in
+    let on = c.in_ok-put_next.ensures in
     record {
       items = c.loop-step.invariant.items;
-      left = ap (λ ns. ns ++ ousted_from t c.in_ok-front.front left) put
-          ∙ ap (λ p. (nodes ++ here) ++ ousted_from t p left) is_next
+      left = ap (λ ns. ns ++ ousted_from t c.put_next.new.above left) on.nodes
+          ∙ ap (λ p. (nodes ++ here) ++ ousted_from t p left) on.above
           ∙ append_assoc nodes here (ousted_from t next left)
           ∙ ap (λ ss. nodes ++ ousted_from t above ss) (sym (one_taken items i step c.loop-step-test.true c.step-item.is))
           ∙ c.loop-step.invariant.left;

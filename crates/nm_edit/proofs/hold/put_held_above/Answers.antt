@@ -1,4 +1,4 @@
-use Rattle.std.proofs.Common.{◌≡◌, ◌∷◌, [], ◌++◌, ◌+◌, drop, sym, ap, ◌∙◌, append-nil, append_assoc}
+use Rattle.std.proofs.Common.{◌∷◌, [], ◌++◌, ◌+◌, drop, sym, ap, ◌∙◌, append-nil, append_assoc}
 use Rattle.std.proofs.lemmas.List.{drop_all}
 use Rattle.nm_edit.specs.Edited.{held_at, held_from}
 use Rattle.nm_edit.proofs.Steps.{one_taken}
@@ -16,11 +16,10 @@ loop-step-preserved g c =
     let next = above ++ step ∷ [] in
     let left = drop (i + 1) items in
     let here = held_at t rows above in
-    let is_next : c.in_ok-above.above ≡ next = c.in_ok-above.ensures ∙ ap (λ s. above ++ s ∷ []) c.in_ok-copy.ensures in
     record {
       items = c.loop-step.invariant.items;
-      left = ap (λ hs. hs ++ held_from t rows c.in_ok-above.above left) c.in_ok-put_held.ensures
-          ∙ ap (λ p. (held ++ here) ++ held_from t rows p left) is_next
+      left = ap (λ hs. hs ++ held_from t rows c.go_on.new.front left) c.in_ok-put_held.ensures
+          ∙ ap (λ p. (held ++ here) ++ held_from t rows p left) c.in_ok-go_on.ensures
           ∙ append_assoc held here (held_from t rows next left)
           ∙ ap (λ ss. held ++ held_from t rows above ss) (sym (one_taken items i step c.loop-step-test.true c.step-item.is))
           ∙ c.loop-step.invariant.left;

@@ -1,4 +1,4 @@
-use Rattle.std.proofs.Common.{◌≡◌, ◌∷◌, [], ◌++◌, ◌+◌, drop, sym, ap, ◌∙◌}
+use Rattle.std.proofs.Common.{◌∷◌, [], ◌++◌, ◌+◌, drop, sym, ap, ◌∙◌}
 use Rattle.std.proofs.lemmas.List.{drop_all}
 use Rattle.std.specs.FinMap.{get}
 use Rattle.nm_edit.specs.Standing.{stepped, standing_from}
@@ -15,11 +15,11 @@ loop-step-preserved c =
     let front = c.loop-step.front in
     let next = front ++ step ∷ [] in
     let left = drop (i + 1) items in
-    let is_next : c.in_ok-front.front ≡ next = c.in_ok-front.ensures ∙ ap (λ s. front ++ s ∷ []) c.in_ok-copy.ensures in
+    let is_next = c.in_ok-go_on.ensures in
     let stands = c.stepped-found.ensures ∙ ap (λ own. stepped own found) (c.get.ensures ∙ ap (get said) is_next) in
     record {
       items = c.loop-step.invariant.items;
-      left = ap (λ s. standing_from said s c.in_ok-front.front left) stands
+      left = ap (λ s. standing_from said s c.go_on.new.front left) stands
           ∙ ap (λ p. standing_from said (stepped (get said next) found) p left) is_next
           ∙ ap (standing_from said found front) (sym (one_taken items i step c.loop-step-test.true c.step-item.is))
           ∙ c.loop-step.invariant.left;

@@ -1,7 +1,9 @@
 use Rattle.std.proofs.Common.{◌≡◌, length, rules, OnOk, subst, sym, ap, ◌∙◌}
 use Rattle.serde_json.specs.View.{view, members_view}
 use Rattle.serde_json.proofs.Views.{view-Object}
+use Rattle.nm_types.specs.Path.{keys}
 use Rattle.nm_json.specs.Spots.{spot_of}
+use Rattle.nm_json.specs.Findings.{bare, step_below}
 use Rattle.nm_edit_json.specs.Around.{around_of}
 use Rattle.nm_edit_json.specs.Findings.{list_item}
 use Rattle.nm_edit_json.proofs.Gathering.{items_step, items_end, members_step, members_end, member_plain, container_all, entry_all, child_ignored, wanted_nowhere, wanted_key, wanted_past}
@@ -45,20 +47,23 @@ read_member-returns-in_ok-note_name-in-None t c =
     c.in-None.ensures c.node_named-at.ensures c.in_ok-note_name-in-None.ensures in
     subst (λ u. OnOk c.read_child.result (c.read_child.new.gathered ≡ u)) whole c.read_child.ensures
 
-pub read_container-returns-in_ok-note_node-in-Object : goal.read_container-returns-in_ok-note_node-in-Object
-read_container-returns-in_ok-note_node-in-Object t c =
+pub read_container-returns-in_ok-path-in-Object : goal.read_container-returns-in_ok-path-in-Object
+read_container-returns-in_ok-path-in-Object t c =
     let is = ap view c.in-Object.is ∙ view-Object c.in-Object.members in
-    let whole = container_all c.args.schema.now (spot_of c.args.spot.now) c.args.presence c.args.held (view c.args.part.now) (members_view c.in-Object.members.entries) c.args.gathered.now c.note_node.new.gathered
-    c.own_said-said.result c.presence_value-value.result c.in_ok-copy-in-Object.field-0 c.in_ok-path-in-Object.path c.held_by.result
-    is c.own_said-said.ensures c.presence_value-value.ensures c.in_ok-path-in-Object.ensures c.in_ok-copy-in-Object.ensures c.held_by.ensures c.in_ok-note_node-in-Object.ensures in
+    let noted = c.in_ok-path-in-Object.ensures in
+    let whole = container_all c.args.schema.now (spot_of c.args.spot.now) c.args.presence c.args.held (view c.args.part.now) (members_view c.in-Object.members.entries) c.args.gathered.now c.note_step.new.gathered
+    c.own_said-said.result c.presence_value-value.result (bare (spot_of c.args.spot.now)) c.in_ok-path-in-Object.path c.held_by.result
+    is c.own_said-said.ensures c.presence_value-value.ensures noted.path (sym noted.path) c.held_by.ensures noted.noted in
     subst (λ u. OnOk c.read_members.result (c.read_members.new.gathered ≡ u)) whole c.read_members.ensures
 
-pub read_entry-returns-in_ok-note_node-in-Object : goal.read_entry-returns-in_ok-note_node-in-Object
-read_entry-returns-in_ok-note_node-in-Object t c =
+pub read_entry-returns-in_ok-path-in-Object : goal.read_entry-returns-in_ok-path-in-Object
+read_entry-returns-in_ok-path-in-Object t c =
     let is = ap view c.in-Object.is ∙ view-Object c.in-Object.members in
-    let keys = c.in_ok-values-in-Object.ensures in
+    let read = c.in_ok-values-in-Object.ensures in
+    let noted = c.in_ok-path-in-Object.ensures in
     let held : c.len.result ≡ length c.in_ok-values-in-Object.values.items = search rules in
+    let at = step_below c.args.spot.now.above.now c.args.spot.now.node.now (keys c.in_ok-values-in-Object.values.items) in
     let whole = entry_all c.args.schema.now (spot_of c.args.spot.now) c.args.keys.now c.args.held (view c.args.part.now) (members_view c.in-Object.members.entries) c.args.gathered.now c.read_keys.new.gathered
-    c.note_node.new.gathered c.own_said-said.result c.in_ok-copy-in-Object.field-0 c.in_ok-path-in-Object.path c.held_by.result c.in_ok-values-in-Object.values.items
-    is keys.values keys.faults (sym held ∙ c.if-len-keys.false) c.in_ok-path-in-Object.ensures c.in_ok-copy-in-Object.ensures c.own_said-said.ensures c.held_by.ensures c.in_ok-note_node-in-Object.ensures in
+    c.note_step.new.gathered c.own_said-said.result at c.in_ok-path-in-Object.path c.held_by.result c.in_ok-values-in-Object.values.items
+    is read.values read.faults (sym held ∙ c.if-len-keys.false) noted.path (sym noted.path) c.own_said-said.ensures c.held_by.ensures noted.noted in
     subst (λ u. OnOk c.read_members.result (c.read_members.new.gathered ≡ u)) whole c.read_members.ensures

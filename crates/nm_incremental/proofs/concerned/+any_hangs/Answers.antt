@@ -1,4 +1,4 @@
-use Rattle.std.proofs.Common.{sym, ap, ◌∙◌}
+use Rattle.std.proofs.Common.{◌≡◌, Bool, IfOk, sym, subst, ap, ◌∙◌}
 use Rattle.std.specs.List.{list_any}
 use Rattle.nm_rules.specs.Places.{chain}
 use Rattle.nm_reads.specs.Reads.{hangs}
@@ -13,5 +13,6 @@ returns-then-here t c =
 pub returns : goal.returns
 returns t c =
     let tree = c.args.schema.now in
-    c.in_ok-is.ensures ∙ ap (λ o. list_any (hangs tree c.args.row.now) (chain tree.nodes o)) c.parent.ensures
-    ∙ passes_above tree c.laws.ensures (hangs tree c.args.row.now) c.in-Some.node c.args.at c.in-Some.is (sym c.in_ok-here.ensures ∙ c.if-here.false)
+    subst (λ (b : Bool). IfOk c.any_hangs.result (λ is. is ≡ b)) (
+    ap (λ o. list_any (hangs tree c.args.row.now) (chain tree.nodes o)) c.parent.ensures
+    ∙ passes_above tree c.laws.ensures (hangs tree c.args.row.now) c.in-Some.node c.args.at c.in-Some.is (sym c.in_ok-here.ensures ∙ c.if-here.false)) c.any_hangs.ensures

@@ -1,4 +1,4 @@
-use Rattle.std.proofs.Common.{Bool, List, ap, sym, ◌∙◌, arith}
+use Rattle.std.proofs.Common.{◌≡◌, Bool, List, IfOk, ap, subst, sym, ◌∙◌, arith}
 use Rattle.nm_types.specs.Path.{PathStep}
 use Rattle.nm_reads.specs.Reads.{holds_reads}
 use Rattle.nm_validate.proofs.InUse.{front_less, some_steps}
@@ -19,10 +19,10 @@ returns t c =
     let path = c.args.path.now in
     let row = c.args.row.now in
     let above = c.in_ok-above.ensures in
-    c.in_ok-is.ensures
-    ∙ ap (λ (b : Bool). open_by tree b c.in_ok-above.above path row) c.in_ok-so_far.ensures
+    subst (λ (b : Bool). IfOk c.open_reads.result (λ is. is ≡ b)) (
+    ap (λ (b : Bool). open_by tree b c.in_ok-above.above path row) c.in_ok-so_far.ensures
     ∙ ap (λ (a : List PathStep). open_by tree (holds_reads tree a row) a path row) above
-    ∙ sym (holds_other tree row path (sym c.is_top.ensures ∙ c.if-is_top.false) (sym c.is_own.ensures ∙ c.if-is_own.false))
+    ∙ sym (holds_other tree row path (sym c.is_top.ensures ∙ c.if-is_top.false) (sym c.is_own.ensures ∙ c.if-is_own.false))) c.open_reads.ensures
 
 pub holds_reads-requires : goal.holds_reads-requires
 holds_reads-requires t c =

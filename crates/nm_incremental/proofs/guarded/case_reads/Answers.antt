@@ -1,4 +1,4 @@
-use Rattle.std.proofs.Common.{◌<◌, ℕ, ap, ◌∙◌, subst}
+use Rattle.std.proofs.Common.{◌≡◌, ◌<◌, ℕ, Bool, IfOk, ap, ◌∙◌, subst}
 use Rattle.std.specs.List.{list_any}
 use Rattle.nm_rules.specs.Cases.{is_in_case, numbers}
 use Rattle.nm_validate.proofs.Below.{any_kept}
@@ -10,14 +10,14 @@ unfolding case_reads
 returns-then-case-cases c =
     let t = c.args.schema.now in
     let lt = subst (λ (n : ℕ). c.args.case < n) c.requires.count c.if-case-cases.true in
-    c.in_ok-there.ensures
-    ∙ ap (list_any (λ (x : ℕ). tells t c.args.above.now x c.args.row.now)) (c.nodes_in.ensures ∙ c.requires.each c.args.case lt)
-    ∙ any_kept (is_in_case t c.args.case) (λ (x : ℕ). tells t c.args.above.now x c.args.row.now) (numbers t.nodes)
+    subst (λ (b : Bool). IfOk c.any_tells.result (λ is. is ≡ b)) (
+    ap (list_any (λ (x : ℕ). tells t c.args.above.now x c.args.row.now)) (c.nodes_in.ensures ∙ c.requires.each c.args.case lt)
+    ∙ any_kept (is_in_case t c.args.case) (λ (x : ℕ). tells t c.args.above.now x c.args.row.now) (numbers t.nodes)) c.any_tells.ensures
 
 pub returns : goal.returns
 unfolding case_reads
 returns c =
     let t = c.args.schema.now in
-    c.in_ok-there-2.ensures
-    ∙ ap (list_any (λ (x : ℕ). tells t c.args.above.now x c.args.row.now)) (c.deref.ensures.value ∙ c.in_ok-nodes.ensures)
-    ∙ any_kept (is_in_case t c.args.case) (λ (x : ℕ). tells t c.args.above.now x c.args.row.now) (numbers t.nodes)
+    subst (λ (b : Bool). IfOk c.any_tells-2.result (λ is. is ≡ b)) (
+    ap (list_any (λ (x : ℕ). tells t c.args.above.now x c.args.row.now)) (c.deref.ensures.value ∙ c.in_ok-nodes.ensures)
+    ∙ any_kept (is_in_case t c.args.case) (λ (x : ℕ). tells t c.args.above.now x c.args.row.now) (numbers t.nodes)) c.any_tells-2.ensures

@@ -1,4 +1,4 @@
-use Rattle.std.proofs.Common.{Bool, List, ap, sym, ◌∙◌}
+use Rattle.std.proofs.Common.{◌≡◌, Bool, List, IfOk, ap, subst, sym, ◌∙◌}
 use Rattle.nm_types.specs.Path.{PathStep}
 use Rattle.nm_reads.specs.Reads.{holds_reads}
 use Rattle.nm_incremental.specs.Guarded.{open_by}
@@ -13,7 +13,7 @@ returns c =
     let tree = c.args.schema.now in
     let path = c.args.path.now in
     let row = c.args.row.now in
-    c.in_ok-is.ensures
-    ∙ ap (λ (b : Bool). open_by tree b c.in_ok-above.above path row) c.in_ok-so_far.ensures
+    subst (λ (b : Bool). IfOk c.open_reads.result (λ is. is ≡ b)) (
+    ap (λ (b : Bool). open_by tree b c.in_ok-above.above path row) c.in_ok-so_far.ensures
     ∙ ap (λ (a : List PathStep). open_by tree (holds_reads tree a row) a path row) c.in_ok-above.ensures
-    ∙ sym (stands_other tree row path (sym c.is_top.ensures ∙ c.if-is_top.false))
+    ∙ sym (stands_other tree row path (sym c.is_top.ensures ∙ c.if-is_top.false))) c.open_reads.ensures

@@ -134,22 +134,22 @@ write_members-groups-preserved t c =
     let rows = c.rows_from-in-Some-split_first.result.now in
     let again = c.rows_from-in-Some-split_first.ensures.value in
     let rows_are = again ∙ sym c.rows_from.ensures.value ∙ c.in-Some-split_first.ensures.cases.0 in
-    let q = c.as_str-in-Some-split_first.ensures in
-    let late = ap (spec.is_later c.groups.last) (sym c.as_str.ensures) ∙ sym c.is_later.ensures ∙ c.if-not-is_later.false in
-    let text = c.in_ok-left.ensures.text ∙ ap (λ n. c.groups.out ++ spec.front (spec.taken nodes n ks vs)) q in
+    let q = c.as_str.ensures in
+    let kept = c.groups.out ++ spec.front (spec.taken nodes name ks vs) in
     let over = c.in_ok-left.ensures.left ∙ ap (λ n. spec.left_over nodes n ks vs) q in
     let before = ap (λ n. spec.is_before_all nodes n left.0.now) (sym q) ∙ c.in_ok-left.ensures.later in
-    let named = c.in_ok-key.ensures ∙ ap (λ n. c.write_before.new.out ++ Token.key n ∷ []) c.as_str-in-Some-split_first-2.ensures in (
+    let named = c.in_ok-left.ensures.text ∙ ap (λ n. (c.groups.out ++ spec.front (spec.taken nodes n ks vs)) ++ Token.key n ∷ []) q in (
       group_passed deref_pair schema c.args.place c.args.depth _ _ _ _ ks vs left.0.now left.1.now c.groups.done (1 + k) k c.args.rows.now rows c.in-Some-split_first.row.now
-          c.in-Some-split_first.more.now c.rows_to.result.now c.in-Some-split_first-2.step.now c.in-Some-split_first-2.field-0-1.now name c.write_before.new.out c.key.new.self c.write_group.new.out c.groups.invariant.0 again
-          refl rows_are (sym c.steps_from.ensures ∙ c.in-Some-split_first-2.ensures.cases.0) c.alike_count-count.ensures.value c.rows_to.ensures c.in_ok-name.ensures late text over before named c.in_ok-write_group.ensures,
+          c.in-Some-split_first.more.now c.rows_to.result.now c.in-Some-split_first-2.step.now c.in-Some-split_first-2.field-0-1.now name kept c.begin_member.new.out c.write_group.new.out c.groups.invariant.0 again
+          refl rows_are (sym c.steps_from.ensures ∙ c.in-Some-split_first-2.ensures.cases.0) c.alike_count-count.ensures.value c.rows_to.ensures c.in_ok-name.ensures.named c.in_ok-name.ensures.later refl over before named c.in_ok-write_group.ensures,
       omega (arith, c.groups.invariant.1, c.rows_from.ensures.within c.groups.invariant.1, c.in-Some-split_first.ensures.cases.1, c.alike_count-count.ensures.within),
     )
 
 pub write_members-returns : goal.write_members-returns
 write_members-returns t c =
     let none = ap (λ xs. spec.rests c.args.depth (each deref_pair xs)) (sym c.rows_from.ensures.value ∙ nil_from_length c.rows_from.result.now c.in_default-split_first.ensures.cases) in
-    subst (λ u. OnOk c.end_object.result (c.end_object.new.self ≡ u)) (passed_end c.args.schema.now c.args.place _ c.args.out.now c.groups.out c.groups.last _ _ c.groups.invariant.0 none c.write_held.new.out c.in_ok-write_held.ensures) c.end_object.ensures
+    let kept = c.groups.out ++ spec.front (spec.held c.args.schema.now.nodes c.groups.keys_left.now c.groups.values_left.now) in
+    subst (λ u. OnOk c.end_members.result (c.end_members.new.out ≡ u)) (passed_end c.args.schema.now c.args.place _ c.args.out.now c.groups.out c.groups.last _ _ c.groups.invariant.0 none kept refl) c.end_members.ensures
 
 pub write_whole-returns : goal.write_whole-returns
 write_whole-returns t c =

@@ -1,8 +1,11 @@
 use Rattle.std.proofs.Common.{◌≤◌, ◌<◌, length, arith}
 use Rattle.nm_network.specs.Drain.{leave_on, leave_of}
 use Rattle.nm_network.proofs.Loops.{nowhere}
-use Rattle.nm_network.proofs.Searches.{found_at, not_at}
+use Rattle.nm_network.proofs.Searches.{from_start, found_at, not_at}
 use Rattle.nm_network.proofs.search.leave_of.Goals as goal
+
+pub loop-place-init : goal.loop-place-init
+loop-place-init g c = from_start (leave_on c.args.devices.now c.args.operators.now c.args.number) (length c.args.devices.now)
 
 pub returns-in-Some : goal.returns-in-Some
 unfolding leave_of

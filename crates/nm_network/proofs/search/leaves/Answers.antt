@@ -1,8 +1,11 @@
 use Rattle.std.proofs.Common.{◌≤◌, ◌<◌, ◌+◌, length, refl, arith}
 use Rattle.nm_network.specs.Drain.{leave_of, leaves}
 use Rattle.nm_network.proofs.Loops.{nowhere}
-use Rattle.nm_network.proofs.Searches.{found_at, not_at}
+use Rattle.nm_network.proofs.Searches.{from_start, found_at, not_at}
 use Rattle.nm_network.proofs.search.leaves.Goals as goal
+
+pub loop-place-init : goal.loop-place-init
+loop-place-init g c = from_start (leave_of c.args.devices.now c.args.operators.now) (length c.args.operators.now)
 
 pub returns-in-Some : goal.returns-in-Some
 returns-in-Some g c =

@@ -2,8 +2,11 @@ use Rattle.std.proofs.Common.{◌≤◌, ◌<◌, ◌≡◌, length, ap, arith}
 use Rattle.nm_network.specs.declared.drain.Rule.TheVariants as rules
 use Rattle.nm_network.specs.Drain.{at_devices, loses_links}
 use Rattle.nm_network.proofs.Loops.{nowhere}
-use Rattle.nm_network.proofs.Searches.{found_at, not_at}
+use Rattle.nm_network.proofs.Searches.{from_start, found_at, not_at}
 use Rattle.nm_network.proofs.search.loses_links.Goals as goal
+
+pub loop-place-init : goal.loop-place-init
+loop-place-init g c = from_start (at_devices c.args.devices.now c.args.manager.now.state rules.Lose) (length c.args.manager.now.plans)
 
 pub returns-in-Some : goal.returns-in-Some
 returns-in-Some g c =

@@ -35,7 +35,7 @@ rows-preserved g c =
     let gone = c.rows.gone.items in
     let next = sym c.next_after.ensures ∙ ap option_copied c.in-Some.is in
     let left = filter (is_under node) (come (Some n) (entries (g.M.RowMap.rows c.args.base.now))) in
-    let pushed = c.in_ok-push.ensures.items ∙ ap (λ (p : Place). gone ++ gone_at p ∷ []) c.in_ok-copy.ensures in
+    let pushed = c.in_ok-put_gone.ensures in
     let on = walk_in (g.M.RowMap.rows c.args.base.now) node c.rows.passed.now c.rows.invariant.behind n next (sym c.is_under.ensures ∙ c.if-not-is_under.false) in
     record {
       told = ap (λ (l : List Pair). l ++ each gone_at left) pushed ∙ append_assoc gone (gone_at n ∷ []) (each gone_at left)

@@ -1,5 +1,6 @@
-use Rattle.std.proofs.Common.{◌++◌, ap, sym, ◌∙◌, map as each}
+use Rattle.std.proofs.Common.{◌++◌, drop, refl, ap, sym, ◌∙◌, map as each}
 use Rattle.std.specs.Map.Iter.{deref_pair}
+use Rattle.nm_overlay.specs.Places.{front, is_before, rows_before}
 use Rattle.nm_overlay.proofs.Merge.{merged, merged-entries, merge_turn}
 use Rattle.nm_overlay.proofs.rows.list.Goals as goal
 
@@ -11,6 +12,9 @@ loop-path-init c =
 
 pub loop-path-preserved : goal.loop-path-preserved
 loop-path-preserved c =
-    merge_turn (each deref_pair c.loop-path.all.items) (each deref_pair c.list_before.new.all.items) (each deref_pair c.list_row.new.all.items) (c.in-Some.path.now, c.in-Some.value.now) c.next.new.self
-    c.loop-path.rest.now c.in_ok-rest.rest.now c.in_ok-rest-2.rest.now c.in_ok-rest.ensures.rest c.in_ok-rest.ensures.items c.in_ok-rest-2.ensures.rest c.in_ok-rest-2.ensures.items _
+    let path = c.in-Some.path.now in
+    let all = each deref_pair c.loop-path.all.items in
+    let pairs = c.loop-path.rest.now in
+    merge_turn all (all ++ rows_before path pairs) (each deref_pair c.list_turn.new.all.items) (path, c.in-Some.value.now) c.next.new.self
+    pairs (drop (front (is_before path) pairs) pairs) c.in_ok-rest.rest.now refl refl c.in_ok-rest.ensures.rest c.in_ok-rest.ensures.items _
     (ap (λ l. each deref_pair c.loop-path.all.items ++ merged l c.loop-path.rest.now) (sym c.in-Some.ensures.steps) ∙ c.loop-path.invariant)

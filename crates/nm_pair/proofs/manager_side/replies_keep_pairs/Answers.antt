@@ -1,7 +1,7 @@
 use Rattle.std.proofs.Common.{sym, subst}
 use Rattle.nm_wire.specs.Wire.{handled_at}
 use Rattle.nm_pair.specs.Pair.{PairHolds}
-use Rattle.nm_decider.specs.Stages.{learnt}
+use Rattle.nm_decider_stage.specs.Stages.{learnt}
 use Rattle.std.proofs.Common.{None, Some}
 use Rattle.nm_pair.proofs.Wires.{due_is}
 use Rattle.nm_pair.proofs.Handled.{handled_pair, resynced_pair}

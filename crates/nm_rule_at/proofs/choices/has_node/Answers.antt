@@ -1,4 +1,4 @@
-use Rattle.std.proofs.Common.{ap, ◌∙◌}
+use Rattle.std.proofs.Common.{◌≡◌, Bool, IfOk, ap, subst, ◌∙◌}
 use Rattle.std.specs.List.{list_any}
 use Rattle.nm_rules.specs.Cases.{exists_at, numbers}
 use Rattle.nm_rules.specs.Violated.{has_node, is_of_choice}
@@ -10,4 +10,5 @@ unfolding has_node
 returns g c =
     let t = c.args.schema.now in
     let there = exists_at t (g.M.RowMap.rows c.args.config.now) c.args.above.now in
-    c.in_ok-there.ensures ∙ ap (list_any there) (c.nodes_in.ensures ∙ c.requires.choices.each c.args.at c.requires.within) ∙ any_kept (is_of_choice t c.args.at) there (numbers t.nodes)
+    subst (λ (b : Bool). IfOk c.any_at.result (λ has. has ≡ b))
+    (ap (list_any there) (c.nodes_in.ensures ∙ c.requires.choices.each c.args.at c.requires.within) ∙ any_kept (is_of_choice t c.args.at) there (numbers t.nodes)) c.any_at.ensures

@@ -2,9 +2,12 @@ use Rattle.std.proofs.Common.{◌≡◌, ◌∙◌, ap, length, List, None, arit
 use Rattle.nm_schema_expansion.specs.declared.instance.Instance.{Instance}
 use Rattle.nm_schema_expansion.specs.Expansion.{Expanded}
 use Rattle.nm_schema_leafref.specs.Walk.{led_to}
-use Rattle.nm_schema_leafref.proofs.Lists.{lists_all}
+use Rattle.nm_schema_leafref.proofs.Lists.{lists_more, lists_all}
 use Rattle.nm_schema_leafref.proofs.Targets.{led_to-past}
 use Rattle.nm_schema_leafref.proofs.leds.leds.Goals as goal
+
+pub loop-node-preserved : goal.loop-node-preserved
+loop-node-preserved c = rw c.in_ok-push.ensures.items (lists_more (led_to c.args.scene.now.typedefs c.args.scene.now.tree) None c.loop-node.node c.loop-node.leds.items c.led_to.result c.loop-node.invariant c.led_to.ensures)
 
 pub returns-clause-exact : goal.returns-clause-exact
 returns-clause-exact c =

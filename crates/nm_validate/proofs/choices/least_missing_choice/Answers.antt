@@ -1,9 +1,17 @@
-use Rattle.std.proofs.Common.{◌≡◌, ◌<◌, ◌-◌, length, ap, ◌∙◌, arith}
+use Rattle.nm_validate.specs.Least.{least_with}
+use Rattle.std.specs.List.{flat_map, range_with_len}
+use Rattle.std.proofs.Common.{◌≡◌, ◌<◌, ◌-◌, length, ap, ◌∙◌, arith, None}
 use Rattle.nm_validate.specs.Tables.{nodes_in}
 use Rattle.nm_validate.specs.Choosing.{missing_places}
 use Rattle.nm_validate.proofs.Leasts.{turn_all}
 use Rattle.nm_validate.proofs.Choosing.{all_choices}
 use Rattle.nm_validate.proofs.choices.least_missing_choice.Goals as goal
+
+pub loop-at-init : goal.loop-at-init
+loop-at-init g c =
+    let n = length c.args.schema.now.choices in
+    let all : n - 0 ≡ n = omega arith in
+    ap (λ k. least_with None (flat_map (missing_places c.args.schema.now (g.M.RowMap.rows c.args.config.now)) (range_with_len 0 k))) all
 
 pub least_at_choice-requires-clause-nodes : goal.least_at_choice-requires-clause-nodes
 least_at_choice-requires-clause-nodes g c =

@@ -1,10 +1,19 @@
-use Rattle.std.proofs.Common.{◌≡◌, ◌<◌, ◌-◌, length, refl, ◌∙◌, arith}
+use Rattle.nm_validate.specs.Least.{least_with}
+use Rattle.std.specs.List.{flat_map, range_with_len}
+use Rattle.std.specs.Prelude.{filter}
+use Rattle.std.proofs.Common.{◌≡◌, ◌<◌, ◌-◌, length, refl, ◌∙◌, arith, ap, None}
 use Rattle.nm_rules.specs.declared.rule.Rule.TheVariants.{Mandatory}
 use Rattle.nm_rules.specs.Places.{places}
 use Rattle.nm_rules.specs.Violated.{violated}
 use Rattle.nm_validate.proofs.Leasts.{turn}
 use Rattle.nm_validate.proofs.Loops.{all_looked}
 use Rattle.nm_validate.proofs.leafs.least_missing_leaf.Goals as goal
+
+pub loop-at-init : goal.loop-at-init
+loop-at-init g c =
+    let n = length c.args.schema.now.nodes in
+    let all : n - 0 ≡ n = omega arith in
+    ap (λ k. least_with None (filter (violated c.args.schema.now (g.M.RowMap.rows c.args.config.now) Mandatory) (flat_map (places c.args.schema.now (g.M.RowMap.rows c.args.config.now)) (range_with_len 0 k)))) all
 
 pub loop-at-preserved : goal.loop-at-preserved
 loop-at-preserved g c =

@@ -15,11 +15,11 @@ clashes_of-requires c = subst (λ (r : List Row). AreNamed r c.args.definitions.
 pub invariant_of-result : goal.invariant_of-result
 invariant_of-result c =
     let named = c.args.definitions.now in
-    are_grounds c.args.names.now named c.args.shape.now c.in_ok-clashes.clashes c.args.expansion.now c.in_ok-types.types c.in_ok-judgements.judgements.items c.in_ok-defaults.defaults c.in_ok-leafrefs.leafrefs c.in_ok-keys.keys.items
-    c.in_ok-cycle.cycle c.configured.result.now c.in_state.result.now c.in_ok-is_key.is_key.items c.in_ok-flawed_uniques.flawed_uniques.items
+    are_grounds c.args.names.now named c.args.shape.now c.in_ok-clashes.clashes c.args.expansion.now c.in_ok-typed.typed.types c.in_ok-typed.typed.judgements.items c.in_ok-typed.typed.defaults c.in_ok-leafrefs.leafrefs c.in_ok-keyed.keyed.keys.items
+    c.in_ok-cycle.cycle c.configured.result.now c.in_state.result.now c.in_ok-keyed.keyed.is_key.items c.in_ok-keyed.keyed.flawed_uniques.items
     c.requires.definitions c.requires.shape (c.in_ok-clashes.ensures ∙ ap (λ (r : List Row). outline r named) c.rows-rows.ensures) c.requires.expansion.0 c.requires.expansion.1
-    (subst (λ (r : List Row). AreMeanings r named c.in_ok-types.types.meanings) c.rows-rows.ensures c.in_ok-types.ensures.meanings)
-    (subst (λ (r : List Row). AreJudgements r named c.in_ok-judgements.judgements.items) c.rows-rows.ensures c.in_ok-judgements.ensures.exact)
-    (subst (λ (r : List Row). (i : ℕ) → joined (slice_index_or c.in_ok-defaults.defaults i None) ≡ default_of r named i) c.rows-rows.ensures c.in_ok-defaults.ensures.exact)
-    c.in_ok-leafrefs.ensures.leafrefs c.in_ok-keys.ensures c.in_ok-is_key.ensures.marks c.in_ok-flawed_uniques.ensures.marks c.configured.ensures.marks c.in_state.ensures.marks c.in_ok-cycle.ensures c.laws.ensures
-    c.configured.ensures.size c.in_state.ensures.size c.in_ok-is_key.ensures.size c.in_ok-leafrefs.ensures.size
+    (subst (λ (r : List Row). AreMeanings r named c.in_ok-typed.typed.types.meanings) c.rows-rows.ensures c.in_ok-typed.ensures.meanings)
+    (subst (λ (r : List Row). AreJudgements r named c.in_ok-typed.typed.judgements.items) c.rows-rows.ensures c.in_ok-typed.ensures.judgements)
+    (subst (λ (r : List Row). (i : ℕ) → joined (slice_index_or c.in_ok-typed.typed.defaults i None) ≡ default_of r named i) c.rows-rows.ensures c.in_ok-typed.ensures.defaults)
+    c.in_ok-leafrefs.ensures.leafrefs c.in_ok-keyed.ensures.keys c.in_ok-keyed.ensures.marks c.in_ok-keyed.ensures.flawed c.configured.ensures.marks c.in_state.ensures.marks c.in_ok-cycle.ensures c.laws.ensures
+    c.configured.ensures.size c.in_state.ensures.size c.in_ok-keyed.ensures.size c.in_ok-leafrefs.ensures.size

@@ -1,0 +1,125 @@
+use nm_base::{EditNo, Label, NoMemory};
+use nm_proto::{Event, Request};
+use nm_scenario::{Scenario, read_scenario};
+use nm_scenario_events::{Counts, Events, edit_number};
+use nm_scenario_form::{Reader, Unbuilt};
+use nm_scenario_parts::pointer::write_place;
+use nm_scenario_parts::{ReadError, Step};
+use serde_json::Value;
+use std::alloc::Global;
+use std::test::Fail;
+
+/// The first fault as `bad-value /changes/0`; the place of the whole is `/`.
+pub fn error_text(alloc: Global, error: ReadError) -> Result<Vec<u8>, Fail> {
+    let ReadError::Bad(fault) = error else {
+        return Err(Fail::new("memory ran out"));
+    };
+    let mut text = format!(in alloc; "{} ", fault.cause.kind.word())?.into_bytes();
+    write_place(alloc, &mut text, fault.place.as_slice())?;
+    Ok(text)
+}
+
+/// The value of a text.
+pub fn parsed(alloc: Global, text: &str) -> Result<Value, Fail> {
+    match Value::from_slice(alloc, text.as_bytes()) {
+        Ok(value) => Ok(value),
+        Err(_) => Err(Fail::new("no JSON")),
+    }
+}
+
+// Edits that aren't built are told where they stand, whatever they are.
+#[test]
+fn unbuilt_edits_are_told(rt: HostRuntime) -> Result<(), Fail> {
+    let alloc = rt.alloc();
+    let counts = Counts {
+        changes: 0,
+        devices: 1,
+        operators: 1,
+    };
+    let events = Events {
+        counts: &counts,
+        edits: &Unbuilt,
+    };
+    let whole = parsed(alloc, r#"[["foreign",1,1,["edit",{"edit":5}]]]"#)?;
+    let Err(error) = events.read(alloc, &whole) else {
+        return Err(Fail::new("read"));
+    };
+    assert!(rt; error_text(alloc, error)?.as_slice() == b"not-built /0/3/1/edit".as_slice());
+    Ok(())
+}
+
+// The user whose session the first event opens.
+fn first_user(scenario: &Scenario) -> Option<&str> {
+    match scenario.events.get(0)? {
+        Event::Foreign {
+            request: Request::OpenSession { user },
+            ..
+        } => Some(user.as_str()),
+        _ => None,
+    }
+}
+
+const OPERATED: &str =
+    r#"{"netm":1,"contents":"flat","devices":[{"running":{}}],"operators":[{"user":"ann"},{"user":"bob"}],"events":[["foreign",2,1,["open"]]]}"#;
+
+// A session has the name of its operator's user.
+#[test]
+fn sessions_have_users(rt: HostRuntime) -> Result<(), Fail> {
+    let Ok(scenario) = read_scenario(rt.alloc(), OPERATED.as_bytes()) else {
+        return Err(Fail::new("refused"));
+    };
+    assert!(rt; first_user(&scenario) == Some("bob"));
+    Ok(())
+}
+
+// An edit's number has 32 bits.
+#[test]
+fn edits_have_numbers(rt: HostRuntime) {
+    assert!(rt; edit_number(4, 5) == Ok(EditNo(9)) && edit_number(1, usize::MAX) == Err(NoMemory));
+}
+
+fn written(alloc: Global, place: &[Step]) -> Result<Vec<u8>, Fail> {
+    let mut out = Vec::from_slice(alloc, b"at ")?;
+    write_place(alloc, &mut out, place)?;
+    Ok(out)
+}
+
+// Fails where this isn't written of names in one another.
+fn names_are_written(alloc: Global, names: &str, want: &str) -> Result<(), Fail> {
+    let mut place = Vec::new(alloc);
+    for name in names.split(' ') {
+        place.push(Step::Name(Label::new(alloc, name)?))?;
+    }
+    if written(alloc, place.as_slice())?.as_slice() == want.as_bytes() {
+        return Ok(());
+    }
+    Err(Fail::new(want))
+}
+
+// Names stand in one another in no scenario, and no list has so many items.
+#[test]
+fn places_are_written(rt: HostRuntime) -> Result<(), Fail> {
+    let alloc = rt.alloc();
+    names_are_written(alloc, "0 -", "at /0/-")?;
+    names_are_written(alloc, "a  b", "at /a//b")?;
+    let items = [Step::Item(10), Step::Item(4294967295)];
+    assert!(rt; written(alloc, &items)?.as_slice() == b"at /10/4294967295".as_slice());
+    Ok(())
+}
+
+fn length_of_tens(alloc: Global, steps: usize) -> Result<usize, Fail> {
+    let mut place = Vec::new(alloc);
+    for _ in 0..steps {
+        place.push(Step::Item(10))?;
+    }
+    Ok(written(alloc, place.as_slice())?.len())
+}
+
+// Steps of three bytes each, behind `at `: 1365 of them make 4095 bytes, and a pointer has at most 4096.
+#[test]
+fn long_ways_are_cut(rt: HostRuntime) -> Result<(), Fail> {
+    assert!(rt; length_of_tens(rt.alloc(), 1365)? == 4098);
+    assert!(rt; length_of_tens(rt.alloc(), 1366)? == 4099);
+    assert!(rt; length_of_tens(rt.alloc(), 2000)? == 4099);
+    Ok(())
+}
