@@ -1,3 +1,4 @@
+-- Words that every layer cites: bytes and numbers, masks of devices and change sets, tags, decimals and tokens.
 pub mod Words
 pub mod Count
 pub mod Numbers

@@ -1,3 +1,5 @@
+//! Numbers as digits, read and written: apart, since journals of names, tokens and texts all spell them alike.
+
 ghost use Rattle.std.specs.Prelude.{◌≡◌, ℕ, ◌++◌, ◌<◌, ◌^◌, Some, IfSome, OnOk, OnErr, decimal};
 ghost use Rattle.nm_base.specs.Decimal.{digits_after, number_of};
 

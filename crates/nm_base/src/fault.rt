@@ -1,3 +1,5 @@
+//! The two faults that any crate may answer and that say nothing of its own matter: no memory, and a failure outside.
+
 use std::alloc::{AllocError, AllocFailed};
 use std::error::Error;
 use std::fmt;

@@ -1,3 +1,5 @@
+//! Sets of devices and of change sets as bits: small enough to be copied, compared and written as one number.
+
 ghost use Rattle.std.specs.Prelude.{◌≡◌, ℕ, ◌↔◌, IsNone, IfSome};
 ghost use Rattle.nm_base.specs.Mask.{mask_contains, AddsToMask, TakesFromMask, IsLeastInMask};
 

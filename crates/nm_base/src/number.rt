@@ -1,3 +1,5 @@
+//! The numbers that name things, each a type of its own with its range, so that one isn't taken for another.
+
 ghost use Rattle.std.specs.Prelude.{◌≡◌, ℕ, ◌≤◌, ◌^◌, ◌<◌, ◌↔◌, IsSome, IfSome};
 
 use std::marker::Model;

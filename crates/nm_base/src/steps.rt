@@ -1,3 +1,5 @@
+//! A counter that takes no bytes: code counts with it what its clauses bound.
+
 ghost use Rattle.std.specs.Prelude.{◌≡◌, ◌+◌, ◌<◌, ℕ};
 
 use std::marker::Model;

@@ -1,3 +1,5 @@
+//! The error tags, in one place with the names that replies and texts have for them.
+
 ghost use Rattle.std.specs.Prelude.{◌≡◌, ◌↔◌, ℕ, IsTrue, IsNone, IfSome, IfNone, ◌≢◌, Some};
 
 use std::fmt;

@@ -1,3 +1,5 @@
+//! Persist tokens (RFC 6241 section 8.4): which are the manager's, and that each change set has one of its own.
+
 ghost use Rattle.std.specs.Prelude.{◌≡◌, ℕ, ◌<◌, ◌^◌, ◌==◌, true, IfOk};
 ghost use Rattle.std.specs.Str.{bytes_eq};
 ghost use Rattle.nm_base.specs.Token.{is_reserved, token_of};

@@ -5,13 +5,12 @@ ghost use Rattle.nm_proto.specs.Fault.{IsPlan};
 
 use nm_base::{DeviceNo, EditNo, Label, NoMemory};
 use nm_cells::{CellState, Pass};
-use nm_chronicle::{CellShare, Chronicle, Shares, SlotShares};
+use nm_chronicle::{CellShare, Chronicle, RunName, RunPlans, Shares, SlotShares};
 use nm_device::Device;
+use nm_flat::{FlatConfig, FlatContent, FlatEdit, NumberMap};
 use nm_history::Noted;
-use nm_plan::{RunName, RunPlans};
 use nm_proto::{
-    ChangePlan, Content, DefaultOperation, FlatConfig, FlatContent, FlatEdit, Listed, NumberMap,
-    PlanEntry, PlannedEdit, Request, Store,
+    ChangePlan, Content, DefaultOperation, Listed, PlanEntry, PlannedEdit, Request, Store,
 };
 use std::alloc::Global;
 use std::sync::Mutex;

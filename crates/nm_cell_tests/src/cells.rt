@@ -1,18 +1,16 @@
 ghost use Rattle.std.specs.Prelude.{◌≡◌, ◌+◌, true, Some, IfOk, ◌∷◌, [], length};
 ghost use Rattle.std.specs.List.{All};
 ghost use Rattle.nm_proto.specs.Fault.{IsPlan};
-ghost use Rattle.nm_proto.specs.FlatContent.{flat_meaning};
+ghost use Rattle.nm_flat.specs.FlatContent.{flat_meaning};
 ghost use Rattle.nm_cells.specs.Pass.{is_operator};
 
 use crate::begun::{Begun, begin, change_plan, is_found, lock_running, open, seven};
 use nm_base::{ChangeNo, SessionId};
 use nm_cells::{Asked, Faults, Pass, PassOwner};
+use nm_chronicle::RunName;
+use nm_flat::{FlatConfig, FlatContent, FlatEdit};
 use nm_history::{DeviceEvent, Noted};
-use nm_plan::RunName;
-use nm_proto::{
-    ChangePlan, FlatConfig, FlatContent, FlatEdit, Listed, PlanEntry, PlanFault, Reply, Request,
-    Tables,
-};
+use nm_proto::{ChangePlan, Listed, PlanEntry, PlanFault, Reply, Request, Tables};
 use std::alloc::Global;
 use std::marker::Brand;
 use std::sync::Wait;

@@ -1,8 +1,7 @@
 ghost use Rattle.std.specs.Prelude.{◌≡◌, ◌+◌, length};
 
 use nm_base::{ChangeNo, DeviceNo, EditNo};
-use nm_chronicle::*;
-use nm_plan::RunPlans;
+use nm_chronicle::{RunPlans, *};
 use nm_proto::{ChangePlan, DefaultOperation, Listed, PlannedEdit, Verdict};
 use std::alloc::Global;
 use std::marker::Brand;

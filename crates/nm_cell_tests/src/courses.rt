@@ -3,16 +3,15 @@
 ghost use Rattle.std.specs.Prelude.{◌≡◌, ◌≤◌, ◌+◌, Some, IfOk, ◌∷◌, [], length};
 ghost use Rattle.std.specs.List.{All};
 ghost use Rattle.nm_proto.specs.Fault.{IsPlan};
-ghost use Rattle.nm_proto.specs.FlatContent.{flat_meaning};
+ghost use Rattle.nm_flat.specs.FlatContent.{flat_meaning};
 
 use crate::begun::{Begun, begin, change_plan, lock_running, open, seven};
 use nm_base::{ChangeNo, DeviceNo, EditNo, Label, NoMemory, SessionId};
 use nm_cells::{Asked, Pass, PassOwner};
-use nm_chronicle::{Board, Chronicle, SlotShares};
-use nm_plan::{RunName, RunPlans};
+use nm_chronicle::{Board, Chronicle, RunName, RunPlans, SlotShares};
+use nm_flat::{FlatConfig, FlatContent, FlatEdit};
 use nm_proto::{
-    ChangePlan, DefaultOperation, FlatConfig, FlatContent, FlatEdit, Listed, PlanEntry, PlanFault,
-    Request, Store, Tables,
+    ChangePlan, DefaultOperation, Listed, PlanEntry, PlanFault, Request, Store, Tables,
 };
 use std::alloc::Global;
 use std::marker::Brand;

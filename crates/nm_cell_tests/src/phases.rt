@@ -1,10 +1,8 @@
 ghost use Rattle.std.specs.Prelude.{◌≡◌, ◌+◌, ◌∷◌, [], length};
 
 use nm_base::{ChangeNo, DeviceNo, EditNo, Label, SessionId, Tag};
-use nm_chronicle::{BookShare, Chronicle, Shares, SlotShares};
+use nm_chronicle::{BookShare, Chronicle, RunPlans, Shares, SlotShares, *};
 use nm_history::{DeviceEvent, Noted};
-use nm_phases::*;
-use nm_plan::RunPlans;
 use nm_proto::{
     AbortCause, ChangePlan, DefaultOperation, Listed, PlannedEdit, Reply, Request, Verdict,
 };

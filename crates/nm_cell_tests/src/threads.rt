@@ -3,15 +3,15 @@
 ghost use Rattle.std.specs.Prelude.{◌≡◌, ◌+◌, Some, ◌∷◌, [], length};
 ghost use Rattle.std.specs.List.{All};
 ghost use Rattle.nm_proto.specs.Fault.{IsPlan};
-ghost use Rattle.nm_proto.specs.FlatContent.{flat_meaning};
+ghost use Rattle.nm_flat.specs.FlatContent.{flat_meaning};
 
 use crate::begun::{Begun, begin, change_plan, is_found, open, seven};
 use nm_base::{NoMemory, SessionId};
 use nm_cells::{Asked, DeviceCell, Pass, PassOwner};
-use nm_chronicle::Chronicle;
+use nm_chronicle::{Chronicle, RunName};
+use nm_flat::{FlatConfig, FlatContent, FlatEdit};
 use nm_history::Noted;
-use nm_plan::RunName;
-use nm_proto::{ChangePlan, FlatConfig, FlatContent, FlatEdit, Listed, PlanEntry, Reply, Tables};
+use nm_proto::{ChangePlan, Listed, PlanEntry, Reply, Tables};
 use std::alloc::Global;
 use std::marker::Brand;
 use std::sync::ledger::Blank;

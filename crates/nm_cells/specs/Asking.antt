@@ -72,7 +72,9 @@ FindsBy None asked entries after device = (asked ≡ Broken 0) × (after ≡ ent
 FindsBy (Some event) (Broken position) entries after device = FindsBroken event device position entries after
 FindsBy (Some event) (Answered position reply) entries after device =
     (1 ≤ position)
-    × ((undone : Bool) × (after ≡ entries ++ record { device = device; position = position; noted = record { event = event; reply = Some reply; undone = undone } } ∷ []))
+    × ((undone : Bool)
+    × (after ≡ entries
+    ++ record { device = device; position = position; noted = record { event = event; reply = Some reply; undone = undone } } ∷ []))
 
 -- ---- tags
 

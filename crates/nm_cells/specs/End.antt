@@ -16,7 +16,13 @@ module _ {Config TheEdit Node : Type 0} (m : Meaning Config TheEdit Node) where
   pub record HangsUp (position : Option ℕ) (old new : KeptState Config Node) (pass after : PassState) (device session : ℕ) : Type 0 where
     pub position_is : position ≡ Some (length old.recorded.history + 1)
     pub device_is : new ≡ kept_after false (with_room old) (Lost session) (losing m old.recorded.device session)
-    pub pass_is : after ≡ seen pass (record { device = device; position = length old.recorded.history + 1; noted = noted (Lost session) (losing m old.recorded.device session) })
+    pub pass_is : after
+        ≡ seen pass (record {
+          device = device;
+          position = length old.recorded.history + 1;
+          noted = noted (Lost session)
+              (losing m old.recorded.device session);
+        })
 
   pub record Stays (position : Option ℕ) (old new : KeptState Config Node) (pass after : PassState) : Type 0 where
     pub position_is : position ≡ None
@@ -34,4 +40,6 @@ abbrev pub FoundHungUp : Option ℕ → PassState → PassState → ℕ → ℕ 
 FoundHungUp None pass after device session = after ≡ pass
 FoundHungUp (Some position) pass after device session =
     (1 ≤ position)
-    × ((undone : Bool) × (after ≡ seen pass (record { device = device; position = position; noted = record { event = Lost session; reply = None; undone = undone } })))
+    × ((undone : Bool)
+    × (after ≡ seen pass
+    (record { device = device; position = position; noted = record { event = Lost session; reply = None; undone = undone } })))

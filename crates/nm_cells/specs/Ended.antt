@@ -105,7 +105,8 @@ lost_nowhere session = record { position = 0; noted = record { event = Lost sess
 module _ (owner : PassOwner) (managers : Bool) (device session : ℕ) (entries : List PassEntry) where
   abbrev pub found_if : ℕ → Option Noted → Found
   found_if place None = lost_nowhere session
-  found_if place (Some entry) = if knows owner managers device place entries entry.event then record { position = place; noted = entry } else lost_nowhere session
+  found_if place (Some entry) = if knows owner managers device place entries entry.event
+      then record { position = place; noted = entry } else lost_nowhere session
 
   abbrev pub found_at : List Noted → Option ℕ → Found
   found_at history None = lost_nowhere session

@@ -54,14 +54,16 @@ module _ {Config Node : Type 0} where
 
 module _ {Config Node : Type 0} (counts : Bool) (device : ℕ) where
   -- a request is done: its entry stands at the end of the history, and in the pass at the same place
-  pub record Does (position : ℕ) (reply : Reply) (old new : KeptState Config Node) (entries after : List PassEntry) (event : DeviceEvent) (h : Happened Config Node) : Type 0 where
+  pub record Does (position : ℕ) (reply : Reply) (old new : KeptState Config Node) (entries after : List PassEntry)
+      (event : DeviceEvent) (h : Happened Config Node) : Type 0 where
     pub position_is : position ≡ length old.recorded.history + 1
     pub reply_is : h.reply ≡ Some reply
     pub device_is : new ≡ kept_after counts old event h
     pub pass_is : after ≡ entries ++ entry_of old device event h ∷ []
 
   -- what breaks a call: its entry stands at the end of the history, and in the pass at the same place
-  pub record Ends (position : ℕ) (old new : KeptState Config Node) (entries after : List PassEntry) (event : DeviceEvent) (h : Happened Config Node) : Type 0 where
+  pub record Ends (position : ℕ) (old new : KeptState Config Node) (entries after : List PassEntry) (event : DeviceEvent)
+      (h : Happened Config Node) : Type 0 where
     pub position_is : position ≡ length old.recorded.history + 1
     pub device_is : new ≡ kept_after counts old event h
     pub pass_is : after ≡ entries ++ entry_of old device event h ∷ []
@@ -78,15 +80,18 @@ module _ {Config Node : Type 0} (counts : Bool) (device : ℕ) where
 
 module _ {Config TheEdit Node : Type 0} (m : Meaning Config TheEdit Node) (device : ℕ) where
   -- a loss comes after a request of the manager that was done, where the session is open then, and breaks the call
-  abbrev pub LosesAfter : Told → KeptState Config Node → KeptState Config Node → List PassEntry → List PassEntry → DeviceEvent → Happened Config Node → ℕ → Type 0
+  abbrev pub LosesAfter : Told → KeptState Config Node → KeptState Config Node → List PassEntry → List PassEntry → DeviceEvent
+      → Happened Config Node → ℕ → Type 0
   LosesAfter told old new entries after event h session =
       Breaks false device told (kept_after true old event h) new (entries ++ entry_of old device event h ∷ []) after (Lost session) (losing m h.after session)
 
   -- a cut: the request is done, and then its reply and the session are lost. Where no session is left, the reply comes
-  abbrev pub Cuts : Told → KeptState Config Node → KeptState Config Node → List PassEntry → List PassEntry → DeviceEvent → Happened Config Node → Option ℕ → Type 0
+  abbrev pub Cuts : Told → KeptState Config Node → KeptState Config Node → List PassEntry → List PassEntry → DeviceEvent
+      → Happened Config Node → Option ℕ → Type 0
   Cuts told old new entries after event h None = Answers true device told old new entries after event h
   Cuts told old new entries after event h (Some session) =
-      MatchBool (is_open h.after.sessions session) (LosesAfter told old new entries after event h session) (Answers true device told old new entries after event h)
+      MatchBool (is_open h.after.sessions session) (LosesAfter told old new entries after event h session)
+      (Answers true device told old new entries after event h)
 
 -- the session that a reply opened
 abbrev pub opened_session : Option Reply → Option ℕ
@@ -100,11 +105,16 @@ module _ {Config TheEdit Node : Type 0} (m : Meaning Config TheEdit Node) (table
   -- a request of the manager on its session, by the fault that comes with it: a drop loses the session in place of the request,
   -- and so does a restart all sessions. An advance has come already
   abbrev pub ServesManager : Option PlanFault → Told → KeptState Config Node → KeptState Config Node → List PassEntry → List PassEntry → ℕ → Request → Type 0
-  ServesManager None told old new entries after session request = Answers true device told old new entries after (Asked session request) (asking old session request)
-  ServesManager (Some (Advance seconds)) told old new entries after session request = Answers true device told old new entries after (Asked session request) (asking old session request)
-  ServesManager (Some Drop) told old new entries after session request = Breaks true device told old new entries after (Lost session) (losing m old.recorded.device session)
-  ServesManager (Some Cut) told old new entries after session request = Cuts m device told old new entries after (Asked session request) (asking old session request) (Some session)
-  ServesManager (Some Restart) told old new entries after session request = Breaks true device told old new entries after Restarted (restarting m old.recorded.device)
+  ServesManager None told old new entries after session request =
+      Answers true device told old new entries after (Asked session request) (asking old session request)
+  ServesManager (Some (Advance seconds)) told old new entries after session request =
+      Answers true device told old new entries after (Asked session request) (asking old session request)
+  ServesManager (Some Drop) told old new entries after session request =
+      Breaks true device told old new entries after (Lost session) (losing m old.recorded.device session)
+  ServesManager (Some Cut) told old new entries after session request =
+      Cuts m device told old new entries after (Asked session request) (asking old session request) (Some session)
+  ServesManager (Some Restart) told old new entries after session request =
+      Breaks true device told old new entries after Restarted (restarting m old.recorded.device)
 
   -- a request of an open session
   abbrev pub ServesOn : Told → KeptState Config Node → KeptState Config Node → List PassEntry → List PassEntry → ℕ → Request → Type 0
@@ -117,7 +127,8 @@ module _ {Config TheEdit Node : Type 0} (m : Meaning Config TheEdit Node) (devic
   -- the manager asks for a session, by the fault that comes with that: a drop is as a cut, since there is no session before it
   abbrev pub OpensManager : Option PlanFault → Told → KeptState Config Node → KeptState Config Node → List PassEntry → List PassEntry → List ℕ → Type 0
   OpensManager None told old new entries after user = Answers true device told old new entries after (Entered user) (entering old.recorded.device user)
-  OpensManager (Some (Advance seconds)) told old new entries after user = Answers true device told old new entries after (Entered user) (entering old.recorded.device user)
+  OpensManager (Some (Advance seconds)) told old new entries after user =
+      Answers true device told old new entries after (Entered user) (entering old.recorded.device user)
   OpensManager (Some Drop) told old new entries after user =
       Cuts m device told old new entries after (Entered user) (entering old.recorded.device user) (opened_session (entering old.recorded.device user).reply)
   OpensManager (Some Cut) told old new entries after user =

@@ -6,7 +6,7 @@ use Rattle.nm_proto.specs.declared.message.Request.TheVariants.{Commit}
 use Rattle.nm_proto.specs.declared.message.Reply.{Reply}
 use Rattle.nm_proto.specs.declared.message.Reply.TheVariants.{Done}
 use Rattle.nm_chronicle.specs.Shares.{SlotState, slot_acked}
-use Rattle.nm_phases.specs.Phases.{PhasesState, named_by}
+use Rattle.nm_chronicle.specs.Phases.{PhasesState, named_by}
 use Rattle.nm_cells.specs.declared.asked.Asked.{Asked}
 use Rattle.nm_cells.specs.declared.asked.Asked.TheVariants.{Answered, Broken}
 use Rattle.nm_cells.specs.declared.pass.PassOwner.{PassOwner}

@@ -23,7 +23,9 @@ pub(crate) fn enter<C: Content>(
     user: Label,
 ) -> Result<Told, NoMemory>
     requires room { length history.old.items < vec_capacity history.old }
-    ensures served { IfOk result (λ told. Serves (Some told) (beside device.old history.old.items) (beside device.new history.new.items) (served_as (beside device.old history.old.items) (DeviceEvent.Entered user) (Some (entering device.old user)))) }
+    ensures served { IfOk result (λ told. Serves (Some told) (beside device.old history.old.items)
+        (beside device.new history.new.items) (served_as (beside device.old history.old.items) (DeviceEvent.Entered user)
+        (Some (entering device.old user)))) }
     ensures device { OnErr result (device.new ≡ device.old) }
     ensures history { OnErr result (history.new.items ≡ history.old.items) }
     ensures capacity { vec_capacity history.new ≡ vec_capacity history.old }
@@ -56,7 +58,10 @@ pub(crate) fn ask<C: Content>(
     requires edits_belong { All (C.meaning content.now).edit_belongs tables.now.edits }
     requires open { is_open device.old.sessions session ≡ true }
     requires asks { is_opening request.now ≡ false }
-    ensures served { IfOk result (λ told. Serves (Some told) (beside device.old history.old.items) (beside device.new history.new.items) (served_as (beside device.old history.old.items) (DeviceEvent.Asked session request.now) (Some (answered device.old request.now (device_step (C.meaning content.now) tables.now device.old session request.now))))) }
+    ensures served { IfOk result (λ told. Serves (Some told) (beside device.old history.old.items)
+        (beside device.new history.new.items) (served_as (beside device.old history.old.items)
+        (DeviceEvent.Asked session request.now)
+        (Some (answered device.old request.now (device_step (C.meaning content.now) tables.now device.old session request.now))))) }
     ensures device { OnErr result (device.new ≡ device.old) }
     ensures history { OnErr result (history.new.items ≡ history.old.items) }
     ensures capacity { vec_capacity history.new ≡ vec_capacity history.old }
@@ -90,7 +95,8 @@ pub(crate) fn lose<C: Content>(
     requires room { length history.old.items < vec_capacity history.old }
     requires sound { IsSound (C.meaning content.now) device.old }
     requires open { is_open device.old.sessions session ≡ true }
-    ensures lost { Changes result (beside device.old history.old.items) (beside device.new history.new.items) (DeviceEvent.Lost session) (losing (C.meaning content.now) device.old session) }
+    ensures lost { Changes result (beside device.old history.old.items) (beside device.new history.new.items)
+        (DeviceEvent.Lost session) (losing (C.meaning content.now) device.old session) }
     ensures capacity { vec_capacity history.new ≡ vec_capacity history.old }
     ensures clock { device.new.clock ≡ device.old.clock }
     ensures sound { IsSound (C.meaning content.now) device.new }
@@ -115,7 +121,8 @@ pub(crate) fn advance<C: Content>(
     requires room { length history.old.items < vec_capacity history.old }
     requires sound { IsSound (C.meaning content.now) device.old }
     requires in_time { IsInTime device.old.clock }
-    ensures advanced { Changes result (beside device.old history.old.items) (beside device.new history.new.items) (DeviceEvent.Advanced seconds) (advancing (C.meaning content.now) device.old seconds) }
+    ensures advanced { Changes result (beside device.old history.old.items) (beside device.new history.new.items)
+        (DeviceEvent.Advanced seconds) (advancing (C.meaning content.now) device.old seconds) }
     ensures capacity { vec_capacity history.new ≡ vec_capacity history.old }
     ensures clock { device.new.clock ≡ device.old.clock + seconds }
     ensures sessions { device.new.sessions ≡ device.old.sessions }
@@ -138,7 +145,8 @@ pub(crate) fn restart<C: Content>(
 ) -> bool
     requires room { length history.old.items < vec_capacity history.old }
     requires sound { IsSound (C.meaning content.now) device.old }
-    ensures restarted { Changes result (beside device.old history.old.items) (beside device.new history.new.items) DeviceEvent.Restarted (restarting (C.meaning content.now) device.old) }
+    ensures restarted { Changes result (beside device.old history.old.items) (beside device.new history.new.items)
+        DeviceEvent.Restarted (restarting (C.meaning content.now) device.old) }
     ensures capacity { vec_capacity history.new ≡ vec_capacity history.old }
     ensures clock { device.new.clock ≡ device.old.clock }
     ensures sound { IsSound (C.meaning content.now) device.new }

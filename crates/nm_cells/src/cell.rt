@@ -13,8 +13,7 @@ use crate::asked::Asked;
 use crate::pass::Pass;
 use crate::state::CellState;
 use nm_base::{DeviceNo, NoMemory, SessionId};
-use nm_chronicle::{Chronicle, SlotShares};
-use nm_plan::RunName;
+use nm_chronicle::{Chronicle, RunName, SlotShares};
 use nm_proto::{Content, Request, Tables};
 use std::sync::{Mutex, Wait};
 

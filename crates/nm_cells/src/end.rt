@@ -8,8 +8,8 @@ ghost use Rattle.nm_cells.specs.Pass.{is_operator};
 use crate::kept::KeptDevice;
 use crate::pass::{Pass, PassEntry};
 use nm_base::{DeviceNo, NoMemory, SessionId};
+use nm_chronicle::RunName;
 use nm_history::{DeviceEvent, Noted};
-use nm_plan::RunName;
 use nm_proto::Content;
 
 impl<C: Content, N: RunName<C, C::Config, C::Edit>> KeptDevice<C, N> {

@@ -13,9 +13,9 @@ ghost use Rattle.nm_cells.specs.Follows.{clock_if, plans_breaks};
 use crate::acts;
 use crate::faults::Faults;
 use nm_base::{DeviceNo, Label, MANAGER, NoMemory, SessionId};
+use nm_chronicle::RunName;
 use nm_device::Device;
 use nm_history::{DeviceEvent, Noted, Told};
-use nm_plan::RunName;
 use nm_proto::{Content, PlanEntry, PlanFault, Reply, Request, Tables};
 use std::alloc::Global;
 use std::marker::{Model, PhantomData};
@@ -64,7 +64,10 @@ impl<C: Content, N: RunName<C, C::Config, C::Edit>> Model for KeptDevice<C, N> {
 
     ghost view = { λ k. record { number = k.number; recorded = beside k.device k.history.items; spare = k.spare; faults = k.faults } };
 
-    ghost invariant = { λ k. IsKept C.meaning N.run (record { number = k.number; recorded = beside k.device k.history.items; spare = k.spare; faults = k.faults }) × (k.spare + length k.history.items ≤ vec_capacity k.history) × (k.spare + length k.history.items ≤ 2 ^ 32 - 1) × (k.faults.counted ≤ length k.history.items) × AreManagers k.managers.items k.history.items × Follows k.faults k.history.items };
+    ghost invariant = { λ k. IsKept C.meaning N.run
+        (record { number = k.number; recorded = beside k.device k.history.items; spare = k.spare; faults = k.faults })
+        × (k.spare + length k.history.items ≤ vec_capacity k.history) × (k.spare + length k.history.items ≤ 2 ^ 32 - 1)
+        × (k.faults.counted ≤ length k.history.items) × AreManagers k.managers.items k.history.items × Follows k.faults k.history.items };
 }
 
 impl<C: Content, N: RunName<C, C::Config, C::Edit>> KeptDevice<C, N> {
@@ -244,7 +247,9 @@ impl<C: Content, N: RunName<C, C::Config, C::Edit>> KeptDevice<C, N> {
         requires asks { is_opening request.now ≡ false }
         requires counts { counts ≡ is_managers session self.old.recorded.history }
         requires clock { clock_if counts (due self.old.faults) ≡ [] }
-        ensures asked { IfOk result (λ told. Tells counts told self.old self.new (DeviceEvent.Asked session request.now) (answered self.old.recorded.device request.now (device_step (C.meaning content.now) tables.now self.old.recorded.device session request.now))) }
+        ensures asked { IfOk result (λ told. Tells counts told self.old self.new (DeviceEvent.Asked session request.now)
+            (answered self.old.recorded.device request.now
+            (device_step (C.meaning content.now) tables.now self.old.recorded.device session request.now))) }
         ensures unchanged { OnErr result (self.new ≡ self.old) }
         ensures plain { IfOk result (λ told. has_plain_tag told.reply ≡ true) }
     {
@@ -281,7 +286,10 @@ impl<C: Content, N: RunName<C, C::Config, C::Edit>> KeptDevice<C, N> {
         requires content { N.run.content ≡ Some content.now }
         requires due { due self.old.faults ≡ Some (PlanFault.Advance seconds) }
         ensures undone { result ≡ (advancing (C.meaning content.now) self.old.recorded.device seconds).undone }
-        ensures advanced { self.new ≡ with_faults (kept_with self.old (recorded_with self.old.recorded (DeviceEvent.Advanced seconds) (advancing (C.meaning content.now) self.old.recorded.device seconds))) (come self.old.faults) }
+        ensures advanced { self.new
+            ≡ with_faults
+            (kept_with self.old (recorded_with self.old.recorded (DeviceEvent.Advanced seconds)
+            (advancing (C.meaning content.now) self.old.recorded.device seconds))) (come self.old.faults) }
         ensures sessions { self.new.recorded.device.sessions ≡ self.old.recorded.device.sessions }
     {
         self.spare -= 1;

@@ -19,8 +19,8 @@ use crate::ended;
 use crate::kept::KeptDevice;
 use crate::pass::{Pass, PassEntry, PassOwner};
 use nm_base::{DeviceNo, Label, MANAGER, NoMemory, SessionId};
+use nm_chronicle::RunName;
 use nm_history::{DeviceEvent, Noted, Told};
-use nm_plan::RunName;
 use nm_proto::{Content, PlanFault, Reply, Request, Tables};
 
 // A request that was done: the place of its entry, and its reply.
@@ -49,7 +49,8 @@ impl<C: Content, N: RunName<C, C::Config, C::Edit>> KeptDevice<C, N> {
         requires content { N.run.content ≡ Some content.now }
         requires tables { N.run.tables ≡ tables.now }
         requires edits_belong { All (C.meaning content.now).edit_belongs tables.now.edits }
-        ensures served { IfOk result (λ asked. Serves (C.meaning content.now) tables.now device pass.old.owner asked self.old self.new pass.old.entries pass.new.entries session request.now) }
+        ensures served { IfOk result (λ asked. Serves (C.meaning content.now) tables.now device pass.old.owner asked self.old
+            self.new pass.old.entries pass.new.entries session request.now) }
         ensures owner { pass.new.owner ≡ pass.old.owner }
         ensures no_memory { OnErr result (StaysOrAdvances (C.meaning content.now) self.old self.new) }
         ensures pass { OnErr result (pass.new ≡ pass.old) }
@@ -85,7 +86,8 @@ impl<C: Content, N: RunName<C, C::Config, C::Edit>> KeptDevice<C, N> {
         requires tables { N.run.tables ≡ tables.now }
         requires edits_belong { All (C.meaning content.now).edit_belongs tables.now.edits }
         requires asks { is_opening request.now ≡ false }
-        ensures served { IfOk result (λ asked. ServesSession (C.meaning content.now) tables.now device owner.now asked self.old self.new entries.old.items entries.new.items session request.now) }
+        ensures served { IfOk result (λ asked. ServesSession (C.meaning content.now) tables.now device owner.now asked self.old
+            self.new entries.old.items entries.new.items session request.now) }
         ensures no_memory { OnErr result (StaysOrAdvances (C.meaning content.now) self.old self.new) }
         ensures pass { OnErr result (entries.new.items ≡ entries.old.items) }
         ensures plain { IfOk result (λ asked. is_plain asked ≡ true) }
@@ -117,7 +119,8 @@ impl<C: Content, N: RunName<C, C::Config, C::Edit>> KeptDevice<C, N> {
         session: SessionId,
     ) -> Result<Asked, NoMemory>
         requires room { length entries.old.items + 2 ≤ vec_capacity entries.old }
-        ensures found { IfOk result (λ asked. Finds device asked self.old self.new entries.old.items entries.new.items (found owner.now device session entries.old.items self.old.recorded.history)) }
+        ensures found { IfOk result (λ asked. Finds device asked self.old self.new entries.old.items entries.new.items
+            (found owner.now device session entries.old.items self.old.recorded.history)) }
         ensures unchanged { self.new ≡ self.old }
         ensures pass { OnErr result (entries.new.items ≡ entries.old.items) }
         ensures plain { IfOk result (λ asked. is_plain asked ≡ true) }
@@ -164,7 +167,8 @@ impl<C: Content, N: RunName<C, C::Config, C::Edit>> KeptDevice<C, N> {
         requires asks { is_opening request.now ≡ false }
         requires manager { is_managers session self.old.recorded.history ≡ true }
         requires settled { advance_of (due self.old.faults) ≡ None }
-        ensures served { IfOk result (λ asked. ServesManager (C.meaning content.now) tables.now device (due self.old.faults) asked self.old self.new entries.old.items entries.new.items session request.now) }
+        ensures served { IfOk result (λ asked. ServesManager (C.meaning content.now) tables.now device
+            (due self.old.faults) asked self.old self.new entries.old.items entries.new.items session request.now) }
         ensures unchanged { OnErr result (self.new ≡ self.old) }
         ensures pass { OnErr result (entries.new.items ≡ entries.old.items) }
         ensures plain { IfOk result (λ asked. is_plain asked ≡ true) }
@@ -202,7 +206,9 @@ impl<C: Content, N: RunName<C, C::Config, C::Edit>> KeptDevice<C, N> {
         requires asks { is_opening request.now ≡ false }
         requires counts { counts ≡ is_managers session self.old.recorded.history }
         requires clock { clock_if counts (due self.old.faults) ≡ [] }
-        ensures answered { IfOk result (λ asked. Answers counts device asked self.old self.new entries.old.items entries.new.items (DeviceEvent.Asked session request.now) (asking (C.meaning content.now) tables.now device self.old session request.now)) }
+        ensures answered { IfOk result
+            (λ asked. Answers counts device asked self.old self.new entries.old.items entries.new.items
+            (DeviceEvent.Asked session request.now) (asking (C.meaning content.now) tables.now device self.old session request.now)) }
         ensures unchanged { OnErr result (self.new ≡ self.old) }
         ensures pass { OnErr result (entries.new.items ≡ entries.old.items) }
         ensures plain { IfOk result (λ asked. is_plain asked ≡ true) }
@@ -233,7 +239,9 @@ impl<C: Content, N: RunName<C, C::Config, C::Edit>> KeptDevice<C, N> {
         requires manager { is_managers session self.old.recorded.history ≡ true }
         requires clock { clock_of_due (due self.old.faults) ≡ [] }
         requires breaks { plans_breaks self.old.faults.plan ≡ true }
-        ensures cut { IfOk result (λ asked. Cuts (C.meaning content.now) device asked self.old self.new entries.old.items entries.new.items (DeviceEvent.Asked session request.now) (asking (C.meaning content.now) tables.now device self.old session request.now) (Some session)) }
+        ensures cut { IfOk result (λ asked. Cuts (C.meaning content.now) device asked self.old self.new entries.old.items
+            entries.new.items (DeviceEvent.Asked session request.now)
+            (asking (C.meaning content.now) tables.now device self.old session request.now) (Some session)) }
         ensures unchanged { OnErr result (self.new ≡ self.old) }
         ensures pass { OnErr result (entries.new.items ≡ entries.old.items) }
         ensures plain { IfOk result (λ asked. is_plain asked ≡ true) }
@@ -267,7 +275,9 @@ impl<C: Content, N: RunName<C, C::Config, C::Edit>> KeptDevice<C, N> {
         requires asks { is_opening request.now ≡ false }
         requires counts { counts ≡ is_managers session self.old.recorded.history }
         requires clock { clock_if counts (due self.old.faults) ≡ [] }
-        ensures done { IfOk result (λ done. Does counts device done.position done.reply self.old self.new entries.old.items entries.new.items (DeviceEvent.Asked session request.now) (asking (C.meaning content.now) tables.now device self.old session request.now)) }
+        ensures done { IfOk result (λ done. Does counts device done.position done.reply self.old self.new entries.old.items
+            entries.new.items (DeviceEvent.Asked session request.now)
+            (asking (C.meaning content.now) tables.now device self.old session request.now)) }
         ensures unchanged { OnErr result (self.new ≡ self.old) }
         ensures pass { OnErr result (entries.new.items ≡ entries.old.items) }
         ensures capacity { vec_capacity entries.new ≡ vec_capacity entries.old }
@@ -310,7 +320,8 @@ impl<C: Content, N: RunName<C, C::Config, C::Edit>> KeptDevice<C, N> {
         requires open { is_open self.old.recorded.device.sessions session ≡ true }
         requires clock { clock_if counts (due self.old.faults) ≡ [] }
         requires breaks { is_managers session self.old.recorded.history ≡ true → plans_breaks self.old.faults.plan ≡ true }
-        ensures broken { Breaks counts device result self.old self.new entries.old.items entries.new.items (DeviceEvent.Lost session) (losing (C.meaning content.now) self.old.recorded.device session) }
+        ensures broken { Breaks counts device result self.old self.new entries.old.items entries.new.items
+            (DeviceEvent.Lost session) (losing (C.meaning content.now) self.old.recorded.device session) }
         ensures plain { is_plain result ≡ true }
     {
         let position = place_after(self.history.len());
@@ -344,7 +355,8 @@ impl<C: Content, N: RunName<C, C::Config, C::Edit>> KeptDevice<C, N> {
     ) -> Result<Asked, NoMemory>
         requires room { length entries.old.items + 2 ≤ vec_capacity entries.old }
         requires content { N.run.content ≡ Some content.now }
-        ensures served { IfOk result (λ asked. ServesOpening (C.meaning content.now) device asked (with_room self.old) self.new entries.old.items entries.new.items user.now) }
+        ensures served { IfOk result (λ asked. ServesOpening (C.meaning content.now) device asked
+            (with_room self.old) self.new entries.old.items entries.new.items user.now) }
         ensures no_memory { OnErr result (StaysOrAdvances (C.meaning content.now) self.old self.new) }
         ensures pass { OnErr result (entries.new.items ≡ entries.old.items) }
         ensures plain { IfOk result (λ asked. is_plain asked ≡ true) }
@@ -371,7 +383,8 @@ impl<C: Content, N: RunName<C, C::Config, C::Edit>> KeptDevice<C, N> {
         requires content { N.run.content ≡ Some content.now }
         requires manager { bytes_eq user.now manager ≡ true }
         requires settled { advance_of (due self.old.faults) ≡ None }
-        ensures served { IfOk result (λ asked. OpensManager (C.meaning content.now) device (due self.old.faults) asked self.old self.new entries.old.items entries.new.items user.now) }
+        ensures served { IfOk result (λ asked. OpensManager (C.meaning content.now) device (due self.old.faults) asked self.old
+            self.new entries.old.items entries.new.items user.now) }
         ensures unchanged { OnErr result (self.new ≡ self.old) }
         ensures pass { OnErr result (entries.new.items ≡ entries.old.items) }
         ensures plain { IfOk result (λ asked. is_plain asked ≡ true) }
@@ -397,7 +410,9 @@ impl<C: Content, N: RunName<C, C::Config, C::Edit>> KeptDevice<C, N> {
         requires room { length entries.old.items < vec_capacity entries.old }
         requires counts { counts ≡ bytes_eq user.now manager }
         requires clock { clock_if counts (due self.old.faults) ≡ [] }
-        ensures answered { IfOk result (λ asked. Answers counts device asked self.old self.new entries.old.items entries.new.items (DeviceEvent.Entered user.now) (entering self.old.recorded.device user.now)) }
+        ensures answered { IfOk result
+            (λ asked. Answers counts device asked self.old self.new entries.old.items entries.new.items
+            (DeviceEvent.Entered user.now) (entering self.old.recorded.device user.now)) }
         ensures unchanged { OnErr result (self.new ≡ self.old) }
         ensures pass { OnErr result (entries.new.items ≡ entries.old.items) }
         ensures plain { IfOk result (λ asked. is_plain asked ≡ true) }
@@ -420,7 +435,9 @@ impl<C: Content, N: RunName<C, C::Config, C::Edit>> KeptDevice<C, N> {
         requires manager { bytes_eq user.now manager ≡ true }
         requires clock { clock_of_due (due self.old.faults) ≡ [] }
         requires breaks { plans_breaks self.old.faults.plan ≡ true }
-        ensures cut { IfOk result (λ asked. Cuts (C.meaning content.now) device asked self.old self.new entries.old.items entries.new.items (DeviceEvent.Entered user.now) (entering self.old.recorded.device user.now) (opened_session (entering self.old.recorded.device user.now).reply)) }
+        ensures cut { IfOk result (λ asked. Cuts (C.meaning content.now) device asked self.old self.new entries.old.items
+            entries.new.items (DeviceEvent.Entered user.now) (entering self.old.recorded.device user.now)
+            (opened_session (entering self.old.recorded.device user.now).reply)) }
         ensures unchanged { OnErr result (self.new ≡ self.old) }
         ensures pass { OnErr result (entries.new.items ≡ entries.old.items) }
         ensures plain { IfOk result (λ asked. is_plain asked ≡ true) }
@@ -447,7 +464,8 @@ impl<C: Content, N: RunName<C, C::Config, C::Edit>> KeptDevice<C, N> {
         requires room { length entries.old.items < vec_capacity entries.old }
         requires counts { counts ≡ bytes_eq user.now manager }
         requires clock { clock_if counts (due self.old.faults) ≡ [] }
-        ensures done { IfOk result (λ done. Does counts device done.position done.reply self.old self.new entries.old.items entries.new.items (DeviceEvent.Entered user.now) (entering self.old.recorded.device user.now)) }
+        ensures done { IfOk result (λ done. Does counts device done.position done.reply self.old self.new entries.old.items
+            entries.new.items (DeviceEvent.Entered user.now) (entering self.old.recorded.device user.now)) }
         ensures unchanged { OnErr result (self.new ≡ self.old) }
         ensures pass { OnErr result (entries.new.items ≡ entries.old.items) }
         ensures capacity { vec_capacity entries.new ≡ vec_capacity entries.old }
@@ -483,7 +501,8 @@ impl<C: Content, N: RunName<C, C::Config, C::Edit>> KeptDevice<C, N> {
         requires room { length entries.old.items < vec_capacity entries.old }
         requires content { N.run.content ≡ Some content.now }
         requires due { due self.old.faults ≡ Some PlanFault.Restart }
-        ensures broken { Breaks true device result self.old self.new entries.old.items entries.new.items DeviceEvent.Restarted (restarting (C.meaning content.now) self.old.recorded.device) }
+        ensures broken { Breaks true device result self.old self.new entries.old.items entries.new.items DeviceEvent.Restarted
+            (restarting (C.meaning content.now) self.old.recorded.device) }
         ensures plain { is_plain result ≡ true }
     {
         let position = place_after(self.history.len());

@@ -6,7 +6,7 @@ ghost use Rattle.nm_base.specs.Token.{token_of};
 ghost use Rattle.nm_history.specs.Outcome.{outcome_of};
 ghost use Rattle.nm_proto.specs.Fault.{IsPlan};
 ghost use Rattle.nm_chronicle.specs.Line.{phase_weight};
-ghost use Rattle.nm_phases.specs.Phases.{fresh_phases, outcome_phase, Follow};
+ghost use Rattle.nm_chronicle.specs.Phases.{fresh_phases, outcome_phase, Follow};
 ghost use Rattle.nm_cells.specs.Asking.{is_plain};
 ghost use Rattle.nm_cells.specs.Pass.{is_operator};
 ghost use Rattle.nm_cells.specs.State.{acknowledged, slot_after, commits_for, is_answered_done, is_change};
@@ -15,11 +15,9 @@ use crate::asked::Asked;
 use crate::kept::KeptDevice;
 use crate::pass::{Pass, PassOwner};
 use nm_base::{ChangeNo, DeviceNo, NoMemory, SessionId};
-use nm_chronicle::{CellShare, Chronicle, SlotShares};
+use nm_chronicle::{CellShare, Chronicle, Phases, RunName, SlotShares, named_by};
 use nm_device::Device;
 use nm_history::Noted;
-use nm_phases::{Phases, named_by};
-use nm_plan::RunName;
 use nm_proto::{Content, PlanEntry, Reply, Request, Tables};
 use std::alloc::Global;
 use std::marker::Model;
@@ -41,7 +39,7 @@ impl<C: Content, N: RunName<C, C::Config, C::Edit>> Drop for CellState<C, N> {
 }
 
 impl<C: Content, N: RunName<C, C::Config, C::Edit>> Model for CellState<C, N> {
-    ghost use Rattle.nm_phases.specs.Phases.{Follow};
+    ghost use Rattle.nm_chronicle.specs.Phases.{Follow};
     ghost use Rattle.nm_cells.specs.State.{CellView};
 
     ghost Value = { CellView C.Config C.Node };
@@ -146,7 +144,9 @@ impl<C: Content, N: RunName<C, C::Config, C::Edit>> CellState<C, N> {
         requires content { N.run.content ≡ Some content.now }
         requires tables { N.run.tables ≡ tables.now }
         requires edits_belong { All (C.meaning content.now).edit_belongs tables.now.edits }
-        ensures served { IfOk result (λ asked. Serves (C.meaning content.now) tables.now device pass.old.owner asked self.old.kept self.new.kept pass.old.entries pass.new.entries session request.now) }
+        ensures served { IfOk result
+            (λ asked. Serves (C.meaning content.now) tables.now device pass.old.owner asked self.old.kept self.new.kept
+            pass.old.entries pass.new.entries session request.now) }
         ensures owner { pass.new.owner ≡ pass.old.owner }
         ensures no_memory { OnErr result (StaysOrAdvances (C.meaning content.now) self.old.kept self.new.kept) }
         ensures pass { OnErr result (pass.new ≡ pass.old) }
@@ -174,7 +174,9 @@ impl<C: Content, N: RunName<C, C::Config, C::Edit>> CellState<C, N> {
         requires content { N.run.content ≡ Some content.now }
         requires tables { N.run.tables ≡ tables.now }
         requires edits_belong { All (C.meaning content.now).edit_belongs tables.now.edits }
-        ensures served { IfOk result (λ asked. Serves (C.meaning content.now) tables.now device pass.old.owner asked self.old.kept self.new.kept pass.old.entries pass.new.entries session request.now) }
+        ensures served { IfOk result
+            (λ asked. Serves (C.meaning content.now) tables.now device pass.old.owner asked self.old.kept self.new.kept
+            pass.old.entries pass.new.entries session request.now) }
         ensures owner { pass.new.owner ≡ pass.old.owner }
         ensures slot { IfOk result (λ asked. slot.new ≡ slot_after slot.old (acknowledged pass.old.owner request.now asked)) }
         ensures no_memory { OnErr result (StaysOrAdvances (C.meaning content.now) self.old.kept self.new.kept) }
@@ -231,7 +233,9 @@ impl<C: Content, N: RunName<C, C::Config, C::Edit>> CellState<C, N> {
         requires content { N.run.content ≡ Some content.now }
         requires tables { N.run.tables ≡ tables.now }
         requires edits_belong { All (C.meaning content.now).edit_belongs tables.now.edits }
-        ensures served { IfOk result (λ asked. Serves (C.meaning content.now) tables.now device pass.old.owner asked self.old.kept self.new.kept pass.old.entries pass.new.entries session request.now) }
+        ensures served { IfOk result
+            (λ asked. Serves (C.meaning content.now) tables.now device pass.old.owner asked self.old.kept self.new.kept
+            pass.old.entries pass.new.entries session request.now) }
         ensures owner { pass.new.owner ≡ pass.old.owner }
         ensures no_memory { OnErr result (StaysOrAdvances (C.meaning content.now) self.old.kept self.new.kept) }
         ensures pass { OnErr result (pass.new ≡ pass.old) }

@@ -23,6 +23,7 @@ pub record ChronicleState : Type 0 where
 abbrev pub devices_of : ChangePlan → ℕ
 devices_of plan = devices_in plan.edits
 
+-- which devices a change set has, as its line has them
 abbrev pub line_devices : LineState → ℕ
 line_devices line = line.devices
 
@@ -45,6 +46,7 @@ counted lines strays = sum_by line_weight lines + sum_by stray_weight strays
 abbrev pub fresh_board : ℕ → List ChangePlan → BoardState
 fresh_board devices changes = record { devices = devices; lines = map (λ plan. fresh_line devices (devices_of plan)) changes }
 
+-- the chronicle before anything happened
 abbrev pub fresh_chronicle : ℕ → List ChangePlan → ChronicleState
 fresh_chronicle devices changes = record { board = fresh_board devices changes; strays = []; spare = 0; total = 0 }
 
@@ -55,9 +57,11 @@ abbrev pub taken_in : Option LineState → Mark → Option LineState
 taken_in None mark = None
 taken_in (Some line) mark = taken line mark
 
+-- the line of a change set after a mark; none where it can't take the mark
 abbrev pub line_taken : List LineState → ℕ → Mark → Option LineState
 line_taken lines change mark = taken_in (slice_get lines (change - 1)) mark
 
+-- the lines with one of them as it is after a mark; unchanged where there is none
 abbrev pub lines_if : List LineState → ℕ → Option LineState → List LineState
 lines_if lines change None = lines
 lines_if lines change (Some line) = slice_set lines (change - 1) line
@@ -97,4 +101,6 @@ pub record MarksBoard (old new : List LineState) (kept kept_new : List Stray) (c
   pub strays : kept_new ≡ strays_if kept change mark (line_taken old change mark)
   pub counts : counted new kept_new ≡ counted old kept + weight_of mark
   pub few : length kept_new ≤ length kept + 1
-  pub board : (many devices : ℕ) (changes : List ChangePlan) → BoardHolds devices changes (record { devices = many; lines = old }) → BoardHolds devices changes (record { devices = many; lines = new })
+  pub board : (many devices : ℕ) (changes : List ChangePlan)
+      → BoardHolds devices changes (record { devices = many; lines = old })
+      → BoardHolds devices changes (record { devices = many; lines = new })

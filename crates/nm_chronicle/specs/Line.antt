@@ -34,15 +34,18 @@ size mask = count_to mask 32
 abbrev pub phase_of : LineState → ℕ → ℕ
 phase_of line device = slice_index_or line.phases (device - 1) 0
 
+-- no verdict has fallen
 abbrev pub is_undecided : Option Verdict → Bool
 is_undecided None = true
 is_undecided (Some verdict) = false
 
+-- the verdict is Commit
 abbrev pub is_commit : Option Verdict → Bool
 is_commit None = false
 is_commit (Some Commit) = true
 is_commit (Some (Abort cause)) = false
 
+-- the verdict is Abort
 abbrev pub is_abort : Option Verdict → Bool
 is_abort None = false
 is_abort (Some Commit) = false
@@ -130,6 +133,7 @@ weight_of (Cancelled d) = 1
 abbrev pub phase_weight : ℕ → ℕ
 phase_weight phase = if phase == 0 then 0 else if phase == 1 then 1 else 2
 
+-- how much a verdict adds to what the ledger sums up: as much as two marks of a phase
 abbrev pub verdict_weight : Option Verdict → ℕ
 verdict_weight verdict = if is_undecided verdict then 0 else 2
 

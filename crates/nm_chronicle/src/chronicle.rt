@@ -6,12 +6,12 @@ ghost use Rattle.nm_chronicle.specs.Line.{LineHolds, weight_of};
 ghost use Rattle.nm_chronicle.specs.Board.{BoardHolds, MarksLines, MarksBoard, counted, noted, with_room};
 ghost use Rattle.nm_chronicle.specs.Shares.{slot_asked, slot_acked, slot_decided};
 
+use crate::RunPlans;
 use crate::board::Board;
 use crate::line::BoardLine;
 use crate::mark::{Mark, Stray};
 use crate::shares::{BookShare, CellShare, SlotShares};
 use nm_base::{ChangeNo, DeviceNo, NoMemory};
-use nm_plan::RunPlans;
 use nm_proto::Verdict;
 use std::marker::Model;
 use std::sync::ledger::{Book, Share};
@@ -34,7 +34,8 @@ impl<N: RunPlans> Model for Chronicle<N> {
 
     ghost view = { λ c. record { board = c.board; strays = c.strays.items; spare = c.spare; total = c.book.total } };
 
-    ghost invariant = { λ c. BoardHolds N.devices N.changes c.board × (c.book.total ≡ counted c.board.lines c.strays.items) × (c.spare + length c.strays.items ≤ vec_capacity c.strays) };
+    ghost invariant = { λ c. BoardHolds N.devices N.changes c.board × (c.book.total ≡ counted c.board.lines c.strays.items)
+        × (c.spare + length c.strays.items ≤ vec_capacity c.strays) };
 }
 
 impl<N: RunPlans> Chronicle<N> {

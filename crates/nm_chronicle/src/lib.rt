@@ -1,8 +1,7 @@
-//! The board that all threads of a run share: what each device has done for each change set, and what was decided.
+//! The name of a run, the board that its threads share, and how far each change set has come at a device.
 //!
-//! Stands on `nm_plan`. The layers above rely on the board holding what it says at any time, on each call marking it or
-//! being kept as a stray, and on one ledger that counts each call where it was made and here, so that neither changes
-//! without the other. Only `reserve` and `room` take memory.
+//! Stands on `nm_proto` for plans and on `nm_history` for what has happened at a device. The layers above rely on the board telling
+//! what each caller has written, in an order that all callers agree on.
 #![tactic(auto)]
 
 pub mod board;
@@ -10,11 +9,19 @@ pub mod chronicle;
 pub mod count;
 pub mod line;
 pub mod mark;
+pub mod name;
+pub mod phases;
 mod reserve;
 pub mod shares;
+pub mod token;
+pub mod waiting;
 
 pub use board::Board;
 pub use chronicle::Chronicle;
 pub use line::BoardLine;
 pub use mark::{Mark, Stray};
+pub use name::{RunName, RunPlans};
+pub use phases::Phases;
 pub use shares::{BookShare, CellShare, Shares, SlotShares};
+pub use token::named_by;
+pub use waiting::Waiting;

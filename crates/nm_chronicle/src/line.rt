@@ -27,7 +27,14 @@ impl Model for BoardLine {
 
     ghost Value = { LineState };
 
-    ghost view = { λ l. record { devices = l.devices.0; asked = l.asked; acked = l.acked; verdict = l.verdict; phases = l.phases.items; acknowledged = l.acknowledged.0 } };
+    ghost view = { λ l. record {
+      devices = l.devices.0;
+      asked = l.asked;
+      acked = l.acked;
+      verdict = l.verdict;
+      phases = l.phases.items;
+      acknowledged = l.acknowledged.0;
+    } };
 }
 
 impl BoardLine {

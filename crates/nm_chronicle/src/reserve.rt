@@ -5,12 +5,12 @@ ghost use Rattle.nm_chronicle.specs.Line.{fresh_line};
 ghost use Rattle.nm_chronicle.specs.Board.{devices_of, fresh_chronicle, BoardHolds};
 ghost use Rattle.nm_chronicle.specs.Shares.{fresh_slot};
 
+use crate::RunPlans;
 use crate::board::Board;
 use crate::chronicle::Chronicle;
 use crate::line::BoardLine;
 use crate::shares::{BookShare, CellShare, Shares, SlotShares};
 use nm_base::NoMemory;
-use nm_plan::RunPlans;
 use nm_proto::ChangePlan;
 use std::alloc::Global;
 use std::sync::ledger::{Blank, Share};

@@ -2,7 +2,7 @@
 
 ghost use Rattle.std.specs.Prelude.{◌≡◌};
 
-use nm_plan::RunPlans;
+use crate::RunPlans;
 use nm_proto::Verdict;
 use std::marker::Model;
 use std::sync::ledger::Share;

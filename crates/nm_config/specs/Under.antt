@@ -31,7 +31,8 @@ abbrev pub is_end : List PathStep → Bool
 is_end [] = true
 is_end (step ∷ steps) = false
 
--- a path is at or below a node: it begins with the steps of the node's path, where a list as a whole in the last of these stands for each of its entries (this project's own)
+-- a path is at or below a node: it begins with the steps of the node's path, where a list as a whole in the last of these
+-- stands for each of its entries (this project's own)
 unfoldable pub is_under : List PathStep → List PathStep → Bool
 is_under [] path = true
 is_under (step ∷ steps) [] = false

@@ -1,3 +1,5 @@
+//! The calls on a configuration as functions, under the names that finite maps have for them.
+
 ghost use Rattle.std.specs.Prelude.{◌≡◌, IfOk, OnOk, OnErr, option_copied};
 ghost use Rattle.std.specs.FinMap as map;
 ghost use Rattle.nm_config.specs.Under.{without_under};

@@ -1,3 +1,5 @@
+//! A configuration in memory: a map of its rows in path order, each of whose calls is that of a finite map.
+
 ghost use Rattle.std.specs.Prelude.{◌≡◌, ◌↔◌, List, IsTrue, IfOk, OnOk, OnErr, None, option_copied, slice_get};
 ghost use Rattle.std.specs.FinMap as map;
 ghost use Rattle.std.specs.Map.Iter.{ShowsInOrder, deref_pair};

@@ -17,5 +17,6 @@ pub fn under_later()
 
 /// What is at or below a node is contiguous in path order: a path between the node and a path at or below it is there too.
 pub fn under_between()
-    ensures { (node path last : List PathStep) → is_under node last ≡ true → is_gt (path_cmp node path) ≡ false → is_gt (path_cmp path last) ≡ false → is_under node path ≡ true }
+    ensures { (node path last : List PathStep) → is_under node last ≡ true → is_gt (path_cmp node path) ≡ false
+        → is_gt (path_cmp path last) ≡ false → is_under node path ≡ true }
 {}

@@ -1,3 +1,5 @@
+//! Whether a path is at or below a node: by the steps alone, without a schema.
+
 ghost use Rattle.std.specs.Prelude.{◌≡◌};
 ghost use Rattle.nm_types.specs.Chosen.{choice_of};
 ghost use Rattle.nm_config.specs.Under as under;

@@ -1,6 +1,6 @@
 -- What check tells of the scenario that bytes say, or of their first fault.
 use Rattle.std.proofs.Common.{List, ℕ, Result, Ok, Err, IfOk}
-use Rattle.nm_scenario_parts.specs.declared.fault.Fault.{Fault}
+use Rattle.nm_scenario_form.specs.declared.fault.Fault.{Fault}
 use Rattle.nm_scenario_form.specs.Order.{IsFirst}
 use Rattle.nm_scenario.specs.declared.scenario.Scenario.{Scenario}
 use Rattle.nm_scenario.specs.Scenario.{SaysBytes, WrongBytes}

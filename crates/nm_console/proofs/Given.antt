@@ -11,26 +11,26 @@ use Rattle.nm_device.specs.Device.{is_manager}
 use Rattle.nm_scenario_events.specs.declared.arguments.Counts.{Counts}
 use Rattle.nm_scenario_events.specs.Kept.{EventKeeps, weight}
 use Rattle.nm_manager.specs.Requests.{IsWellFormed, ascend_above}
-use Rattle.nm_network.specs.Runs.{IsNumbered}
-use Rattle.nm_network.specs.Drain.{drain_event, drain_limit}
-use Rattle.nm_network.specs.World.{IsFirst, Setting, start}
+use Rattle.nm_world.specs.Runs.{IsNumbered}
+use Rattle.nm_world.specs.Drain.{drain_event, drain_limit}
+use Rattle.nm_world.specs.World.{IsFirst, Setting, start}
 use Rattle.nm_proto.specs.declared.message.Request.{Request}
 use Rattle.nm_proto.specs.declared.message.Request.TheVariants.{OpenSession, Lock, Unlock, PartialLock, PartialUnlock, Edit, Validate, Commit, CancelCommit, Discard, HasMark, GetConfig, Kill, CloseSession}
-use Rattle.nm_proto.specs.declared.flat.FlatEdit.{FlatEdit}
+use Rattle.nm_flat.specs.declared.flat.FlatEdit.{FlatEdit}
 use Rattle.nm_proto.specs.declared.plan.ChangePlan.{ChangePlan}
 use Rattle.nm_proto.specs.declared.plan.Event.{Event}
 use Rattle.nm_proto.specs.declared.plan.Event.TheVariants.{Submit, Turn, Deliver, Answer, Break, Lose, Advance, Restart, Forget, Crash, Renew, Foreign, Leave, Round}
 use Rattle.nm_proto.specs.declared.plan.PlannedEdit.{PlannedEdit}
-use Rattle.nm_proto.specs.Flat.{FlatState}
-use Rattle.nm_proto.specs.FlatContent.{flat_meaning, flat_laws}
+use Rattle.nm_flat.specs.Flat.{FlatState}
+use Rattle.nm_flat.specs.FlatContent.{flat_meaning, flat_laws}
 use Rattle.nm_proto.specs.Content.{Laws, Meaning}
-use Rattle.nm_tree.specs.Nodes.{SchemaTree}
+use Rattle.nm_schema_tree.specs.Nodes.{SchemaTree}
 use Rattle.nm_config.specs.Rows.{Rows}
 use Rattle.nm_edit.specs.declared.edit.EditNode.{EditNode}
 use Rattle.nm_overlay.specs.Differences.{Overlaid}
 use Rattle.nm_content.specs.Meaning.{lifted, yang_meaning}
 use Rattle.nm_content.specs.Laws.{yang_laws}
-use Rattle.nm_refusals.specs.Kept.{Ascend, BodyKeeps, ChangeKeeps, DataAreKept, DataKeeps, IsOwnOpening, OpensOwn, ScenarioKeeps, StateKeeps, UserKeeps, counts_in, device_of_plan, devices_in}
+use Rattle.nm_scenario_laws.specs.Kept.{Ascend, BodyKeeps, ChangeKeeps, DataAreKept, DataKeeps, IsOwnOpening, OpensOwn, ScenarioKeeps, StateKeeps, UserKeeps, counts_in, device_of_plan, devices_in}
 use Rattle.nm_scenario.specs.declared.scenario.Body.TheVariants.{Flat, Yang}
 use Rattle.nm_scenario.specs.declared.scenario.Scenario.{Scenario}
 use Rattle.nm_safety.specs.Safe.{AreGiven, IsGiven, IsProper, IsSafe}
@@ -38,36 +38,36 @@ use Rattle.nm_safety.specs.Safe as safe
 use Rattle.nm_safety.proofs.Drained.{drained_safe}
 use Rattle.nm_safety.proofs.Safely.{run_is_safe}
 use Rattle.nm_safety.proofs.Tells.{safe_tells}
-use Rattle.nm_bringing.specs.Brings.{BringsAlone}
-use Rattle.nm_bringing.proofs.Alone.{run_brings}
-use Rattle.nm_bringing.proofs.Drained.{drained_brings}
-use Rattle.nm_leaving.specs.Leaves.{LeavesAlone}
-use Rattle.nm_leaving.proofs.Alone.{run_leaves}
-use Rattle.nm_leaving.proofs.Drained.{drained_leaves}
-use Rattle.nm_marking.specs.Marks.{ArePlain, AreUnmarked, MarksTell}
-use Rattle.nm_marking.specs.Stays.{MarksStay}
-use Rattle.nm_marking.proofs.Alone.{run_tells}
-use Rattle.nm_marking.proofs.Drained.{drained_tells}
-use Rattle.nm_marking.proofs.Remains.{run_stays, drained_stays}
-use Rattle.nm_proto.specs.declared.flat.FlatNode.{FlatNode}
+use Rattle.nm_commit_laws.specs.Brings.{BringsAlone}
+use Rattle.nm_commit_laws.proofs.brings.Alone.{run_brings}
+use Rattle.nm_commit_laws.proofs.brings.Drained.{drained_brings}
+use Rattle.nm_commit_laws.specs.Leaves.{LeavesAlone}
+use Rattle.nm_commit_laws.proofs.leaves.Alone.{run_leaves}
+use Rattle.nm_commit_laws.proofs.leaves.Drained.{drained_leaves}
+use Rattle.nm_commit_laws.specs.Marks.{ArePlain, AreUnmarked, MarksTell}
+use Rattle.nm_commit_laws.specs.Stays.{MarksStay}
+use Rattle.nm_commit_laws.proofs.marks.Alone.{run_tells}
+use Rattle.nm_commit_laws.proofs.marks.Drained.{drained_tells}
+use Rattle.nm_commit_laws.proofs.marks.Remains.{run_stays, drained_stays}
+use Rattle.nm_flat.specs.declared.flat.FlatNode.{FlatNode}
 use Rattle.nm_content_place.specs.declared.place.YangNode.{YangNode}
 use Rattle.nm_console.proofs.Unmarked.{flat_unmarked, data_unmarked}
 use Rattle.nm_safety.proofs.Lists.{some_is}
 use Rattle.nm_content.specs.Mark.{has_mark}
-use Rattle.nm_proto.specs.Flat.{flat_has_mark}
-use Rattle.nm_refusing.specs.Refuses.{RefusesGone}
-use Rattle.nm_refusing.proofs.Alone.{run_refuses}
-use Rattle.nm_refusing.proofs.Drained.{drained_refuses}
-use Rattle.nm_recording.specs.Records.{EndsAsRecorded}
-use Rattle.nm_recording.proofs.Whole.{run_ends_so, drained_ends_so}
-use Rattle.nm_causes.specs.Causes.{HaveCauses}
-use Rattle.nm_causes.proofs.Runs.{run_has_causes, drained_has_causes}
-use Rattle.nm_lapsing.specs.Lapses.{LapsesAreUndone}
-use Rattle.nm_lapsing.proofs.Runs.{run_lapses, drained_lapses}
-use Rattle.nm_calm.specs.Calm.{IsCalm, IsCommitted}
-use Rattle.nm_calm.proofs.Rests.{calm_commits}
-use Rattle.nm_ending.specs.Rest.{HasDevices, IsWithin}
-use Rattle.nm_ending.proofs.Limit.{run_ends}
+use Rattle.nm_flat.specs.Flat.{flat_has_mark}
+use Rattle.nm_commit_laws.specs.Refuses.{RefusesGone}
+use Rattle.nm_commit_laws.proofs.refuses.Alone.{run_refuses}
+use Rattle.nm_commit_laws.proofs.refuses.Drained.{drained_refuses}
+use Rattle.nm_outcome_laws.specs.Records.{EndsAsRecorded}
+use Rattle.nm_outcome_laws.proofs.records.Whole.{run_ends_so, drained_ends_so}
+use Rattle.nm_outcome_laws.specs.Causes.{HaveCauses}
+use Rattle.nm_outcome_laws.proofs.causes.Runs.{run_has_causes, drained_has_causes}
+use Rattle.nm_outcome_laws.specs.Lapses.{LapsesAreUndone}
+use Rattle.nm_outcome_laws.proofs.lapses.Runs.{run_lapses, drained_lapses}
+use Rattle.nm_rest_laws.specs.Calm.{IsCalm, IsCommitted}
+use Rattle.nm_rest_laws.proofs.calm.Rests.{calm_commits}
+use Rattle.nm_rest_laws.specs.Rest.{HasDevices, IsWithin}
+use Rattle.nm_rest_laws.proofs.rest.Limit.{run_ends}
 use Rattle.nm_console.proofs.Rests.{few_elementary, has_devices}
 use Rattle.nm_console.specs.Console.{CanRun, IsSafeRun, led_to, setting_of, world_of}
 

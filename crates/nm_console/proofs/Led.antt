@@ -1,13 +1,13 @@
 -- A run, and then rest where that is asked for, make what events lead to.
 use Rattle.std.proofs.Common.{◌≡◌, ℕ, List, Bool, true, false, Result, Ok, Err, IfOk, sym, ap, ◌∙◌, subst}
-use Rattle.nm_disk.specs.Image.{AnyMoment}
+use Rattle.nm_disk.specs.Image.{DiskState, AnyMoment}
 use Rattle.nm_disk.specs.Moments.{and_then, weaker}
 use Rattle.nm_manager.specs.declared.action.TurnFault.{TurnFault}
-use Rattle.nm_network.specs.Drain.{drain_limit, drained}
-use Rattle.nm_network.specs.Runs.{GoesOnAs, IsBetween}
-use Rattle.nm_network.specs.World.{Whole, WorldState, run, with_state}
-use Rattle.nm_network.proofs.Growing.{goes_itself, goes_then}
-use Rattle.nm_network.proofs.Passing.{drained_grows, run_grows}
+use Rattle.nm_world.specs.Drain.{drain_limit, drained}
+use Rattle.nm_world.specs.Runs.{GoesOnAs, IsBetween}
+use Rattle.nm_world.specs.World.{WorldValue, WorldState, run, with_state}
+use Rattle.nm_world.proofs.Growing.{goes_itself, goes_then}
+use Rattle.nm_world.proofs.Passing.{drained_grows, run_grows}
 use Rattle.nm_proto.specs.Content.{Meaning}
 use Rattle.nm_proto.specs.declared.journal.Entry.{Entry}
 use Rattle.nm_proto.specs.declared.plan.Event.{Event}
@@ -22,9 +22,9 @@ wider first before after last image begins ends between = record {
   goes_on = goes_then between.so_far after last between.goes_on ends;
 }
 
-module _ {TheContent Config TheEdit Node : Type 0} (meaning : TheContent → Meaning Config TheEdit Node) (world mid : Whole TheContent Config TheEdit Node) (events : List Event) where
+module _ {TheContent Config TheEdit Node : Type 0} (meaning : TheContent → Meaning Config TheEdit Node) (world mid : WorldValue TheContent Config TheEdit Node) (events : List Event) where
   abbrev W : Type 0
-  W = Whole TheContent Config TheEdit Node
+  W = WorldValue TheContent Config TheEdit Node
 
   abbrev ran : WorldState Config Node
   ran = run (meaning world.content) world.setting world.state events
@@ -39,9 +39,9 @@ module _ {TheContent Config TheEdit Node : Type 0} (meaning : TheContent → Mea
   led_is : (drain : Bool) → drain ≡ true → mid ≡ with_state world ran → goes_to ≡ led drain
   led_is drain is same = ap (λ (w : W). drained (meaning w.content) w.setting drain_limit w.state) same ∙ ap led (sym is)
 
-  pub rest_done : (drain : Bool) (result : Result W TurnFault) → drain ≡ true → mid ≡ with_state world mid.state → (mid.state.strayed ≡ false → mid ≡ with_state world ran)
-      → IfOk result (λ last. last.state.strayed ≡ false → last ≡ with_state mid goes_to) → IfOk result (λ last. last.state.strayed ≡ mid.state.strayed)
-      → IfOk result (λ last. last.state.strayed ≡ false → last ≡ with_state world (led drain))
+  pub rest_done : (drain : Bool) (result : Result W TurnFault) → drain ≡ true → mid ≡ with_state world mid.state → (mid.state.has_diverged ≡ false → mid ≡ with_state world ran)
+      → IfOk result (λ last. last.state.has_diverged ≡ false → last ≡ with_state mid goes_to) → IfOk result (λ last. last.state.has_diverged ≡ mid.state.has_diverged)
+      → IfOk result (λ last. last.state.has_diverged ≡ false → last ≡ with_state world (led drain))
   rest_done drain (Ok last) is others done ended same = λ unstrayed.
       let here = done (sym same ∙ unstrayed) in
       ended unstrayed ∙ ap (λ (w : W). with_state w goes_to) others ∙ ap (with_state world) (led_is drain is here)
@@ -51,7 +51,7 @@ module _ {TheContent Config TheEdit Node : Type 0} (meaning : TheContent → Mea
   rest_others (Ok last) others same = same ∙ ap (λ (w : W). with_state w last.state) others
   rest_others (Err why) others same = tt
 
-  pub rest_straight : (result : Result W TurnFault) → mid.state.strayed ≡ false → IfOk result (λ last. last.state.strayed ≡ mid.state.strayed) → IfOk result (λ last. last.state.strayed ≡ false)
+  pub rest_straight : (result : Result W TurnFault) → mid.state.has_diverged ≡ false → IfOk result (λ last. last.state.has_diverged ≡ mid.state.has_diverged) → IfOk result (λ last. last.state.has_diverged ≡ false)
   rest_straight (Ok last) straight same = same ∙ straight
   rest_straight (Err why) straight same = tt
 
@@ -63,23 +63,22 @@ module _ {TheContent Config TheEdit Node : Type 0} (meaning : TheContent → Mea
   begun : GoesOnAs world.state.entries ran.entries
   begun = run_grows (meaning world.content) world.setting world.state events
 
-  module _ {D : Type 0} (may_leave : D → List ℕ → Type 0) (moment : D → ℕ) (left_since : D → ℕ → List ℕ → Type 0) where
-    abbrev Leaves : List Entry → List Entry → D → D → Type 0
-    Leaves before after old new = AnyMoment moment left_since old new (IsBetween before after)
+  abbrev Leaves : List Entry → List Entry → DiskState → DiskState → Type 0
+  Leaves before after old new = AnyMoment old new (IsBetween before after)
 
-    -- what a crash leaves in the run
-    pub ran_left : (drain : Bool) (old new : D) → Leaves world.state.entries ran.entries old new → Leaves world.state.entries (led drain).entries old new
-    ran_left drain old new moments =
-        weaker moment left_since may_leave old new (IsBetween world.state.entries ran.entries) (IsBetween world.state.entries (led drain).entries)
-        (λ image. wider world.state.entries world.state.entries ran.entries (led drain).entries image (goes_itself world.state.entries) (ran_goes drain)) moments
+  -- what a crash leaves in the run
+  pub ran_left : (drain : Bool) (old new : DiskState) → Leaves world.state.entries ran.entries old new → Leaves world.state.entries (led drain).entries old new
+  ran_left drain old new moments =
+      weaker old new (IsBetween world.state.entries ran.entries) (IsBetween world.state.entries (led drain).entries)
+      (λ image. wider world.state.entries world.state.entries ran.entries (led drain).entries image (goes_itself world.state.entries) (ran_goes drain)) moments
 
-    -- and after it
-    pub rest_left : (drain : Bool) (old between new : D) → drain ≡ true → mid ≡ with_state world ran → Leaves world.state.entries ran.entries old between
-        → Leaves mid.state.entries goes_to.entries between new → Leaves world.state.entries (led drain).entries old new
-    rest_left drain old between new is same first second =
-        let here : mid.state ≡ ran = ap (λ (w : W). w.state) same in
-        let then_ : Leaves ran.entries (led drain).entries between new =
-        subst (λ (w : WorldState Config Node). Leaves ran.entries w.entries between new) (led_is drain is same) (subst (λ (w : WorldState Config Node). Leaves w.entries goes_to.entries between new) here second) in
-        and_then moment left_since may_leave old between new (IsBetween world.state.entries (led drain).entries) (ran_left drain old between first)
-        (weaker moment left_since may_leave between new (IsBetween ran.entries (led drain).entries) (IsBetween world.state.entries (led drain).entries)
-        (λ image. wider world.state.entries ran.entries (led drain).entries (led drain).entries image begun (goes_itself (led drain).entries)) then_)
+  -- and after it
+  pub rest_left : (drain : Bool) (old between new : DiskState) → drain ≡ true → mid ≡ with_state world ran → Leaves world.state.entries ran.entries old between
+      → Leaves mid.state.entries goes_to.entries between new → Leaves world.state.entries (led drain).entries old new
+  rest_left drain old between new is same first second =
+      let here : mid.state ≡ ran = ap (λ (w : W). w.state) same in
+      let then_ : Leaves ran.entries (led drain).entries between new =
+      subst (λ (w : WorldState Config Node). Leaves ran.entries w.entries between new) (led_is drain is same) (subst (λ (w : WorldState Config Node). Leaves w.entries goes_to.entries between new) here second) in
+      and_then old between new (IsBetween world.state.entries (led drain).entries) (ran_left drain old between first)
+      (weaker between new (IsBetween ran.entries (led drain).entries) (IsBetween world.state.entries (led drain).entries)
+      (λ image. wider world.state.entries ran.entries (led drain).entries (led drain).entries image begun (goes_itself (led drain).entries)) then_)

@@ -4,15 +4,15 @@ use Rattle.std.proofs.lemmas.List.{length-replicate}
 use Rattle.nm_proto.specs.declared.journal.Entry.{Entry}
 use Rattle.nm_journal.specs.declared.fault.JournalFault.{JournalFault}
 use Rattle.nm_journal.specs.declared.fault.JournalFault.TheVariants.{NotEmpty, Damaged, DiskFault, Stopped, NoMemory}
-use Rattle.nm_scenario_parts.specs.declared.fault.Fault.{Fault}
+use Rattle.nm_scenario_form.specs.declared.fault.Fault.{Fault}
 use Rattle.nm_scenario.specs.declared.scenario.Scenario.{Scenario}
 use Rattle.nm_scenario.specs.Scenario.{ReadsBytes}
 use Rattle.nm_scenario.specs.declared.scenario.Body.{Body}
 use Rattle.nm_scenario.specs.declared.scenario.Body.TheVariants.{Flat, Yang}
-use Rattle.nm_proto.specs.declared.flat.FlatEdit.{FlatEdit}
-use Rattle.nm_proto.specs.Flat.{FlatState, flat_text}
-use Rattle.nm_proto.specs.FlatContent.{flat_meaning}
-use Rattle.nm_tree.specs.Nodes.{SchemaTree}
+use Rattle.nm_flat.specs.declared.flat.FlatEdit.{FlatEdit}
+use Rattle.nm_flat.specs.Flat.{FlatState, flat_text}
+use Rattle.nm_flat.specs.FlatContent.{flat_meaning}
+use Rattle.nm_schema_tree.specs.Nodes.{SchemaTree}
 use Rattle.nm_config.specs.Rows.{Rows}
 use Rattle.nm_edit.specs.declared.edit.EditNode.{EditNode}
 use Rattle.nm_content.specs.Meaning.{lifted, yang_meaning, yang_text}
@@ -20,9 +20,9 @@ use Rattle.nm_console.specs.declared.status.Status.{Status}
 use Rattle.nm_console.specs.declared.said.Said.{Said}
 use Rattle.nm_console.specs.declared.journal.JournalStop.{JournalStop}
 use Rattle.nm_console.specs.declared.command.Command.TheVariants.{Check, Replay}
-use Rattle.nm_network.specs.World.{WorldState}
+use Rattle.nm_world.specs.World.{WorldState}
 use Rattle.nm_proto.specs.declared.plan.Event.{Event}
-use Rattle.nm_console.specs.Console.{Answer, AsSaid, AsTold, IsAstray, IsAstrayBy, IsAstrayIn, IsAstrayOf, IsSoOf, Strayed, Stores, Tells, TellsLast, TellsOver, TellsReplay, TellsRun, TellsUnopened, Unread, checked, entries_by, faulted, left_in, not_empty, opened, replay_entries, replayed, told_by, told_of, world_of}
+use Rattle.nm_console.specs.Console.{Answer, AsSaid, AsTold, IsAstray, IsAstrayBy, IsAstrayIn, IsAstrayOf, IsSoOf, DivergedRun, Stores, Tells, TellsLast, TellsOver, TellsReplay, TellsRun, TellsUnopened, Unread, checked, entries_by, faulted, left_in, not_empty, opened, replay_entries, replayed, told_by, told_of, world_of}
 
 some_image : (stored : Option (List ℕ)) → IfSome stored (λ told. told ≡ unwrap_or stored [])
 some_image None = tt
@@ -34,8 +34,8 @@ fault_replays fault stored status text tells =
     record { image = unwrap_or stored []; kept = some_image stored; goes = inl (record { tells = tells; stores = refl }) }
 
 module _ {Config Node : Type 0} (told : WorldState Config Node → Answer) (last : WorldState Config Node) (events : List Event) (stored mid after : Option (List ℕ)) (status : Status) (text : List ℕ) where
-  other : (IsSome stored → IsSome mid) → Strayed told mid status text ⊎ Unread status text → Strayed told stored status text ⊎ Unread status text
-  other some (inl strayed) = inl (record { untold = λ is. strayed.untold (some is); last = strayed.last; has = strayed.has; tells = strayed.tells })
+  other : (IsSome stored → IsSome mid) → DivergedRun told mid status text ⊎ Unread status text → DivergedRun told stored status text ⊎ Unread status text
+  other some (inl has_diverged) = inl (record { untold = λ is. has_diverged.untold (some is); last = has_diverged.last; has = has_diverged.has; tells = has_diverged.tells })
   other some (inr unread) = inr unread
 
   goes_so : (IsSome stored → IsSome mid) → TellsLast told last events mid after status text

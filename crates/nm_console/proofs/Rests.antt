@@ -7,8 +7,8 @@ use Rattle.nm_proto.specs.declared.plan.Event.{Event}
 use Rattle.nm_proto.specs.declared.plan.Event.TheVariants.{Submit, Turn, Deliver, Answer, Break, Lose, Advance, Restart, Forget, Crash, Renew, Foreign, Leave, Round}
 use Rattle.nm_proto.specs.declared.plan.PlannedEdit.{PlannedEdit}
 use Rattle.nm_scenario_events.specs.Kept.{weight}
-use Rattle.nm_refusals.specs.Kept.{Ascend, ChangeKeeps, device_of_plan}
-use Rattle.nm_ending.specs.Rest.{IsWithin, elementary_count, events_count}
+use Rattle.nm_scenario_laws.specs.Kept.{Ascend, ChangeKeeps, device_of_plan}
+use Rattle.nm_rest_laws.specs.Rest.{IsWithin, elementary_count, events_count}
 
 -- ---- events
 

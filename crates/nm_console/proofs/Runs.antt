@@ -1,23 +1,23 @@
 -- What is told of a world that was led by events.
 use Rattle.std.proofs.Common.{◌≡◌, inl, inr, ℕ, List, Bool, true, false, Option, Result, Ok, Err, IfOk, IsSome, IfSome, refl, ap, subst}
 use Rattle.nm_journal.specs.Fits.{ReadsAs}
-use Rattle.nm_network.specs.World.{AreCalm, Setting, Whole, WorldState, with_state}
+use Rattle.nm_world.specs.World.{AreCalm, Setting, WorldValue, WorldState, with_state}
 use Rattle.nm_proto.specs.declared.plan.Event.{Event}
 use Rattle.nm_console.specs.declared.journal.JournalStop.{JournalStop}
 use Rattle.nm_console.specs.declared.said.Said.{Said}
 use Rattle.nm_console.specs.declared.status.Status.{Status}
 use Rattle.nm_console.specs.Console.{Tells, TellsLast, damaged, world_told}
 
-module _ {TheContent Config TheEdit Node : Type 0} (shown : TheContent → Config → List ℕ) (trace : Bool) (world last : Whole TheContent Config TheEdit Node) (led : WorldState Config Node)
+module _ {TheContent Config TheEdit Node : Type 0} (shown : TheContent → Config → List ℕ) (trace : Bool) (world last : WorldValue TheContent Config TheEdit Node) (led : WorldState Config Node)
     (events : List Event) (stored after : Option (List ℕ)) (status : Status) (text : List ℕ) where
   abbrev Goal : Type 0
   Goal = TellsLast (world_told (shown world.content) trace world.setting) led events stored after status text
 
-  ran_by : (strayed : Bool) → last.state.strayed ≡ strayed → last ≡ with_state world last.state → (last.state.strayed ≡ false → last ≡ with_state world led)
-      → (IsSome stored → last.state.strayed ≡ false) → (AreCalm events → last.state.strayed ≡ false) → IfSome after (ReadsAs last.state.entries)
+  ran_by : (has_diverged : Bool) → last.state.has_diverged ≡ has_diverged → last ≡ with_state world last.state → (last.state.has_diverged ≡ false → last ≡ with_state world led)
+      → (IsSome stored → last.state.has_diverged ≡ false) → (AreCalm events → last.state.has_diverged ≡ false) → IfSome after (ReadsAs last.state.entries)
       → Tells (world_told (shown world.content) trace world.setting last.state) status text → Goal
   ran_by false is same done straight calm stores tells =
-      let led_is : last.state ≡ led = ap (λ (w : Whole TheContent Config TheEdit Node). w.state) (done is) in
+      let led_is : last.state ≡ led = ap (λ (w : WorldValue TheContent Config TheEdit Node). w.state) (done is) in
       inl (subst (λ w. Tells (world_told (shown world.content) trace world.setting w) status text) led_is tells, subst (λ (w : WorldState Config Node). IfSome after (ReadsAs w.entries)) led_is stores)
   ran_by true is same done straight calm stores tells = inr (record {
     crashed = λ h. let no = calm h in absurd cc;
@@ -25,12 +25,12 @@ module _ {TheContent Config TheEdit Node : Type 0} (shown : TheContent → Confi
   })
 
   -- what was told of the world that it came to
-  pub ran_tells : last ≡ with_state world last.state → (last.state.strayed ≡ false → last ≡ with_state world led)
-      → (IsSome stored → last.state.strayed ≡ false) → (AreCalm events → last.state.strayed ≡ false) → IfSome after (ReadsAs last.state.entries)
+  pub ran_tells : last ≡ with_state world last.state → (last.state.has_diverged ≡ false → last ≡ with_state world led)
+      → (IsSome stored → last.state.has_diverged ≡ false) → (AreCalm events → last.state.has_diverged ≡ false) → IfSome after (ReadsAs last.state.entries)
       → Tells (world_told (shown last.content) trace last.setting last.state) status text → Goal
   ran_tells same done straight calm stores tells =
-      ran_by last.state.strayed refl same done straight calm stores
-      (subst (λ (w : Whole TheContent Config TheEdit Node). Tells (world_told (shown w.content) trace w.setting last.state) status text) same tells)
+      ran_by last.state.has_diverged refl same done straight calm stores
+      (subst (λ (w : WorldValue TheContent Config TheEdit Node). Tells (world_told (shown w.content) trace w.setting last.state) status text) same tells)
 
 -- or that its journal couldn't be read
 pub damaged_tells : {Config TheEdit Node : Type 0} (shown : Config → List ℕ) (trace : Bool) (setting : Setting TheEdit) (led : WorldState Config Node) (events : List Event) (stored after : Option (List ℕ))

@@ -9,8 +9,8 @@ use Rattle.nm_scenario.specs.declared.scenario.Body.TheVariants.{Flat, Yang}
 use Rattle.nm_scenario.specs.declared.scenario.Scenario.{Scenario}
 use Rattle.nm_scenario.specs.Scenario.{byte_limit}
 use Rattle.nm_scenario.proofs.Whole.{one_of_bytes, long_reads}
-use Rattle.nm_refusals.specs.Kept.{ScenarioKeeps}
-use Rattle.nm_refusals.proofs.Whole.{bytes_keep}
+use Rattle.nm_scenario_laws.specs.Kept.{ScenarioKeeps}
+use Rattle.nm_scenario_laws.proofs.Whole.{bytes_keep}
 use Rattle.nm_console.specs.declared.status.Status.{Status}
 use Rattle.nm_console.specs.declared.command.Command.{Command}
 use Rattle.nm_console.specs.declared.command.Command.TheVariants.{Check, Replay, Journal}

@@ -6,7 +6,7 @@ use Rattle.std.specs.Ordering.{eq_by_cmp}
 use Rattle.nm_base.specs.Words.{marker_name}
 use Rattle.nm_types.specs.Path.{PathStep, path_cmp}
 use Rattle.nm_types.specs.PathLaws.{same_path_decides}
-use Rattle.nm_proto.specs.Flat.{FlatState, flat_has_mark}
+use Rattle.nm_flat.specs.Flat.{FlatState, flat_has_mark}
 use Rattle.nm_config.specs.Rows.{Rows}
 use Rattle.nm_config.specs.Under.{is_under}
 use Rattle.nm_content.specs.Mark.{applied_name, changes_name, changes_step, has_mark, mark_path}

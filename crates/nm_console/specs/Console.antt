@@ -7,31 +7,31 @@ use Rattle.nm_proto.specs.Content.{Meaning, TablesState}
 use Rattle.nm_proto.specs.declared.plan.ChangePlan.{ChangePlan}
 use Rattle.nm_proto.specs.declared.plan.Event.{Event}
 use Rattle.nm_proto.specs.declared.plan.Event.TheVariants.{Submit}
-use Rattle.nm_proto.specs.Flat.{flat_text}
-use Rattle.nm_proto.specs.FlatContent.{flat_meaning}
-use Rattle.nm_proto.specs.declared.flat.FlatNode.{FlatNode}
+use Rattle.nm_flat.specs.Flat.{flat_text}
+use Rattle.nm_flat.specs.FlatContent.{flat_meaning}
+use Rattle.nm_flat.specs.declared.flat.FlatNode.{FlatNode}
 use Rattle.nm_content_place.specs.declared.place.YangNode.{YangNode}
 use Rattle.nm_content.specs.Meaning.{lifted, yang_meaning, yang_text}
-use Rattle.nm_scenario_parts.specs.declared.fault.Fault.{Fault}
-use Rattle.nm_scenario_parts.specs.Line.{line_of}
+use Rattle.nm_scenario_form.specs.declared.fault.Fault.{Fault}
+use Rattle.nm_scenario_form.specs.Line.{line_of}
 use Rattle.nm_scenario.specs.declared.scenario.Body.{Body}
 use Rattle.nm_scenario.specs.declared.scenario.Body.TheVariants.{Flat, Yang}
 use Rattle.nm_scenario.specs.declared.scenario.Scenario.{Scenario}
 use Rattle.nm_scenario.specs.Scenario.{ReadsBytes}
 use Rattle.nm_manager.specs.Requests.{IsWellFormed}
-use Rattle.nm_network.specs.World.{AreCalm, IsFirst, Setting, WorldState, run, start}
-use Rattle.nm_network.specs.Drain.{drain_event, drain_limit, drained}
-use Rattle.nm_network.specs.Runs.{IsBetween, IsNumbered}
+use Rattle.nm_world.specs.World.{AreCalm, IsFirst, Setting, WorldState, run, start}
+use Rattle.nm_world.specs.Drain.{drain_event, drain_limit, drained}
+use Rattle.nm_world.specs.Runs.{IsBetween, IsNumbered}
 use Rattle.nm_safety.specs.Safe.{IsSafe}
-use Rattle.nm_bringing.specs.Brings.{BringsAlone}
-use Rattle.nm_leaving.specs.Leaves.{LeavesAlone}
-use Rattle.nm_refusing.specs.Refuses.{RefusesGone}
-use Rattle.nm_recording.specs.Records.{EndsAsRecorded}
-use Rattle.nm_causes.specs.Causes.{HaveCauses}
-use Rattle.nm_lapsing.specs.Lapses.{LapsesAreUndone}
-use Rattle.nm_marking.specs.Marks.{ArePlain, MarksTell}
-use Rattle.nm_marking.specs.Stays.{MarksStay}
-use Rattle.nm_calm.specs.Calm.{IsCalm, IsCommitted}
+use Rattle.nm_commit_laws.specs.Brings.{BringsAlone}
+use Rattle.nm_commit_laws.specs.Leaves.{LeavesAlone}
+use Rattle.nm_commit_laws.specs.Refuses.{RefusesGone}
+use Rattle.nm_outcome_laws.specs.Records.{EndsAsRecorded}
+use Rattle.nm_outcome_laws.specs.Causes.{HaveCauses}
+use Rattle.nm_outcome_laws.specs.Lapses.{LapsesAreUndone}
+use Rattle.nm_commit_laws.specs.Marks.{ArePlain, MarksTell}
+use Rattle.nm_commit_laws.specs.Stays.{MarksStay}
+use Rattle.nm_rest_laws.specs.Calm.{IsCalm, IsCommitted}
 use Rattle.nm_safety.specs.Reported.{TellsAll}
 use Rattle.nm_report.specs.Text.{world_text}
 use Rattle.nm_report.specs.Check.{check_text}
@@ -84,7 +84,8 @@ world_told shown trace setting w = record { status = world_status setting w; tex
 
 -- what a world asks of a scenario, so that its events can come: devices that begin with valid configurations, change sets that are well
 -- formed and named by the events, and no more of them than a scenario may have
-pub record CanRun {Config TheEdit Node : Type 0} (m : Meaning Config TheEdit Node) (setting : Setting TheEdit) (running : List Config) (events : List Event) : Type 0 where
+pub record CanRun {Config TheEdit Node : Type 0} (m : Meaning Config TheEdit Node) (setting : Setting TheEdit)
+    (running : List Config) (events : List Event) : Type 0 where
   pub first : All (IsFirst m) running
   pub edits : All m.edit_belongs setting.tables.edits
   pub few_devices : length running ≤ 32
@@ -136,6 +137,7 @@ abbrev pub entries_by : List ℕ → Body → Scenario → Option (List Entry)
 entries_by image (Flat devices edits) s = left_in image (world_of flat_meaning devices edits s).entries
 entries_by image (Yang modules tree devices edits) s = left_in image (world_of (yang_meaning tree) (map lifted devices) edits s).entries
 
+-- the entries that a scenario leaves in the journal; none of one with a fault
 abbrev pub replay_entries : List ℕ → Result Scenario Fault → Option (List Entry)
 replay_entries image (Err fault) = None
 replay_entries image (Ok s) = entries_by image s.body s
@@ -144,9 +146,11 @@ replay_entries image (Ok s) = entries_by image s.body s
 abbrev pub listed : List Entry → Answer
 listed entries = record { status = status.Ok; text = journal_text entries }
 
+-- journal: the damage, by the byte at which it begins
 abbrev pub damaged : ℕ → Answer
 damaged offset = record { status = status.Journal; text = damaged_text offset }
 
+-- journal: its entries, or its damage
 abbrev pub journalled : Result (List Entry) ℕ → Answer
 journalled (Ok entries) = listed entries
 journalled (Err offset) = damaged offset
@@ -173,7 +177,10 @@ counts_told (Yang modules tree devices edits) = map data_rows_told devices
 
 -- what a scenario holds: its modules, the rows of each device, and how many change sets, operators and events there are
 abbrev pub holding : Scenario → Answer
-holding s = record { status = status.Ok; text = check_text (modules_told s.body) (counts_told s.body) (length s.changes) (length s.operators) (length s.events) }
+holding s = record {
+  status = status.Ok;
+  text = check_text (modules_told s.body) (counts_told s.body) (length s.changes) (length s.operators) (length s.events);
+}
 
 -- check: what the scenario holds, or its first fault
 abbrev pub checked : Result Scenario Fault → Answer
@@ -212,10 +219,11 @@ pub record LeavesSoFarOf (left : Option (List ℕ)) (image : List ℕ) : Type 0 
 -- ---- a run that a crash led astray
 
 -- the manager read another list of entries than it wrote. Only a disk that doesn't tell its bytes can give one
-pub record Strayed {Config Node : Type 0} (told_of : WorldState Config Node → Answer) (stored : Option (List ℕ)) (status : Status) (text : List ℕ) : Type 0 where
+pub record DivergedRun {Config Node : Type 0} (told_of : WorldState Config Node → Answer) (stored : Option (List ℕ))
+    (status : Status) (text : List ℕ) : Type 0 where
   pub untold : IsSome stored → ⊥
   pub last : WorldState Config Node
-  pub has : last.strayed ≡ true
+  pub has : last.has_diverged ≡ true
   pub tells : Tells (told_of last) status text
 
 -- it couldn't read its journal from a byte on, and the run was over
@@ -224,15 +232,17 @@ pub record Unread (status : Status) (text : List ℕ) : Type 0 where
   pub tells : Tells (damaged offset) status text
 
 -- one of both, where the events have a crash
-pub record IsAstray {Config Node : Type 0} (told_of : WorldState Config Node → Answer) (events : List Event) (stored : Option (List ℕ)) (status : Status) (text : List ℕ) : Type 0 where
+pub record IsAstray {Config Node : Type 0} (told_of : WorldState Config Node → Answer) (events : List Event)
+    (stored : Option (List ℕ)) (status : Status) (text : List ℕ) : Type 0 where
   pub crashed : AreCalm events → ⊥
-  pub tells : Strayed told_of stored status text ⊎ Unread status text
+  pub tells : DivergedRun told_of stored status text ⊎ Unread status text
 
 -- the same of a scenario with these contents, and of one that was read
 abbrev pub IsAstrayBy : Body → Scenario → Option (List ℕ) → Status → List ℕ → Type 0
 IsAstrayBy (Flat devices edits) s stored status text = IsAstray {Node = FlatNode} (told_of flat_text edits s) s.events stored status text
 IsAstrayBy (Yang modules tree devices edits) s stored status text = IsAstray {Node = YangNode} (told_of (yang_text tree) edits s) s.events stored status text
 
+-- the same of a scenario as it was read; one with a fault is never astray
 abbrev pub IsAstrayIn : Result Scenario Fault → Option (List ℕ) → Status → List ℕ → Type 0
 IsAstrayIn (Err fault) stored status text = ⊥
 IsAstrayIn (Ok s) stored status text = IsAstrayBy s.body s stored status text
@@ -255,7 +265,8 @@ pub record AsTold (answer : Answer) (left : Option (List Entry)) (stored after :
 abbrev pub AsSaid : Option Command → List ℕ → List ℕ → Option (List ℕ) → Option (List ℕ) → Status → List ℕ → Type 0
 AsSaid None bytes image stored after status text = AsTold usage_told None stored after status text
 AsSaid (Some Check) bytes image stored after status text = IsSoOf bytes (λ outcome. AsTold (checked outcome) None stored after status text)
-AsSaid (Some Replay) bytes image stored after status text = IsSoOf bytes (λ outcome. AsTold (replayed image outcome) (replay_entries image outcome) stored after status text)
+AsSaid (Some Replay) bytes image stored after status text =
+    IsSoOf bytes (λ outcome. AsTold (replayed image outcome) (replay_entries image outcome) stored after status text)
 AsSaid (Some Journal) bytes image stored after status text = AsTold (journalled (entries_of image)) None stored after status text
 
 -- what is said to a command, an input and a disk is one answer, whatever the disk tells
@@ -276,13 +287,15 @@ pub record TellsReplay (read : Result Scenario Fault) (stored after : Option (Li
   pub goes : AsTold (replayed image read) (replay_entries image read) stored after status text ⊎ IsAstrayIn read stored status text
 
 -- the same of a run to a last world
-pub record TellsRun {Config Node : Type 0} (told_of : WorldState Config Node → Answer) (last : WorldState Config Node) (events : List Event) (stored after : Option (List ℕ)) (status : Status) (text : List ℕ) : Type 0 where
+pub record TellsRun {Config Node : Type 0} (told_of : WorldState Config Node → Answer) (last : WorldState Config Node)
+    (events : List Event) (stored after : Option (List ℕ)) (status : Status) (text : List ℕ) : Type 0 where
   pub image : List ℕ
   pub kept : IfSome stored (λ told. told ≡ image)
   pub goes : AsTold (opened image (told_of last)) (left_in image last.entries) stored after status text ⊎ IsAstray told_of events stored status text
 
 -- and of one that began over an empty journal
-abbrev pub TellsLast : {Config Node : Type 0} → (WorldState Config Node → Answer) → WorldState Config Node → List Event → Option (List ℕ) → Option (List ℕ) → Status → List ℕ → Type 0
+abbrev pub TellsLast : {Config Node : Type 0} → (WorldState Config Node → Answer) → WorldState Config Node → List Event
+    → Option (List ℕ) → Option (List ℕ) → Status → List ℕ → Type 0
 TellsLast told_of last events stored after status text =
     (Tells (told_of last) status text × IfSome after (ReadsAs last.entries)) ⊎ IsAstray told_of events stored status text
 
@@ -293,7 +306,8 @@ TellsUnopened _ status text = ⊥
 
 -- the world that a scenario of these devices and edits leads to is safe, its devices begin with valid configurations, what is
 -- reported of it is so (all of a change set or none, but for the devices that are told to differ), and what is brought to rest is there
-pub record IsSafeRun {Config TheEdit Node : Type 0} (m : Meaning Config TheEdit Node) (devices : List Config) (edits : List TheEdit) (s : Scenario) : Type 0 where
+pub record IsSafeRun {Config TheEdit Node : Type 0} (m : Meaning Config TheEdit Node) (devices : List Config)
+    (edits : List TheEdit) (s : Scenario) : Type 0 where
   pub valid : All (IsFirst m) devices
   pub safe : IsSafe m (setting_of edits s) devices s.events (world_of m devices edits s)
   pub reports : TellsAll (setting_of edits s) (world_of m devices edits s)
@@ -322,6 +336,7 @@ abbrev pub RunsSafelyBy : Body → Scenario → Type 0
 RunsSafelyBy (Flat devices edits) s = IsSafeRun flat_meaning devices edits s
 RunsSafelyBy (Yang modules tree devices edits) s = IsSafeRun (yang_meaning tree) (map lifted devices) edits s
 
+-- a scenario runs safely, if it could be read
 abbrev pub RunsSafely : Result Scenario Fault → Type 0
 RunsSafely (Err fault) = Unit {0}
 RunsSafely (Ok s) = RunsSafelyBy s.body s

@@ -1,8 +1,8 @@
 -- What the program says where its words or its input are refused (this project's own): one line, with a newline.
 use Rattle.std.specs.Prelude.{ℕ, List, [], ◌++◌, codes, decimal}
 use Rattle.nm_proto.specs.declared.kind.ScenarioKind.{ScenarioKind}
-use Rattle.nm_scenario_parts.specs.declared.fault.Fault.{Fault}
-use Rattle.nm_scenario_parts.specs.Reading.{plain}
+use Rattle.nm_scenario_form.specs.declared.fault.Fault.{Fault}
+use Rattle.nm_scenario_form.specs.Reading.{plain}
 
 -- what the words of the program are
 abbrev pub usage_text : List ℕ

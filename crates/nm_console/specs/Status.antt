@@ -1,12 +1,13 @@
 -- The exit statuses (this project's own).
 use Rattle.std.specs.Prelude.{ℕ, List, [], ◌∷◌, Bool, true, false}
-use Rattle.nm_network.specs.declared.report.Pair.{Pair}
-use Rattle.nm_network.specs.declared.report.Report.{Report}
-use Rattle.nm_network.specs.Report.{report_of}
-use Rattle.nm_network.specs.World.{Setting, WorldState}
+use Rattle.nm_world.specs.declared.report.Pair.{Pair}
+use Rattle.nm_world.specs.declared.report.Report.{Report}
+use Rattle.nm_world.specs.Report.{report_of}
+use Rattle.nm_world.specs.World.{Setting, WorldState}
 use Rattle.nm_console.specs.declared.status.Status.{Status}
 use Rattle.nm_console.specs.declared.status.Status.TheVariants as status
 
+-- the exit status of an outcome; 0 only where all is well
 abbrev pub status_code : Status → ℕ
 status_code status.Ok = 0
 status_code status.Differ = 1
@@ -38,8 +39,10 @@ status_for (pair ∷ pairs) differ = status.Unsettled
 status_for [] (pair ∷ pairs) = status.Differ
 status_for [] [] = status.Ok
 
+-- the status of a report
 abbrev pub report_status : Report → Status
 report_status report = status_for report.unsettled report.differ
 
+-- the status of the world at the end of a run
 abbrev pub world_status : {Config TheEdit Node : Type 0} → Setting TheEdit → WorldState Config Node → Status
 world_status setting w = report_status (report_of setting w)

@@ -5,6 +5,7 @@ use Rattle.std.specs.Str.{bytes_eq}
 use Rattle.nm_console.specs.declared.command.Command.{Command}
 use Rattle.nm_console.specs.declared.command.Command.TheVariants.{Check, Replay, Journal}
 
+-- the words as texts
 abbrev pub texts_of : List (String Global) → List (List ℕ)
 texts_of words = map string_bytes words
 
@@ -14,9 +15,11 @@ texts_of words = map string_bytes words
 abbrev pub option_word : List ℕ
 option_word = codes "--journal"
 
+-- the option that names the journal, joined to its value
 abbrev pub option_prefix : List ℕ
 option_prefix = codes "--journal="
 
+-- it is this byte
 abbrev pub is_byte : Option ℕ → ℕ → Bool
 is_byte None byte = false
 is_byte (Some other) byte = other == byte
@@ -25,6 +28,7 @@ is_byte (Some other) byte = other == byte
 abbrev pub begins_with_dash : List ℕ → Bool
 begins_with_dash word = is_byte (slice_get word 0) 45
 
+-- a word ends with `=`
 abbrev pub ends_with_equals : List ℕ → Bool
 ends_with_equals word = is_byte (slice_get word (length word - 1)) 61
 
@@ -32,6 +36,7 @@ ends_with_equals word = is_byte (slice_get word (length word - 1)) 61
 abbrev pub is_file : List ℕ → Bool
 is_file name = nat_le 1 (length name) && (nat_le (length name) 4096 && not (ends_with_equals name))
 
+-- a name, where it may be that of a file
 abbrev pub if_file : List ℕ → Option (List ℕ)
 if_file name = if is_file name then Some name else None
 
@@ -56,8 +61,11 @@ file_in (option ∷ name ∷ other ∷ words) = None
 abbrev pub alone : List ℕ → Option Command
 alone word = if bytes_eq word (codes "check") then Some Check else (if bytes_eq word (codes "replay") then Some Replay else None)
 
+-- a command that takes a file, where one is named
 abbrev pub with_file : List ℕ → Bool → Option Command
-with_file word named = if named && bytes_eq word (codes "journal") then Some Journal else (if named && bytes_eq word (codes "replay") then Some Replay else None)
+with_file word named =
+    if named && bytes_eq word (codes "journal") then Some Journal else (
+    if named && bytes_eq word (codes "replay") then Some Replay else None)
 
 -- the command of the words after the program's name; any list that isn't named here is refused
 abbrev pub command_of : List (List ℕ) → Option Command
@@ -70,6 +78,7 @@ abbrev pub file_if : Bool → List (List ℕ) → Option (List ℕ)
 file_if known [] = None
 file_if known (word ∷ options) = if known then file_in options else None
 
+-- the file of the journal that the words name
 abbrev pub file_of : List (List ℕ) → Option (List ℕ)
 file_of words = file_if (is_some (command_of words)) words
 

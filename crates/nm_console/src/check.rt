@@ -8,10 +8,10 @@ use crate::rows::{data_rows_of, rows_of};
 use crate::said::{Said, say_fault};
 use crate::status::Status;
 use nm_base::{Label, NoMemory};
-use nm_proto::FlatContent;
-use nm_refusals::read_last_scenario;
+use nm_flat::FlatContent;
 use nm_report::write_check;
 use nm_scenario::{Body, ReadError, Scenario};
+use nm_scenario_laws::read_last_scenario;
 use std::alloc::Global;
 use std::mem::forget;
 

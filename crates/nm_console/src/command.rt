@@ -1,3 +1,5 @@
+//! The words that the program is called with, and the file that they name.
+
 ghost use Rattle.std.specs.Prelude.{◌≡◌, map, string_bytes, option_copied, IfOk};
 ghost use Rattle.nm_console.specs.Words.{alone, begins_with_dash, command_of, ends_with_equals, file_in, file_of, if_file, is_byte, is_file, joined_file, named_file, texts_of, with_file};
 

@@ -1,3 +1,5 @@
+//! The program as a whole: what it reads, which answer it makes, and that it writes it at once.
+
 ghost use Rattle.std.specs.Prelude.{◌≡◌, List, [], ℕ, Option, IfOk, IsErrOf, IsOk, Some, IsSome, IsTrue, true, false};
 ghost use Rattle.nm_base.specs.Count.{Rose};
 ghost use Rattle.nm_io.specs.Bytes.{ReadsUpTo};
@@ -45,13 +47,15 @@ pub fn console<S: Source, K: Sink, D: Disk>(
 ) -> Status
     // The answer to the words, the input and the journal was written, and nothing else.
     ensures answered { IsTrue (is_whole result)
-        → Answers (record { left = S.left input.old; stored = D.told journal.old; after = D.told journal.new }) (command_of (texts_of words.now)) (K.taken output.old) (K.taken output.new) result }
+        → Answers (record { left = S.left input.old; stored = (D.state journal.old).contents; after = (D.state journal.new).contents })
+        (command_of (texts_of words.now)) (K.taken output.old) (K.taken output.new) result }
 
     // What is run for it is safe: the law `runs_are_safe`.
     ensures safe { EachRunIsSafe }
 
     // The input was read to its end, or past the greatest length of a scenario.
-    ensures read_out { IsTrue (is_whole result) → reads_input (command_of (texts_of words.now)) ≡ true → ReadsUpTo byte_limit (S.left input.old) (S.left input.new) }
+    ensures read_out { IsTrue (is_whole result) → reads_input (command_of (texts_of words.now)) ≡ true
+        → ReadsUpTo byte_limit (S.left input.old) (S.left input.new) }
 
     // The input failed: nothing was written.
     ensures read_fault { result ≡ Status.ReadFault
@@ -60,23 +64,25 @@ pub fn console<S: Source, K: Sink, D: Disk>(
     // The output failed: a front of the answer was written.
     ensures write_fault { result ≡ Status.WriteFault
         → Rose (K.faults output.old) (K.faults output.new)
-        × CutOff (record { left = S.left input.old; stored = D.told journal.old; after = D.told journal.new }) (command_of (texts_of words.now)) (K.taken output.old) (K.taken output.new) }
+        × CutOff (record { left = S.left input.old; stored = (D.state journal.old).contents; after = (D.state journal.new).contents })
+        (command_of (texts_of words.now)) (K.taken output.old) (K.taken output.new) }
 
     // The journal's disk failed: nothing was written.
     ensures disk_fault { result ≡ Status.DiskFault
-        → IsTrue (uses_journal (command_of (texts_of words.now))) × Rose (D.faults journal.old) (D.faults journal.new) × (K.taken output.new ≡ K.taken output.old) }
+        → IsTrue (uses_journal (command_of (texts_of words.now))) × Rose (D.state journal.old).faults (D.state journal.new).faults
+        × (K.taken output.new ≡ K.taken output.old) }
 
     // Memory ran out: nothing was written.
     ensures no_memory { result ≡ Status.NoMemory → K.taken output.new ≡ K.taken output.old }
 
     // The input stays where the command doesn't read it, and the journal where nothing is run.
     ensures unread { reads_input (command_of (texts_of words.now)) ≡ false → input.new ≡ input.old }
-    ensures journal_stays { is_replay (command_of (texts_of words.now)) ≡ false → D.told journal.new ≡ D.told journal.old }
-    ensures journal_kept { KeepsDisk D.told D.faults journal.old journal.new }
+    ensures journal_stays { is_replay (command_of (texts_of words.now)) ≡ false → (D.state journal.new).contents ≡ (D.state journal.old).contents }
+    ensures journal_kept { KeepsDisk (D.state journal.old) (D.state journal.new) }
 
     // A crash at any moment of a run over an empty journal leaves the entries so far, the one being written with them or not.
-    ensures any_moment { is_replay (command_of (texts_of words.now)) ≡ true → IsSome (D.told journal.old) → LeavesOnly [] (D.may_leave journal.old)
-        → AnyMoment D.moment D.might_have_left journal.old journal.new (LeavesSoFarOf (S.left input.old)) }
+    ensures any_moment { is_replay (command_of (texts_of words.now)) ≡ true → IsSome (D.state journal.old).contents → LeavesOnly [] (D.state journal.old)
+        → AnyMoment (D.state journal.old) (D.state journal.new) (LeavesSoFarOf (S.left input.old)) }
 {
     let said = match say(alloc, command_of(words), input, journal) {
         Ok(said) => said,
@@ -98,18 +104,22 @@ fn say<S: Source, D: Disk>(
     input: &mut S,
     journal: &mut D,
 ) -> Result<Said, Stop>
-    ensures says { IfOk result (λ said. Says (record { left = S.left input.old; stored = D.told journal.old; after = D.told journal.new }) command said.status said.text.items) }
+    ensures says { IfOk result (λ said. Says (record {
+      left = S.left input.old;
+      stored = (D.state journal.old).contents;
+      after = (D.state journal.new).contents;
+    }) command said.status said.text.items) }
     ensures whole { IfOk result (λ said. IsTrue (is_whole said.status)) }
     ensures read_out { IsOk result → reads_input command ≡ true → ReadsUpTo byte_limit (S.left input.old) (S.left input.new) }
     ensures read_fault { IsErrOf result Stop.ReadFault
         → IsTrue (reads_input command) × Rose (S.faults input.old) (S.faults input.new) }
     ensures disk_fault { IsErrOf result Stop.DiskFault
-        → IsTrue (uses_journal command) × Rose (D.faults journal.old) (D.faults journal.new) }
+        → IsTrue (uses_journal command) × Rose (D.state journal.old).faults (D.state journal.new).faults }
     ensures unread { reads_input command ≡ false → input.new ≡ input.old }
-    ensures journal_stays { is_replay command ≡ false → D.told journal.new ≡ D.told journal.old }
-    ensures journal_kept { KeepsDisk D.told D.faults journal.old journal.new }
-    ensures any_moment { is_replay command ≡ true → IsSome (D.told journal.old) → LeavesOnly [] (D.may_leave journal.old)
-        → AnyMoment D.moment D.might_have_left journal.old journal.new (LeavesSoFarOf (S.left input.old)) }
+    ensures journal_stays { is_replay command ≡ false → (D.state journal.new).contents ≡ (D.state journal.old).contents }
+    ensures journal_kept { KeepsDisk (D.state journal.old) (D.state journal.new) }
+    ensures any_moment { is_replay command ≡ true → IsSome (D.state journal.old).contents → LeavesOnly [] (D.state journal.old)
+        → AnyMoment (D.state journal.old) (D.state journal.new) (LeavesSoFarOf (S.left input.old)) }
 {
     match command {
         None => match say_usage(alloc) {
@@ -146,15 +156,19 @@ fn say_input<S: Source, D: Disk>(
     journal: &mut D,
 ) -> Result<Said, Stop>
     requires reads { reads_input (Some command) ≡ true }
-    ensures says { IfOk result (λ said. Says (record { left = S.left input.old; stored = D.told journal.old; after = D.told journal.new }) (Some command) said.status said.text.items) }
+    ensures says { IfOk result (λ said. Says (record {
+      left = S.left input.old;
+      stored = (D.state journal.old).contents;
+      after = (D.state journal.new).contents;
+    }) (Some command) said.status said.text.items) }
     ensures whole { IfOk result (λ said. IsTrue (is_whole said.status)) }
     ensures read_out { IsOk result → ReadsUpTo byte_limit (S.left input.old) (S.left input.new) }
     ensures read_fault { IsErrOf result Stop.ReadFault → Rose (S.faults input.old) (S.faults input.new) }
-    ensures disk_fault { IsErrOf result Stop.DiskFault → IsTrue (uses_journal (Some command)) × Rose (D.faults journal.old) (D.faults journal.new) }
-    ensures journal_stays { is_replay (Some command) ≡ false → D.told journal.new ≡ D.told journal.old }
-    ensures journal_kept { KeepsDisk D.told D.faults journal.old journal.new }
-    ensures any_moment { is_replay (Some command) ≡ true → IsSome (D.told journal.old) → LeavesOnly [] (D.may_leave journal.old)
-        → AnyMoment D.moment D.might_have_left journal.old journal.new (LeavesSoFarOf (S.left input.old)) }
+    ensures disk_fault { IsErrOf result Stop.DiskFault → IsTrue (uses_journal (Some command)) × Rose (D.state journal.old).faults (D.state journal.new).faults }
+    ensures journal_stays { is_replay (Some command) ≡ false → (D.state journal.new).contents ≡ (D.state journal.old).contents }
+    ensures journal_kept { KeepsDisk (D.state journal.old) (D.state journal.new) }
+    ensures any_moment { is_replay (Some command) ≡ true → IsSome (D.state journal.old).contents → LeavesOnly [] (D.state journal.old)
+        → AnyMoment (D.state journal.old) (D.state journal.new) (LeavesSoFarOf (S.left input.old)) }
 {
     match read_all(alloc, input, BYTE_LIMIT) {
         Ok(bytes) => match say_bytes(alloc, command, bytes.as_slice(), journal) {
@@ -179,13 +193,15 @@ fn say_bytes<D: Disk>(
     journal: &mut D,
 ) -> Result<Said, JournalStop>
     requires reads { reads_input (Some command) ≡ true }
-    ensures told { IfOk result (λ said. TellsOver (Some command) bytes.now (D.told journal.old) (D.told journal.new) said.status said.text.items) }
+    ensures told { IfOk result (λ said. TellsOver (Some command) bytes.now (D.state journal.old).contents
+        (D.state journal.new).contents said.status said.text.items) }
     ensures whole { IfOk result (λ said. IsTrue (is_whole said.status)) }
-    ensures disk_fault { IsErrOf result JournalStop.DiskFault → IsTrue (uses_journal (Some command)) × Rose (D.faults journal.old) (D.faults journal.new) }
-    ensures journal_stays { is_replay (Some command) ≡ false → D.told journal.new ≡ D.told journal.old }
-    ensures journal_kept { KeepsDisk D.told D.faults journal.old journal.new }
-    ensures any_moment { is_replay (Some command) ≡ true → IsSome (D.told journal.old) → LeavesOnly [] (D.may_leave journal.old)
-        → AnyMoment D.moment D.might_have_left journal.old journal.new (LeavesSoFarBy bytes.now) }
+    ensures disk_fault { IsErrOf result JournalStop.DiskFault → IsTrue (uses_journal (Some command))
+        × Rose (D.state journal.old).faults (D.state journal.new).faults }
+    ensures journal_stays { is_replay (Some command) ≡ false → (D.state journal.new).contents ≡ (D.state journal.old).contents }
+    ensures journal_kept { KeepsDisk (D.state journal.old) (D.state journal.new) }
+    ensures any_moment { is_replay (Some command) ≡ true → IsSome (D.state journal.old).contents → LeavesOnly [] (D.state journal.old)
+        → AnyMoment (D.state journal.old) (D.state journal.new) (LeavesSoFarBy bytes.now) }
 {
     match command {
         Command::Check => match check_bytes(alloc, bytes) {

@@ -35,11 +35,11 @@ impl From<NoMemory> for JournalStop {
 /// The answer to the journal on a disk, which stays as it is.
 #[tactic(auto, using(crate::proofs::Journals::journals))]
 pub fn journal_answer<D: Disk>(alloc: Global, disk: &mut D) -> Result<Said, JournalStop>
-    ensures told { IfOk result (λ said. OfImage (D.told disk.old) (λ image. TellsJournal image said.status said.text.items)) }
+    ensures told { IfOk result (λ said. OfImage (D.state disk.old).contents (λ image. TellsJournal image said.status said.text.items)) }
     ensures whole { IfOk result (λ said. IsTrue (is_whole said.status)) }
-    ensures disk_fault { IsErrOf result JournalStop.DiskFault → Rose (D.faults disk.old) (D.faults disk.new) }
-    ensures same { D.told disk.new ≡ D.told disk.old }
-    ensures count { D.faults disk.old ≤ D.faults disk.new }
+    ensures disk_fault { IsErrOf result JournalStop.DiskFault → Rose (D.state disk.old).faults (D.state disk.new).faults }
+    ensures same { (D.state disk.new).contents ≡ (D.state disk.old).contents }
+    ensures count { (D.state disk.old).faults ≤ (D.state disk.new).faults }
 {
     match read_disk(alloc, disk) {
         Ok(entries) => say_entries(alloc, entries.as_slice()),

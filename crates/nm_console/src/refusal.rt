@@ -1,3 +1,5 @@
+//! What is said where there is no answer: the usage, and why a journal can't be used.
+
 ghost use Rattle.std.specs.Prelude.{◌≡◌, ◌++◌, OnOk};
 ghost use Rattle.nm_console.specs.Refusal.{damaged_text, not_empty_text, offset_text};
 

@@ -1,17 +1,17 @@
 //! The command `replay`.
 
-ghost use Rattle.std.specs.Prelude.{◌≡◌, ◌<◌, ◌^◌, ◌*◌, ℕ, [], length, map, None, Ok, Err, false, IfOk, IfSome, IsSome, IsErrOf};
+ghost use Rattle.std.specs.Prelude.{◌≡◌, ◌<◌, ◌^◌, ◌*◌, ℕ, [], length, map, Ok, Err, false, IfOk, IfSome, IsSome, IsErrOf};
 ghost use Rattle.std.specs.List.{All};
 ghost use Rattle.nm_base.specs.Count.{Rose};
 ghost use Rattle.nm_disk.specs.Image.{AnyMoment, LeavesOnly};
 ghost use Rattle.nm_disk.specs.Keeps.{KeepsDisk};
-ghost use Rattle.nm_journal.specs.Fits.{Fits, ReadsAs};
+ghost use Rattle.nm_journal.specs.Fits.{ReadsAs};
 ghost use Rattle.nm_journal.specs.declared.fault.JournalFault.TheVariants.{DiskFault};
 ghost use Rattle.nm_manager.specs.declared.action.TurnFault.TheVariants as turn_fault;
-ghost use Rattle.nm_network.specs.Runs.{HasTime, IsBetween, IsNumbered};
-ghost use Rattle.nm_network.specs.World.{AreCalm, journal_of, start, with_state};
+ghost use Rattle.nm_world.specs.Runs.{HasTime, IsBetween, IsNumbered, IsReady};
+ghost use Rattle.nm_world.specs.World.{AreCalm, start, with_state};
 ghost use Rattle.nm_content.specs.Meaning.{lifted};
-ghost use Rattle.nm_refusals.specs.Kept.{DataKeeps, ScenarioKeeps};
+ghost use Rattle.nm_scenario_laws.specs.Kept.{DataKeeps, ScenarioKeeps};
 ghost use Rattle.nm_console.specs.Console.{CanRun, IsSoOf, LeavesSoFar, LeavesSoFarBy, Tells, TellsLast, TellsReplay, TellsRun, TellsUnopened, led_to, not_empty, world_told};
 
 use crate::journal::{JournalStop, say_damaged};
@@ -22,24 +22,27 @@ use nm_base::{Label, NoMemory};
 use nm_config::Config;
 use nm_content::YangContent;
 use nm_disk::Disk;
+use nm_flat::FlatContent;
 use nm_journal::{Journal, JournalFault};
 use nm_manager::TurnFault;
-use nm_network::World;
 use nm_overlay::Overlay;
-use nm_proto::{ChangePlan, Event, FlatContent, Listed, Show, Tables};
-use nm_refusals::read_last_scenario;
+use nm_proto::{ChangePlan, Event, Listed, Show, Tables};
 use nm_report::write_world;
 use nm_scenario::{Body, ReadError, Scenario};
+use nm_scenario_laws::read_last_scenario;
+use nm_world::World;
 use std::alloc::Global;
 use std::mem::forget;
 
 /// The answer of `replay` to the bytes of a scenario, over a journal that is to be empty.
 pub fn replay_bytes<D: Disk>(alloc: Global, bytes: &[u8], disk: &mut D) -> Result<Said, JournalStop>
-    ensures told { IfOk result (λ said. IsSoOf bytes.now (λ outcome. TellsReplay outcome (D.told disk.old) (D.told disk.new) said.status said.text.items)) }
-    ensures disk_fault { IsErrOf result JournalStop.DiskFault → Rose (D.faults disk.old) (D.faults disk.new) }
-    ensures keeps { KeepsDisk D.told D.faults disk.old disk.new }
+    ensures told { IfOk result (λ said. IsSoOf bytes.now
+        (λ outcome. TellsReplay outcome (D.state disk.old).contents (D.state disk.new).contents said.status said.text.items)) }
+    ensures disk_fault { IsErrOf result JournalStop.DiskFault → Rose (D.state disk.old).faults (D.state disk.new).faults }
+    ensures keeps { KeepsDisk (D.state disk.old) (D.state disk.new) }
     // A crash at any moment leaves the entries so far.
-    ensures any_moment { IsSome (D.told disk.old) → LeavesOnly [] (D.may_leave disk.old) → AnyMoment D.moment D.might_have_left disk.old disk.new (LeavesSoFarBy bytes.now) }
+    ensures any_moment { IsSome (D.state disk.old).contents → LeavesOnly [] (D.state disk.old)
+        → AnyMoment (D.state disk.old) (D.state disk.new) (LeavesSoFarBy bytes.now) }
 {
     match read_last_scenario(alloc, bytes) {
         Ok(scenario) => say_scenario(alloc, scenario, disk),
@@ -58,10 +61,11 @@ fn say_scenario<D: Disk>(
     disk: &mut D,
 ) -> Result<Said, JournalStop>
     requires { ScenarioKeeps scenario }
-    ensures told { IfOk result (λ said. TellsReplay (Ok scenario) (D.told disk.old) (D.told disk.new) said.status said.text.items) }
-    ensures disk_fault { IsErrOf result JournalStop.DiskFault → Rose (D.faults disk.old) (D.faults disk.new) }
-    ensures keeps { KeepsDisk D.told D.faults disk.old disk.new }
-    ensures any_moment { IsSome (D.told disk.old) → LeavesOnly [] (D.may_leave disk.old) → AnyMoment D.moment D.might_have_left disk.old disk.new (LeavesSoFar (Ok scenario)) }
+    ensures told { IfOk result (λ said. TellsReplay (Ok scenario) (D.state disk.old).contents (D.state disk.new).contents said.status said.text.items) }
+    ensures disk_fault { IsErrOf result JournalStop.DiskFault → Rose (D.state disk.old).faults (D.state disk.new).faults }
+    ensures keeps { KeepsDisk (D.state disk.old) (D.state disk.new) }
+    ensures any_moment { IsSome (D.state disk.old).contents → LeavesOnly [] (D.state disk.old)
+        → AnyMoment (D.state disk.old) (D.state disk.new) (LeavesSoFar (Ok scenario)) }
 {
     let Scenario {
         body,
@@ -139,12 +143,14 @@ fn say_contents<C: Show + Drop, D: Disk>(
 ) -> Result<Said, JournalStop>
     requires { CanRun (C.Content.meaning content) (record { tables = tables; plans = changes; users = users }) devices events.now }
     ensures told { IfOk result (λ said. TellsRun (world_told (C.shown content) trace (record { tables = tables; plans = changes; users = users }))
-        (led_to (C.Content.meaning content) (record { tables = tables; plans = changes; users = users }) events.now drain (start (record { tables = tables; plans = changes; users = users }) devices))
-        events.now (D.told disk.old) (D.told disk.new) said.status said.text.items) }
-    ensures disk_fault { IsErrOf result JournalStop.DiskFault → Rose (D.faults disk.old) (D.faults disk.new) }
-    ensures keeps { KeepsDisk D.told D.faults disk.old disk.new }
-    ensures any_moment { IsSome (D.told disk.old) → LeavesOnly [] (D.may_leave disk.old) → AnyMoment D.moment D.might_have_left disk.old disk.new
-        (IsBetween [] (led_to (C.Content.meaning content) (record { tables = tables; plans = changes; users = users }) events.now drain (start (record { tables = tables; plans = changes; users = users }) devices)).entries) }
+        (led_to (C.Content.meaning content) (record { tables = tables; plans = changes; users = users }) events.now drain
+        (start (record { tables = tables; plans = changes; users = users }) devices))
+        events.now (D.state disk.old).contents (D.state disk.new).contents said.status said.text.items) }
+    ensures disk_fault { IsErrOf result JournalStop.DiskFault → Rose (D.state disk.old).faults (D.state disk.new).faults }
+    ensures keeps { KeepsDisk (D.state disk.old) (D.state disk.new) }
+    ensures any_moment { IsSome (D.state disk.old).contents → LeavesOnly [] (D.state disk.old) → AnyMoment (D.state disk.old) (D.state disk.new)
+        (IsBetween [] (led_to (C.Content.meaning content) (record { tables = tables; plans = changes; users = users }) events.now drain
+        (start (record { tables = tables; plans = changes; users = users }) devices)).entries) }
 {
     match Journal::fresh(alloc, disk) {
         Ok(journal) => {
@@ -195,15 +201,14 @@ fn say_run<C: Show + Drop, D: Disk>(
     requires given { All (IsNumbered (length world.setting.plans)) events.now }
     requires in_time { HasTime (2 ^ 32 * length events.now) world.state.devices }
     requires numbered { length world.state.operators < 2 ^ 32 }
-    requires going { world.has_failed ≡ false }
-    requires whole { world.failed ≡ None }
-    requires straight { world.state.strayed ≡ false }
-    requires fits { Fits D.told D.may_leave (journal_of world) disk.old }
-    ensures told { IfOk result (λ said. TellsLast (world_told (C.shown world.content) trace world.setting) (led_to (C.Content.meaning world.content) world.setting events.now drain world.state)
-        events.now (D.told disk.old) (D.told disk.new) said.status said.text.items) }
-    ensures disk_fault { IsErrOf result JournalStop.DiskFault → Rose (D.faults disk.old) (D.faults disk.new) }
-    ensures keeps { KeepsDisk D.told D.faults disk.old disk.new }
-    ensures any_moment { IsSome (D.told disk.old) → AnyMoment D.moment D.might_have_left disk.old disk.new
+    requires straight { world.state.has_diverged ≡ false }
+    requires ready { IsReady world (D.state disk.old) }
+    ensures told { IfOk result (λ said. TellsLast (world_told (C.shown world.content) trace world.setting)
+        (led_to (C.Content.meaning world.content) world.setting events.now drain world.state)
+        events.now (D.state disk.old).contents (D.state disk.new).contents said.status said.text.items) }
+    ensures disk_fault { IsErrOf result JournalStop.DiskFault → Rose (D.state disk.old).faults (D.state disk.new).faults }
+    ensures keeps { KeepsDisk (D.state disk.old) (D.state disk.new) }
+    ensures any_moment { IsSome (D.state disk.old).contents → AnyMoment (D.state disk.old) (D.state disk.new)
         (IsBetween world.state.entries (led_to (C.Content.meaning world.content) world.setting events.now drain world.state).entries) }
 {
     match lead(world, events, drain, disk) {
@@ -224,19 +229,18 @@ fn lead<C: Show + Drop, D: Disk>(
     requires given { All (IsNumbered (length world.setting.plans)) events.now }
     requires in_time { HasTime (2 ^ 32 * length events.now) world.state.devices }
     requires numbered { length world.state.operators < 2 ^ 32 }
-    requires going { world.has_failed ≡ false }
-    requires whole { world.failed ≡ None }
-    requires straight { world.state.strayed ≡ false }
-    requires fits { Fits D.told D.may_leave (journal_of world) disk.old }
-    ensures done { IfOk result (λ last. last.state.strayed ≡ false → last ≡ with_state world (led_to (C.Content.meaning world.content) world.setting events.now drain world.state)) }
+    requires straight { world.state.has_diverged ≡ false }
+    requires ready { IsReady world (D.state disk.old) }
+    ensures done { IfOk result (λ last. last.state.has_diverged ≡ false
+        → last ≡ with_state world (led_to (C.Content.meaning world.content) world.setting events.now drain world.state)) }
     ensures others { IfOk result (λ last. last ≡ with_state world last.state) }
-    ensures straight { IsSome (D.told disk.old) → IfOk result (λ last. last.state.strayed ≡ false) }
-    ensures calm { AreCalm events.now → IfOk result (λ last. last.state.strayed ≡ false) }
+    ensures straight { IsSome (D.state disk.old).contents → IfOk result (λ last. last.state.has_diverged ≡ false) }
+    ensures calm { AreCalm events.now → IfOk result (λ last. last.state.has_diverged ≡ false) }
     ensures read { AreCalm events.now → (offset : ℕ) → result ≡ Err (turn_fault.Damaged offset) → ⊥ }
-    ensures stored { IfOk result (λ last. IfSome (D.told disk.new) (ReadsAs last.state.entries)) }
-    ensures disk_fault { result ≡ Err turn_fault.DiskFault → Rose (D.faults disk.old) (D.faults disk.new) }
-    ensures keeps { KeepsDisk D.told D.faults disk.old disk.new }
-    ensures any_moment { IsSome (D.told disk.old) → AnyMoment D.moment D.might_have_left disk.old disk.new
+    ensures stored { IfOk result (λ last. IfSome (D.state disk.new).contents (ReadsAs last.state.entries)) }
+    ensures disk_fault { result ≡ Err turn_fault.DiskFault → Rose (D.state disk.old).faults (D.state disk.new).faults }
+    ensures keeps { KeepsDisk (D.state disk.old) (D.state disk.new) }
+    ensures any_moment { IsSome (D.state disk.old).contents → AnyMoment (D.state disk.old) (D.state disk.new)
         (IsBetween world.state.entries (led_to (C.Content.meaning world.content) world.setting events.now drain world.state).entries) }
 {
     let last = world.run(disk, events)?;

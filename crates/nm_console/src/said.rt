@@ -1,3 +1,5 @@
+//! An answer before it is written, and the answers to scenarios with a fault.
+
 ghost use Rattle.std.specs.Prelude.{◌≡◌, [], IfOk};
 ghost use Rattle.nm_console.specs.Console.{Tells, faulted};
 ghost use Rattle.nm_console.specs.Refusal.{of_whole};
@@ -5,7 +7,7 @@ ghost use Rattle.nm_console.specs.Refusal.{of_whole};
 use crate::status::Status;
 use nm_base::NoMemory;
 use nm_proto::Listed;
-use nm_scenario_parts::{Cause, Fault, ScenarioKind, write_line};
+use nm_scenario_form::{Cause, Fault, ScenarioKind, write_line};
 use std::alloc::Global;
 
 /// A status and a text.

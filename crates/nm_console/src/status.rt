@@ -1,7 +1,9 @@
+//! The exit statuses, in one place with their numbers.
+
 ghost use Rattle.std.specs.Prelude.{◌≡◌, IsTrue};
 ghost use Rattle.nm_console.specs.Status.{is_whole, status_for};
 
-use nm_network::Pair;
+use nm_world::Pair;
 
 /// How the program ended. Its number is the exit status.
 #[derive(Clone, Copy, PartialEq, Eq)]

@@ -1,20 +1,17 @@
-use nm_scenario_form::{Number, sample};
+use nm_scenario_form::Number;
 
 // The laws are functions that do nothing.
 #[test]
 fn laws_do_nothing() {
     let edits = Number { low: 1, high: 9 };
-    sample::samples_are_exact();
-    sample::sample_places_are_parts();
-    sample::events_are_kept();
     nm_scenario_events::laws::events_are_exact(&edits);
     nm_scenario_events::laws::events_are_kept(&edits);
     nm_scenario_events::laws::event_places_are_parts(&edits);
     nm_scenario::laws::bytes_are_exact();
     nm_scenario::laws::scenarios_are_exact();
-    nm_refusals::laws::place_is_a_part();
-    nm_refusals::laws::limits_kept();
-    nm_refusals::laws::order_of_members();
-    nm_refusals::laws::members_ascend();
+    nm_scenario_laws::laws::place_is_a_part();
+    nm_scenario_laws::laws::limits_kept();
+    nm_scenario_laws::laws::order_of_members();
+    nm_scenario_laws::laws::members_ascend();
     nm_explain::laws::one_explanation();
 }

@@ -1,5 +1,5 @@
 //! Tests of what no row of a table tells, since no command does: streams that tell nothing, which file words name, places and
-//! numbers beyond what a scenario can hold, a form that is an example alone, and laws.
+//! numbers beyond what a scenario can hold, and laws.
 //!
 //! They stand apart from the crates that they test, since a crate's functions are proved once more with its tests.
 #![tactic(auto)]
@@ -11,6 +11,6 @@ mod reading;
 #[cfg(test)]
 mod report;
 #[cfg(test)]
-mod sample;
+mod safety_laws;
 #[cfg(test)]
 mod words;

@@ -1,52 +1,11 @@
 use nm_base::{EditNo, Label, NoMemory};
 use nm_proto::{Event, Request};
 use nm_scenario::{Scenario, read_scenario};
-use nm_scenario_events::{Counts, Events, edit_number};
-use nm_scenario_form::{Reader, Unbuilt};
-use nm_scenario_parts::pointer::write_place;
-use nm_scenario_parts::{ReadError, Step};
-use serde_json::Value;
+use nm_scenario_events::edit_number;
+use nm_scenario_form::Step;
+use nm_scenario_form::pointer::write_place;
 use std::alloc::Global;
 use std::test::Fail;
-
-/// The first fault as `bad-value /changes/0`; the place of the whole is `/`.
-pub fn error_text(alloc: Global, error: ReadError) -> Result<Vec<u8>, Fail> {
-    let ReadError::Bad(fault) = error else {
-        return Err(Fail::new("memory ran out"));
-    };
-    let mut text = format!(in alloc; "{} ", fault.cause.kind.word())?.into_bytes();
-    write_place(alloc, &mut text, fault.place.as_slice())?;
-    Ok(text)
-}
-
-/// The value of a text.
-pub fn parsed(alloc: Global, text: &str) -> Result<Value, Fail> {
-    match Value::from_slice(alloc, text.as_bytes()) {
-        Ok(value) => Ok(value),
-        Err(_) => Err(Fail::new("no JSON")),
-    }
-}
-
-// Edits that aren't built are told where they stand, whatever they are.
-#[test]
-fn unbuilt_edits_are_told(rt: HostRuntime) -> Result<(), Fail> {
-    let alloc = rt.alloc();
-    let counts = Counts {
-        changes: 0,
-        devices: 1,
-        operators: 1,
-    };
-    let events = Events {
-        counts: &counts,
-        edits: &Unbuilt,
-    };
-    let whole = parsed(alloc, r#"[["foreign",1,1,["edit",{"edit":5}]]]"#)?;
-    let Err(error) = events.read(alloc, &whole) else {
-        return Err(Fail::new("read"));
-    };
-    assert!(rt; error_text(alloc, error)?.as_slice() == b"not-built /0/3/1/edit".as_slice());
-    Ok(())
-}
 
 // The user whose session the first event opens.
 fn first_user(scenario: &Scenario) -> Option<&str> {

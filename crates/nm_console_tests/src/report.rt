@@ -1,7 +1,7 @@
 use nm_base::DeviceNo;
-use nm_network::happened::{Happened, Sending};
 use nm_proto::{Reply, Request};
 use nm_report::trace::write_reply;
+use nm_world::happened::{Happened, Sending};
 use std::test::Fail;
 
 // More rows than a device can have.

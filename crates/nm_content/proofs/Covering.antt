@@ -9,8 +9,8 @@ use Rattle.nm_types.specs.ValueLaws.{same_value_decides}
 use Rattle.nm_types.specs.PathLaws.{same_path_decides}
 use Rattle.nm_config.specs.Rows.{Rows}
 use Rattle.nm_config.specs.Under.{is_under}
-use Rattle.nm_rules.proofs.Among.{any_passes, among_contains}
-use Rattle.nm_reads.specs.Reaches.{Covers}
+use Rattle.nm_validate_rules.proofs.Among.{any_passes, among_contains}
+use Rattle.nm_validate_rules.specs.Reaches.{Covers}
 use Rattle.nm_overlay.specs.Differences.{Changes, differs, difference_at, differences}
 use Rattle.nm_overlay.proofs.Changed.{get-differences}
 use Rattle.nm_overlay.proofs.Order.{under_itself}

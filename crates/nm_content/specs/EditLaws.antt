@@ -13,18 +13,18 @@ use Rattle.nm_types.specs.declared.value.Value.{Value}
 use Rattle.nm_proto.specs.declared.message.DefaultOperation.{DefaultOperation}
 use Rattle.nm_proto.specs.declared.message.DefaultOperation.TheVariants as unsaid
 use Rattle.nm_proto.specs.Content.{is_replace}
-use Rattle.nm_tree.specs.declared.node.Node.{Node}
-use Rattle.nm_tree.specs.Nodes.{SchemaTree, same_parent, parent_of, parent_in, case_at, case_of}
+use Rattle.nm_schema_tree.specs.declared.node.Node.{Node}
+use Rattle.nm_schema_tree.specs.Nodes.{SchemaTree, same_parent, parent_of, parent_in, case_at, case_of}
 use Rattle.nm_path.specs.Spelling.{node_of}
 use Rattle.nm_path.specs.Sound.{IsSound}
 use Rattle.nm_config.specs.Rows.{Rows}
 use Rattle.nm_config.specs.Under.{is_whole, takes_in, is_under, goes_along, is_end}
 use Rattle.nm_config.proofs.Contiguous.{stands_parts, one_step}
-use Rattle.nm_rules.specs.Cases.{bare, bare_in, numbers, outwards, cases_over}
-use Rattle.nm_rules.specs.Violated.{is_area_of}
-use Rattle.nm_rules.proofs.Among.{Among, any_passes, both}
-use Rattle.nm_rules.proofs.Leading.{by_last}
-use Rattle.nm_rules.proofs.Placed.{any_at, both_true}
+use Rattle.nm_validate_rules.specs.Cases.{bare, bare_in, numbers, outwards, cases_over}
+use Rattle.nm_validate_rules.specs.Violated.{is_area_of}
+use Rattle.nm_validate_rules.proofs.Among.{Among, any_passes, both}
+use Rattle.nm_validate_rules.proofs.Leading.{by_last}
+use Rattle.nm_validate_rules.proofs.Placed.{any_at, both_true}
 use Rattle.nm_edit.specs.declared.edit.EditNode.{EditNode}
 use Rattle.nm_edit.specs.declared.act.Act.{Act}
 use Rattle.nm_edit.specs.Standing.{said, standing}
@@ -50,6 +50,7 @@ some_right : {X : Type 0} (a b : Option X) → is_some b ≡ true → is_some (o
 some_right (Some x) b e = refl
 some_right None b e = e
 
+-- what an option has, and that it has it
 record Value_of {X : Type 0} (o : Option X) : Type 0 where
   value : X
   is : o ≡ Some value
@@ -74,6 +75,7 @@ among_parts (y ∷ xs) ys x (inr a) = elim (among_parts xs ys x a) [
   | inr other ↦ inr other
 ]
 
+-- the item from which one of a flat map comes
 record From {X Y : Type 0} (f : X → List Y) (xs : List X) (y : Y) : Type 0 where
   x : X
   among : Among xs x
@@ -103,13 +105,18 @@ only_unless true x y none = absurd none
 
 whole_taken : (c : Choice) → takes_in c whole ≡ true → is_whole c ≡ true
 whole_taken whole e = refl
-whole_taken (by_keys vs) e = let same : by_keys vs ≡ whole = (same_choice_decides (by_keys vs) whole (eq_by_cmp choice_cmp (by_keys vs) whole) refl).0 e in absurd (cc)
-whole_taken (by_value v) e = let same : by_value v ≡ whole = (same_choice_decides (by_value v) whole (eq_by_cmp choice_cmp (by_value v) whole) refl).0 e in absurd (cc)
+whole_taken (by_keys vs) e =
+    let same : by_keys vs ≡ whole = (same_choice_decides (by_keys vs) whole (eq_by_cmp choice_cmp (by_keys vs) whole) refl).0 e in
+    absurd (cc)
+whole_taken (by_value v) e =
+    let same : by_value v ≡ whole = (same_choice_decides (by_value v) whole (eq_by_cmp choice_cmp (by_value v) whole) refl).0 e in
+    absurd (cc)
 
 along_changes : (last : Bool) (s : PathStep) → goes_along last s changes_step ≡ true → is_changes s ≡ true
 along_changes true s e =
     let h = stands_parts s changes_step e in
-    both_true _ _ (both_true _ _ (ap (λ m. bytes_eq m marker_name) h.module_same ∙ bytes_itself marker_name) (ap (λ m. bytes_eq m changes_name) h.name_same ∙ bytes_itself changes_name)) (whole_taken s.chosen h.taken)
+    both_true _ _ (both_true _ _ (ap (λ m. bytes_eq m marker_name) h.module_same ∙ bytes_itself marker_name)
+    (ap (λ m. bytes_eq m changes_name) h.name_same ∙ bytes_itself changes_name)) (whole_taken s.chosen h.taken)
 along_changes false s e = ap is_changes (one_step s changes_step e) ∙ changes_is
 
 -- what a mark is at or below is container `changes`, or in it
@@ -150,7 +157,8 @@ module _ (t : SchemaTree) (old : Rows) (nodes : List EditNode) (d : DefaultOpera
     | inl came ↦ absurd (none_at (mark_path n) came changes_is)
     | inr rest ↦ elim (some_of (last_at (held t old (coming (acts nodes d))) (mark_path n)) _ rest) [
       | inl stays ↦ absurd (none_held n stays)
-      | inr had ↦ base_there d (mark_path n) (unless_goes (goes (gone (acts nodes d) ++ ousted t (coming (acts nodes d))) (mark_path n)) (get (base_of d old) (mark_path n)) had)
+      | inr had ↦ base_there d (mark_path n)
+          (unless_goes (goes (gone (acts nodes d) ++ ousted t (coming (acts nodes d))) (mark_path n)) (get (base_of d old) (mark_path n)) had)
     ]
   ]
 
@@ -215,7 +223,8 @@ module _ (t : SchemaTree) (old : Rows) (nodes : List EditNode) (d : DefaultOpera
     bare_node y None is parent e = absurd (no_names (bare_in None) refl e)
     bare_node y (Some m) is parent e =
         let step = is_changes_step (bare_in (Some m)) e in
-        sound.apart y marker.at m changes_node is marker.changes (record { parent = parent; «module» = ap (λ (x : PathStep). x.«module») step; name = ap (λ (x : PathStep). x.name) step })
+        sound.apart y marker.at m changes_node is marker.changes
+        (record { parent = parent; «module» = ap (λ (x : PathStep). x.«module») step; name = ap (λ (x : PathStep). x.name) step })
 
     in_no_case : (y : ℕ) → y ≡ marker.at → case_at t.nodes y ≡ None
     unfolding changes_node
@@ -231,7 +240,8 @@ module _ (t : SchemaTree) (old : Rows) (nodes : List EditNode) (d : DefaultOpera
         let top = by_last t [] s x leads in
         let h = both (same_parent (parent_of t.nodes x) (parent_of t.nodes y)) (list_any (is_in_other t y) (cases_over t x)) rivals in
         let above : parent_of t.nodes x ≡ None = ap parent_in top.there ∙ top_parent top.node.parent top.area in
-        let beside : parent_of t.nodes y ≡ None = no_parent (parent_of t.nodes y) (ap (λ (o : Option ℕ). same_parent o (parent_of t.nodes y)) (sym above) ∙ h.0) in
+        let beside : parent_of t.nodes y ≡ None =
+        no_parent (parent_of t.nodes y) (ap (λ (o : Option ℕ). same_parent o (parent_of t.nodes y)) (sym above) ∙ h.0) in
         let one = any_passes (is_in_other t y) (cases_over t x) h.1 in
         let no = not_other y one.x (in_no_case y (bare_node y (slice_get t.nodes y) refl beside e)) in
         let yes = one.passes in
@@ -255,7 +265,8 @@ module _ (t : SchemaTree) (old : Rows) (nodes : List EditNode) (d : DefaultOpera
           | inr later ↦ begun a (front ++ s ∷ []) ss g later
         ]
 
-    top_rival : (s : PathStep) (o : Option ℕ) (g : List PathStep) (n : ℕ) → node_of t (s ∷ []) ≡ o → Among (rivals_at t [] o) g → is_under g (mark_path n) ≡ true → ⊥
+    top_rival : (s : PathStep) (o : Option ℕ) (g : List PathStep) (n : ℕ) → node_of t (s ∷ []) ≡ o → Among (rivals_at t [] o) g
+        → is_under g (mark_path n) ≡ true → ⊥
     top_rival s None g n leads among e = absurd among
     top_rival s (Some x) g n leads among e =
         let h = from_flat (rival_at t [] x) (numbers t.nodes) g among in

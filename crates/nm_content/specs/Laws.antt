@@ -10,17 +10,17 @@ use Rattle.nm_types.specs.Path.{PathStep}
 use Rattle.nm_proto.specs.declared.message.DefaultOperation.{DefaultOperation}
 use Rattle.nm_proto.specs.declared.message.Marks.{Marks}
 use Rattle.nm_proto.specs.Content.{Refusal, Laws, IsAnswerable}
-use Rattle.nm_tree.specs.Nodes.{SchemaTree}
+use Rattle.nm_schema_tree.specs.Nodes.{SchemaTree}
 use Rattle.nm_path.specs.Written.{path_text}
 use Rattle.nm_config.specs.Rows.{Rows}
 use Rattle.nm_overlay.specs.Differences.{Overlaid}
 use Rattle.nm_json.specs.Whole.{row_limit}
-use Rattle.nm_rules.specs.declared.rule.Rule.{Rule}
-use Rattle.nm_rules.specs.declared.rule.Rule.TheVariants as rule
-use Rattle.nm_rules.specs.Rule.{rule_tag}
-use Rattle.nm_rules.specs.Standing.{StandsIn}
-use Rattle.nm_rules.specs.Violation.{Violation, violation}
-use Rattle.nm_check.specs.Told.{refusal_of, violation_told}
+use Rattle.nm_validate_rules.specs.declared.rule.Rule.{Rule}
+use Rattle.nm_validate_rules.specs.declared.rule.Rule.TheVariants as rule
+use Rattle.nm_validate_rules.specs.Rule.{rule_tag}
+use Rattle.nm_validate_rules.specs.Standing.{StandsIn}
+use Rattle.nm_validate_rules.specs.Violation.{Violation, violation}
+use Rattle.nm_validate.specs.Told.{refusal_of, violation_told}
 use Rattle.nm_edit.specs.declared.edit.EditNode.{EditNode}
 use Rattle.nm_edit.specs.declared.act.Act.{Act}
 use Rattle.nm_edit.specs.declared.operation.Effective.{Effective}
@@ -38,6 +38,7 @@ use Rattle.nm_content.specs.Meaning.{over, lifted, yang_meaning}
 
 -- ---- what an edit makes, apart from its marks
 
+-- rows that an edit made, before the marks went and came
 record Made (made : Result Rows Refusal) (marks : Option Marks) (after : Rows) : Type 0 where
   rows : Rows
   is : made ≡ Ok rows
@@ -68,7 +69,8 @@ refused_over base (Err given) refusal e = cc
 
 -- ---- refusals
 
-answerable : (tag : Tag) (path : List ℕ) (refusal : Refusal) → tag_number tag ≤ 8 → Some (record { tag = tag; path = path }) ≡ Some refusal → IsAnswerable refusal
+answerable : (tag : Tag) (path : List ℕ) (refusal : Refusal) → tag_number tag ≤ 8
+    → Some (record { tag = tag; path = path }) ≡ Some refusal → IsAnswerable refusal
 answerable tag path refusal small e = let t : refusal.tag ≡ tag = cc in rw t small
 
 by_exists : (e : Effective) (exists passed : Bool) (tag : Tag) → refused_by e exists passed ≡ Some tag → tag_number tag ≤ 8
@@ -84,7 +86,8 @@ by_exists Replace exists passed tag e = absurd (cc)
 by_exists Remove exists passed tag e = absurd (cc)
 
 module _ (t : SchemaTree) where
-  first_by : (path : List PathStep) (here : Option Tag) (later : Option Refusal) (refusal : Refusal) → ((tag : Tag) → here ≡ Some tag → tag_number tag ≤ 8) → (later ≡ Some refusal → IsAnswerable refusal)
+  first_by : (path : List PathStep) (here : Option Tag) (later : Option Refusal) (refusal : Refusal)
+      → ((tag : Tag) → here ≡ Some tag → tag_number tag ≤ 8) → (later ≡ Some refusal → IsAnswerable refusal)
       → refusal_or t path here later ≡ Some refusal → IsAnswerable refusal
   first_by path None later refusal h k e = k e
   first_by path (Some tag) later refusal h k e = answerable tag (path_text t path) refusal (h tag refl) e
@@ -94,15 +97,18 @@ module _ (t : SchemaTree) where
   first_answerable old (a ∷ done) refusal e =
       first_by a.path (refused_at t old a) (first_refusal t old done) refusal (by_exists a.operation _ _) (first_answerable old done refusal) e
 
-  limit_by : (b : Bool) (rows : Rows) (refusal : Refusal) → (if b then Err (record { tag = ResourceDenied; path = [] }) else Ok rows) ≡ Err refusal → IsAnswerable refusal
+  limit_by : (b : Bool) (rows : Rows) (refusal : Refusal)
+      → (if b then Err (record { tag = ResourceDenied; path = [] }) else Ok rows) ≡ Err refusal → IsAnswerable refusal
   limit_by true rows refusal e = let t : refusal.tag ≡ ResourceDenied = cc in rw t (lit≤ tt)
   limit_by false rows refusal e = absurd (cc)
 
-  refused_by_all : (first : Option Refusal) (rows : Rows) (refusal : Refusal) → (first ≡ Some refusal → IsAnswerable refusal) → unless first (limited rows) ≡ Err refusal → IsAnswerable refusal
+  refused_by_all : (first : Option Refusal) (rows : Rows) (refusal : Refusal) → (first ≡ Some refusal → IsAnswerable refusal)
+      → unless first (limited rows) ≡ Err refusal → IsAnswerable refusal
   refused_by_all None rows refusal h e = limit_by (nat_lt row_limit (len rows)) rows refusal e
   refused_by_all (Some given) rows refusal h e = h (cc)
 
-  edit_answerable : (old : Rows) (nodes : List EditNode) (d : DefaultOperation) (refusal : Refusal) → edited_rows t old nodes d ≡ Err refusal → IsAnswerable refusal
+  edit_answerable : (old : Rows) (nodes : List EditNode) (d : DefaultOperation) (refusal : Refusal)
+      → edited_rows t old nodes d ≡ Err refusal → IsAnswerable refusal
   edit_answerable old nodes d refusal e =
       refused_by_all (first_refusal t old (acts nodes d)) (brought t old (base_of d old) (acts nodes d)) refusal (first_answerable old (acts nodes d) refusal) e
 
@@ -123,6 +129,7 @@ module _ (t : SchemaTree) where
 
 -- ---- the laws
 
+-- what the core asks of a content holds of YANG contents
 pub yang_laws : (t : SchemaTree) → Laws (yang_meaning t)
 yang_laws t = record {
   edited_belongs = λ config edit operation marks after b eb e.
@@ -157,6 +164,7 @@ yang_laws t = record {
   same_numbers = λ one other. marks_tell one.rows other.rows;
   refusals = λ config edit operation marks refusal b eb e.
       edit_answerable t config.rows edit operation refusal
-      (refused (edited_rows t config.rows edit operation) marks refusal (refused_over config.base (with_marks (edited_rows t config.rows edit operation) marks) refusal e));
+      (refused (edited_rows t config.rows edit operation) marks refusal
+      (refused_over config.base (with_marks (edited_rows t config.rows edit operation) marks) refusal e));
   violations = λ config refusal b e. told_answerable t (violation t config.rows) refusal e;
 }

@@ -1,3 +1,4 @@
+-- Marks and what YANG contents mean, in `Mark` and `Meaning`; the rest shows that they keep the laws of contents.
 pub mod Mark
 pub mod Meaning
 pub mod MarkLaws

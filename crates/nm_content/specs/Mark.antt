@@ -15,9 +15,11 @@ use Rattle.nm_edit.specs.declared.edit.EditNode.{EditNode}
 
 -- ---- the row of a mark
 
+-- the name of the container of the marks
 unfoldable pub changes_name : List ℕ
 changes_name = codes "changes"
 
+-- the name of the list of the marks
 unfoldable pub applied_name : List ℕ
 applied_name = codes "applied"
 
@@ -43,12 +45,15 @@ has_mark rows n = contains_key rows (mark_path n)
 
 -- ---- which paths are marks
 
+-- a step is one of the module that is added
 abbrev pub is_of_marker : PathStep → Bool
 is_of_marker s = bytes_eq s.«module» marker_name
 
+-- a step to the container of the marks
 abbrev pub is_changes : PathStep → Bool
 is_changes s = is_of_marker s && bytes_eq s.name changes_name && is_whole s.chosen
 
+-- a step to the list of the marks, or to an entry of it
 abbrev pub is_applied : PathStep → Bool
 is_applied s = is_of_marker s && bytes_eq s.name applied_name
 
@@ -57,6 +62,7 @@ abbrev pub only_key : Choice → Option Value
 only_key (by_keys (value ∷ [])) = Some value
 only_key _ = None
 
+-- the key of the mark that two steps lead to, where they lead to one
 abbrev pub key_by : PathStep → PathStep → Option Value
 key_by s r = if is_changes s && is_applied r then only_key r.chosen else None
 
@@ -70,10 +76,12 @@ abbrev pub key_over : List PathStep → Option Value
 key_over (s ∷ r ∷ more) = key_by s r
 key_over _ = None
 
+-- a value is a number that isn't negative
 abbrev pub number_in : Value → Option ℕ
 number_in (Int (pos n)) = Some n
 number_in _ = None
 
+-- the same of a value that may be missing
 abbrev pub number_of : Option Value → Option ℕ
 number_of None = None
 number_of (Some value) = number_in value
@@ -90,6 +98,7 @@ mark_over path = number_of (key_over path)
 abbrev pub is_mark : List PathStep → Bool
 is_mark path = is_some (mark_at path)
 
+-- it is number n
 abbrev pub is_given : ℕ → Option ℕ → Bool
 is_given n None = false
 is_given n (Some m) = m == n
@@ -109,6 +118,7 @@ names_marks nodes = list_any (λ n. is_in_marker n.path) nodes
 
 -- ---- marks go and come
 
+-- a mark goes: its number is among those that are taken
 abbrev pub is_taken_in : Marks → Option ℕ → Bool
 is_taken_in marks None = false
 is_taken_in marks (Some n) = is_taken marks n
@@ -126,6 +136,7 @@ abbrev pub marked : Rows → Option Marks → Rows
 marked rows None = rows
 marked rows (Some marks) = insert (without_marks rows marks) (mark_path marks.add) Present
 
+-- rows that were made, with marks gone and come; a refusal stays
 abbrev pub with_marks : Result Rows Refusal → Option Marks → Result Rows Refusal
 with_marks (Ok rows) marks = Ok (marked rows marks)
 with_marks (Err refusal) marks = Err refusal
@@ -136,6 +147,7 @@ with_marks (Err refusal) marks = Err refusal
 abbrev pub has_marks_of : Rows → Rows → Bool
 has_marks_of other one = list_all (λ path. not (is_mark path) || contains_key other path) (keys one)
 
+-- two configurations have the same marks
 abbrev pub same_marks : Rows → Rows → Bool
 same_marks one other = has_marks_of other one && has_marks_of one other
 
@@ -146,6 +158,7 @@ abbrev pub is_outside : List PathStep → Bool
 is_outside [] = true
 is_outside (s ∷ ss) = not (is_of_marker s)
 
+-- a row counts as one of the content: it is no mark, nor the container of the marks
 abbrev pub is_counted : List PathStep × Value → Bool
 is_counted row = is_outside row.0
 

@@ -2,13 +2,13 @@
 use Rattle.std.specs.Prelude.{◌≡◌, ℕ, List, false, None, Result, Ok, Err}
 use Rattle.serde_json.specs.Written.{compact_text}
 use Rattle.nm_proto.specs.Content.{Meaning, Refusal}
-use Rattle.nm_tree.specs.Nodes.{SchemaTree}
+use Rattle.nm_schema_tree.specs.Nodes.{SchemaTree}
 use Rattle.nm_path.specs.Sound.{IsSound}
 use Rattle.nm_config.specs.Rows.{Rows}
 use Rattle.nm_overlay.specs.Differences.{Overlaid}
 use Rattle.nm_json.specs.Writing.{config_data}
-use Rattle.nm_rules.specs.Standing.{StandsIn}
-use Rattle.nm_check.specs.Told.{violation_told}
+use Rattle.nm_validate_rules.specs.Standing.{StandsIn}
+use Rattle.nm_validate.specs.Told.{violation_told}
 use Rattle.nm_edit.specs.declared.edit.EditNode.{EditNode}
 use Rattle.nm_edit.specs.EditOf.{IsEditOf}
 use Rattle.nm_edit.specs.Edited.{edited_rows}

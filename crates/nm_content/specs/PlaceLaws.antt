@@ -11,8 +11,8 @@ use Rattle.nm_types.specs.ValueLaws.{same_value_decides}
 use Rattle.nm_types.specs.declared.value.Value.{Value}
 use Rattle.nm_config.specs.Rows.{Rows}
 use Rattle.nm_config.specs.Under.{is_under, under}
-use Rattle.nm_rules.proofs.Among.{both}
-use Rattle.nm_rules.proofs.Placed.{both_true}
+use Rattle.nm_validate_rules.proofs.Among.{both}
+use Rattle.nm_validate_rules.proofs.Placed.{both_true}
 use Rattle.nm_content_place.specs.declared.place.YangNode.{YangNode}
 use Rattle.nm_content_place.specs.Place.{overlaps, part, same_value, is_shared, has_part_of, same_at}
 use Rattle.nm_content.specs.Mark.{mark_path, has_mark, mark_at, is_mark, has_marks_of, same_marks}
@@ -20,13 +20,15 @@ use Rattle.nm_content.specs.MarkLaws.{at_itself, at_is, alike}
 
 -- ---- tests of all paths with rows
 
-at_path : (p : List PathStep → Bool) (q k : List PathStep) (rest : Bool) → p k ≡ true → (rest ≡ true → p q ≡ true) → (eq_by_cmp path_cmp q k || rest) ≡ true → p q ≡ true
+at_path : (p : List PathStep → Bool) (q k : List PathStep) (rest : Bool) → p k ≡ true → (rest ≡ true → p q ≡ true)
+    → (eq_by_cmp path_cmp q k || rest) ≡ true → p q ≡ true
 at_path p q k rest here there h = elim (cases_Bool (eq_by_cmp path_cmp q k)) [
   | inl same ↦ ap p ((same_path_decides q k _ refl).0 same) ∙ here
   | inr other ↦ there (sym (ap (λ b. b || rest) other) ∙ h)
 ]
 
-all_at : (p : List PathStep → Bool) (q : List PathStep) (ks : List (List PathStep)) → list_all p ks ≡ true → list_any (eq_by_cmp path_cmp q) ks ≡ true → p q ≡ true
+all_at : (p : List PathStep → Bool) (q : List PathStep) (ks : List (List PathStep)) → list_all p ks ≡ true
+    → list_any (eq_by_cmp path_cmp q) ks ≡ true → p q ≡ true
 all_at p q [] h any = absurd (cc)
 all_at p q (k ∷ ks) h any =
     let b = both (p k) (list_all p ks) h in
@@ -43,7 +45,8 @@ or_right : (a b : Bool) → b ≡ true → (a || b) ≡ true
 or_right true b h = refl
 or_right false b h = h
 
-all_from : (p : List PathStep → Bool) (ks : List (List PathStep)) → ((q : List PathStep) → list_any (eq_by_cmp path_cmp q) ks ≡ true → p q ≡ true) → list_all p ks ≡ true
+all_from : (p : List PathStep → Bool) (ks : List (List PathStep))
+    → ((q : List PathStep) → list_any (eq_by_cmp path_cmp q) ks ≡ true → p q ≡ true) → list_all p ks ≡ true
 all_from p [] h = refl
 all_from p (k ∷ ks) h = both_true (p k) (list_all p ks)
     (h k (or_left (eq_by_cmp path_cmp k k) (list_any (eq_by_cmp path_cmp k) ks) ((same_path_decides k k _ refl).1 refl)))
@@ -89,9 +92,11 @@ shared_if true same h = h refl
 shared_if false same h = refl
 
 module _ (path : List PathStep) where
-  get_same : (one other : Rows) → has_part_of other one path ≡ true → (q : List PathStep) → is_under path q ≡ true → is_some (get one q) ≡ true → get one q ≡ get other q
+  get_same : (one other : Rows) → has_part_of other one path ≡ true → (q : List PathStep) → is_under path q ≡ true
+      → is_some (get one q) ≡ true → get one q ≡ get other q
   get_same one other h q u there =
-      values_same (get one q) (get other q) (shared_by (is_under path q) (same_value (get one q) (get other q)) u (at_key (is_shared one other path) one q h there))
+      values_same (get one q) (get other q)
+      (shared_by (is_under path q) (same_value (get one q) (get other q)) u (at_key (is_shared one other path) one q h there))
 
   part_same : (one other : Rows) → has_part_of other one path ≡ true → has_part_of one other path ≡ true → under one path ≡ under other path
   part_same one other h k = same_map paths_total path_cmp-IsAntisymmetric _ _ (λ q.
@@ -103,9 +108,11 @@ module _ (path : List PathStep) where
   part_of one other e = from_keys (is_shared one other path) one (λ q there.
       shared_if (is_under path q) (same_value (get one q) (get other q)) (λ u.
       let same : get one q ≡ get other q =
-      sym (cond_true (is_under path q) (get one q) u) ∙ sym (get-under one path q) ∙ ap (λ (m : Rows). get m q) e ∙ get-under other path q ∙ cond_true (is_under path q) (get other q) u in
+      sym (cond_true (is_under path q) (get one q) u) ∙ sym (get-under one path q) ∙ ap (λ (m : Rows). get m q) e
+      ∙ get-under other path q ∙ cond_true (is_under path q) (get other q) u in
       ap (same_value (get one q)) (sym same) ∙ value_itself (get one q)))
 
+-- a node is the same in two configurations exactly where its rows are
 pub parts_tell : (one other : Rows) (node : YangNode) → (same_at one other node ≡ true) ↔ (part one node ≡ part other node)
 parts_tell one other node = (
   λ h. let b = both (has_part_of other one node.path) (has_part_of one other node.path) h in part_same node.path one other b.0 b.1,
@@ -116,9 +123,11 @@ parts_tell one other node = (
 
 mark_has : (one other : Rows) → has_marks_of other one ≡ true → (n : ℕ) → has_mark one n ≡ true → has_mark other n ≡ true
 mark_has one other h n there =
-    shared_by (is_mark (mark_path n)) (contains_key other (mark_path n)) (ap is_some (at_itself n)) (at_key (λ q. not (is_mark q) || contains_key other q) one (mark_path n) h there)
+    shared_by (is_mark (mark_path n)) (contains_key other (mark_path n)) (ap is_some (at_itself n))
+    (at_key (λ q. not (is_mark q) || contains_key other q) one (mark_path n) h there)
 
-mark_known : (one other : Rows) (q : List PathStep) (o : Option ℕ) → mark_at q ≡ o → ((n : ℕ) → has_mark one n ≡ true → has_mark other n ≡ true) → contains_key one q ≡ true → is_some o ≡ true
+mark_known : (one other : Rows) (q : List PathStep) (o : Option ℕ) → mark_at q ≡ o
+    → ((n : ℕ) → has_mark one n ≡ true → has_mark other n ≡ true) → contains_key one q ≡ true → is_some o ≡ true
     → contains_key other q ≡ true
 mark_known one other q None is h there m = absurd (cc)
 mark_known one other q (Some n) is h there m = let e = at_is q n is in ap (contains_key other) e ∙ h n (ap (contains_key one) (sym e) ∙ there)
@@ -127,10 +136,13 @@ marks_known : (one other : Rows) → ((n : ℕ) → has_mark one n ≡ true → 
 marks_known one other h = from_keys (λ q. not (is_mark q) || contains_key other q) one (λ q there.
     shared_if (is_mark q) (contains_key other q) (mark_known one other q (mark_at q) refl h there))
 
+-- two configurations have the same marks exactly where each number is marked in both or in neither
 pub marks_tell : (one other : Rows) → (same_marks one other ≡ true) ↔ ((n : ℕ) → has_mark one n ≡ has_mark other n)
 marks_tell one other = (
-  λ h n. let b = both (has_marks_of other one) (has_marks_of one other) h in alike (has_mark one n) (has_mark other n) (mark_has one other b.0 n) (mark_has other one b.1 n),
-  λ e. both_true (has_marks_of other one) (has_marks_of one other) (marks_known one other (λ n there. sym (e n) ∙ there)) (marks_known other one (λ n there. e n ∙ there)),
+  λ h n. let b = both (has_marks_of other one) (has_marks_of one other) h in alike (has_mark one n) (has_mark other n)
+      (mark_has one other b.0 n) (mark_has other one b.1 n),
+  λ e. both_true (has_marks_of other one) (has_marks_of one other) (marks_known one other (λ n there. sym (e n) ∙ there))
+      (marks_known other one (λ n there. e n ∙ there)),
 )
 
 -- ---- nodes that overlap
@@ -141,5 +153,6 @@ or_turned true false = refl
 or_turned false true = refl
 or_turned false false = refl
 
+-- two nodes overlap in either order
 pub overlaps_turned : (one other : YangNode) → overlaps one other ≡ overlaps other one
 overlaps_turned one other = or_turned (is_under one.path other.path) (is_under other.path one.path)

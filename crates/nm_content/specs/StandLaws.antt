@@ -8,15 +8,15 @@ use Rattle.nm_types.specs.Path.{PathStep, path_cmp, whole}
 use Rattle.nm_types.specs.PathLaws.{paths_total, same_path_decides}
 use Rattle.nm_types.specs.declared.value.Value.TheVariants.{Present}
 use Rattle.nm_proto.specs.declared.message.Marks.{Marks}
-use Rattle.nm_tree.specs.Nodes.{SchemaTree, is_guard_in}
+use Rattle.nm_schema_tree.specs.Nodes.{SchemaTree, is_guard_in}
 use Rattle.nm_path.specs.Spelling.{node_of}
 use Rattle.nm_path.specs.Sound.{IsSound}
 use Rattle.nm_config.specs.Rows.{Rows}
-use Rattle.nm_rules.specs.Cases.{bare}
-use Rattle.nm_rules.specs.Guards.{is_node}
-use Rattle.nm_rules.specs.Standing.{is_chosen_in, is_chosen_at, is_row_at, is_row_in, is_own_at, is_row_path, StandsIn}
-use Rattle.nm_rules.proofs.Leading.{itself, bare_is}
-use Rattle.nm_rules.proofs.Placed.{both_true, bare_leads}
+use Rattle.nm_validate_rules.specs.Cases.{bare}
+use Rattle.nm_validate_rules.specs.Guards.{is_node}
+use Rattle.nm_validate_rules.specs.Standing.{is_chosen_in, is_chosen_at, is_row_at, is_row_in, is_own_at, is_row_path, StandsIn}
+use Rattle.nm_validate_rules.proofs.Leading.{itself, bare_is}
+use Rattle.nm_validate_rules.proofs.Placed.{both_true, bare_leads}
 use Rattle.nm_schema.specs.Marker.{HasMarker, changes_node, applied_node}
 use Rattle.nm_content.specs.Mark.{changes_name, applied_name, changes_step, entry_step, mark_path, mark_over, is_taken_in, goes_with, without_marks, marked}
 use Rattle.nm_content.specs.MarkLaws.{over_on, get-without_marks, come_by}
@@ -41,17 +41,20 @@ module _ (t : SchemaTree) (sound : IsSound t.nodes) (marker : HasMarker t) where
 
   entry_bare : bare t.nodes (marker.at + 1) ≡ bare_entry
   unfolding applied_node applied_name bare_entry
-  entry_bare = bare_is t (record { «module» = marker_name; name = applied_name; chosen = whole }) (marker.at + 1) (applied_node marker.at) marker.applied refl refl refl
+  entry_bare = bare_is t (record { «module» = marker_name; name = applied_name; chosen = whole }) (marker.at + 1)
+      (applied_node marker.at) marker.applied refl refl refl
 
   pub changes_lead : node_of t (changes_step ∷ []) ≡ Some marker.at
   unfolding changes_node
-  changes_lead = ap (λ (s : PathStep). node_of t (s ∷ [])) (sym changes_bare) ∙ bare_leads t sound.tree sound.apart marker.at changes_node [] marker.changes refl
+  changes_lead =
+      ap (λ (s : PathStep). node_of t (s ∷ [])) (sym changes_bare) ∙ bare_leads t sound.tree sound.apart marker.at changes_node [] marker.changes refl
 
   entry_leads : node_of t (changes_step ∷ bare_entry ∷ []) ≡ Some (marker.at + 1)
   unfolding applied_node
   entry_leads =
       ap (λ (s : PathStep). node_of t (changes_step ∷ s ∷ [])) (sym entry_bare)
-      ∙ bare_leads t sound.tree sound.apart (marker.at + 1) (applied_node marker.at) (changes_step ∷ []) marker.applied (ap (is_node marker.at) changes_lead ∙ itself marker.at)
+      ∙ bare_leads t sound.tree sound.apart (marker.at + 1) (applied_node marker.at) (changes_step ∷ []) marker.applied
+      (ap (is_node marker.at) changes_lead ∙ itself marker.at)
 
   mark_leads : (n : ℕ) → node_of t (mark_path n) ≡ Some (marker.at + 1)
   unfolding node_of bare_entry
@@ -63,7 +66,8 @@ module _ (t : SchemaTree) (sound : IsSound t.nodes) (marker : HasMarker t) where
 
   entry_chosen : (n : ℕ) → is_chosen_at t.nodes (node_of t (mark_path n)) (entry_step n).chosen ≡ true
   unfolding applied_node
-  entry_chosen n = ap (λ (o : Option ℕ). is_chosen_at t.nodes o (entry_step n).chosen) (mark_leads n) ∙ ap (λ x. is_chosen_in x (entry_step n).chosen) marker.applied
+  entry_chosen n = ap (λ (o : Option ℕ). is_chosen_at t.nodes o (entry_step n).chosen) (mark_leads n)
+      ∙ ap (λ x. is_chosen_in x (entry_step n).chosen) marker.applied
 
   row_in : (b : Bool) → is_row_in b (slice_get t.nodes (marker.at + 1)) ≡ true
   unfolding applied_node
@@ -84,7 +88,8 @@ module _ (t : SchemaTree) (sound : IsSound t.nodes) (marker : HasMarker t) where
   top_passes = refl
 
   -- no list entry and no container with presence is above a mark
-  none_above : (path : List PathStep) (s : PathStep) (more : List PathStep) (n : ℕ) → path ++ s ∷ more ≡ mark_path n → is_own_at t.nodes (node_of t path) ≡ true → ⊥
+  none_above : (path : List PathStep) (s : PathStep) (more : List PathStep) (n : ℕ) → path ++ s ∷ more ≡ mark_path n
+      → is_own_at t.nodes (node_of t path) ≡ true → ⊥
   none_above [] s more n e own = let no = top_passes in absurd (cc)
   none_above (a ∷ []) s more n e own =
       let same : a ≡ changes_step = cc in
@@ -95,7 +100,8 @@ module _ (t : SchemaTree) (sound : IsSound t.nodes) (marker : HasMarker t) where
 
   -- ---- a mark comes
 
-  there_after : (rows : Rows) (n : ℕ) (q : List PathStep) → contains_key (insert rows (mark_path n) Present) q ≡ (eq_by_cmp path_cmp q (mark_path n) || contains_key rows q)
+  there_after : (rows : Rows) (n : ℕ) (q : List PathStep)
+      → contains_key (insert rows (mark_path n) Present) q ≡ (eq_by_cmp path_cmp q (mark_path n) || contains_key rows q)
   there_after rows n q = ap is_some (get-insert paths_total rows (mark_path n) Present q) ∙ come_by (eq_by_cmp path_cmp q (mark_path n)) Present (get rows q)
 
   is_mark_path : (n : ℕ) (q : List PathStep) → eq_by_cmp path_cmp q (mark_path n) ≡ true → q ≡ mark_path n
@@ -123,7 +129,8 @@ module _ (t : SchemaTree) (sound : IsSound t.nodes) (marker : HasMarker t) where
   left_whole true o n e = absurd (cc)
   left_whole false o n e = e
 
-  goes_on : (marks : Marks) (path : List PathStep) (rest : List PathStep) (o : Option ℕ) → mark_over path ≡ o → is_taken_in marks o ≡ true → goes_with marks (path ++ rest) ≡ true
+  goes_on : (marks : Marks) (path : List PathStep) (rest : List PathStep) (o : Option ℕ) → mark_over path ≡ o
+      → is_taken_in marks o ≡ true → goes_with marks (path ++ rest) ≡ true
   goes_on marks path rest None is e = absurd (cc)
   goes_on marks path rest (Some n) is e = ap (is_taken_in marks) (over_on path rest n is) ∙ e
 
@@ -135,9 +142,11 @@ module _ (t : SchemaTree) (sound : IsSound t.nodes) (marker : HasMarker t) where
   stand_without rows marks stands = record {
     each = λ path h. stands.each path (left_parts (goes_with marks path) (get rows path) (ap is_some (sym (get-without_marks rows marks path)) ∙ h)).1;
     above = λ path s more h own.
-        let p = left_parts (goes_with marks (path ++ s ∷ more)) (get rows (path ++ s ∷ more)) (ap is_some (sym (get-without_marks rows marks (path ++ s ∷ more))) ∙ h) in
+        let p = left_parts (goes_with marks (path ++ s ∷ more)) (get rows (path ++ s ∷ more))
+        (ap is_some (sym (get-without_marks rows marks (path ++ s ∷ more))) ∙ h) in
         ap is_some (get-without_marks rows marks path)
-        ∙ left_whole (goes_with marks path) (get rows path) (stays_above marks path (s ∷ more) (goes_with marks path) refl p.0) (stands.above path s more p.1 own);
+        ∙ left_whole (goes_with marks path) (get rows path) (stays_above marks path (s ∷ more) (goes_with marks path) refl p.0)
+        (stands.above path s more p.1 own);
   }
 
   pub marked_stand : (rows : Rows) (marks : Option Marks) → StandsIn t rows → StandsIn t (marked rows marks)

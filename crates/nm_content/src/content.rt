@@ -3,8 +3,8 @@
 ghost use Rattle.std.specs.Prelude.{◌≡◌, None, IfOk};
 ghost use Rattle.nm_path.specs.Sound.{IsSound};
 ghost use Rattle.nm_proto.specs.Content.{Applies};
-ghost use Rattle.nm_rules.specs.Standing.{StandsIn};
-ghost use Rattle.nm_check.specs.Told.{violation_told};
+ghost use Rattle.nm_validate_rules.specs.Standing.{StandsIn};
+ghost use Rattle.nm_validate.specs.Told.{violation_told};
 ghost use Rattle.nm_edit.specs.Edited.{edited_rows};
 ghost use Rattle.nm_schema.specs.Marker.{HasMarker};
 ghost use Rattle.nm_content.specs.Mark.{marks_path};
@@ -13,14 +13,13 @@ ghost use Rattle.nm_content.specs.Meaning.{Belongs, lifted, over};
 use crate::mark::{has_mark, marked, rows_outside, same_marks};
 use crate::touched::checked;
 use nm_base::{ChangeNo, Label, NoMemory};
-use nm_change::apply_rows;
 use nm_config::{Config, RowMap, is_under};
 use nm_content_place::{YangNode, found, same_at};
-use nm_edit::{Edit, EditFault};
+use nm_edit::{Edit, EditFault, apply_rows};
 use nm_json_text::write_rows;
 use nm_overlay::Overlay;
 use nm_proto::{ApplyFault, CheckFault, Content, DefaultOperation, FindFault, Marks, Show};
-use nm_tree::Schema;
+use nm_schema_tree::Schema;
 use nm_types::Path;
 use std::alloc::Global;
 use std::marker::Model;
@@ -36,7 +35,7 @@ pub struct YangContent {
 
 impl Model for YangContent {
     ghost use Rattle.std.specs.Prelude.{◌≡◌};
-    ghost use Rattle.nm_tree.specs.Nodes.{SchemaTree};
+    ghost use Rattle.nm_schema_tree.specs.Nodes.{SchemaTree};
     ghost use Rattle.nm_path.specs.Sound.{IsSound};
     ghost use Rattle.nm_schema.specs.Marker.{HasMarker};
     ghost use Rattle.nm_content.specs.Mark.{marks_path};

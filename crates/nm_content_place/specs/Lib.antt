@@ -1,2 +1,3 @@
+-- Nodes of a configuration, and the rows below one.
 pub mod Place
 pub mod Walk

@@ -6,16 +6,17 @@ use Rattle.std.specs.FinMap.{get, keys}
 use Rattle.nm_types.specs.Path.{PathStep}
 use Rattle.nm_types.specs.Value.{is_same_value}
 use Rattle.nm_types.specs.declared.value.Value.{Value}
-use Rattle.nm_tree.specs.Nodes.{SchemaTree, is_key}
+use Rattle.nm_schema_tree.specs.Nodes.{SchemaTree, is_key}
 use Rattle.nm_path.specs.Spelling.{node_of}
 use Rattle.nm_path.specs.Reading.{path_of}
 use Rattle.nm_config.specs.Rows.{Rows}
 use Rattle.nm_config.specs.Under.{is_under, has_under, under}
-use Rattle.nm_rules.specs.Guards.{front}
+use Rattle.nm_validate_rules.specs.Guards.{front}
 use Rattle.nm_content_place.specs.declared.place.YangNode.{YangNode}
 
 -- ---- nodes
 
+-- a node is a key leaf
 abbrev pub is_key_at : SchemaTree → Option ℕ → Bool
 is_key_at t None = false
 is_key_at t (Some x) = is_key t.nodes x
@@ -24,6 +25,7 @@ is_key_at t (Some x) = is_key t.nodes x
 abbrev pub row_of : SchemaTree → List PathStep → List PathStep
 row_of t path = if is_key_at t (node_of t path) then front path else path
 
+-- the node at a path, where there is a path
 abbrev pub node_at : SchemaTree → Option (List PathStep) → Option YangNode
 node_at t None = None
 node_at t (Some path) = Some (record { path = path; row = row_of t path })
@@ -50,6 +52,7 @@ overlaps one other = is_under one.path other.path || is_under other.path one.pat
 abbrev pub part : Rows → YangNode → Rows
 part rows node = under rows node.path
 
+-- two values are the same, or both are missing
 abbrev pub same_value : Option Value → Option Value → Bool
 same_value None None = true
 same_value (Some value) (Some other) = is_same_value value other
@@ -63,5 +66,6 @@ is_shared one other path row = not (is_under path row) || same_value (get one ro
 abbrev pub has_part_of : Rows → Rows → List PathStep → Bool
 has_part_of other one path = list_all (is_shared one other path) (keys one)
 
+-- two configurations have the same rows at and below a node
 abbrev pub same_at : Rows → Rows → YangNode → Bool
 same_at one other node = has_part_of other one node.path && has_part_of one other node.path

@@ -16,6 +16,7 @@ pub record GoesOnWith (rows : Rows) (node passed next : List PathStep) : Type 0 
   pub is_below : is_under node next ≡ true
   pub behind : is_lt (path_cmp next node) ≡ false
 
+-- rows at or below a node go on with this one after a path, or there are none after it
 abbrev pub GoesOn : Rows → List PathStep → List PathStep → Option (List PathStep) → Type 0
 GoesOn rows node passed None = below_after rows node passed ≡ []
 GoesOn rows node passed (Some next) = GoesOnWith rows node passed next

@@ -4,7 +4,7 @@ ghost use Rattle.std.specs.Prelude.{◌≡◌, ◌||◌, not, is_some, IfOk, opt
 ghost use Rattle.std.specs.List.{list_all};
 ghost use Rattle.std.specs.FinMap as map;
 ghost use Rattle.nm_path.specs.Spelling.{node_of as found_at};
-ghost use Rattle.nm_rules.specs.Guards.{front};
+ghost use Rattle.nm_validate_rules.specs.Guards.{front};
 ghost use Rattle.nm_proto.specs.Content.{Finds};
 ghost use Rattle.nm_content_place.specs.Place as spec;
 ghost use Rattle.nm_content_place.specs.Walk.{below_after};
@@ -14,7 +14,7 @@ use nm_base::{Label, NoMemory};
 use nm_config::RowMap;
 use nm_path::{PathFault, node_of, read_path};
 use nm_proto::FindFault;
-use nm_tree::Schema;
+use nm_schema_tree::Schema;
 use nm_types::{Path, Value};
 use std::alloc::Global;
 
@@ -99,7 +99,8 @@ fn same_value(one: Option<&Value>, other: Option<&Value>) -> bool
 
 // Whether there is no row of the one at a path, or it is one of the other.
 fn is_kept<M: RowMap>(other: &M, one: &M, path: &Path) -> bool
-    ensures { result ≡ (not (is_some (map.get (M.rows one.now) path.now)) || spec.same_value (map.get (M.rows one.now) path.now) (map.get (M.rows other.now) path.now)) }
+    ensures { result ≡ (not (is_some (map.get (M.rows one.now) path.now))
+        || spec.same_value (map.get (M.rows one.now) path.now) (map.get (M.rows other.now) path.now)) }
 {
     let value = one.value(path);
     value.is_none() || same_value(value, other.value(path))

@@ -4,15 +4,15 @@ ghost use Rattle.nm_path.specs.Sound.{IsSound};
 
 use crate::content::{content_of, holds};
 use nm_base::NoMemory;
-use nm_check::check_rows;
 use nm_config::Config;
 use nm_content::YangContent;
+use nm_incremental::rule_at;
 use nm_json::read_config;
 use nm_path::read_path;
-use nm_rule_at::rule_at;
-use nm_rules::Rule;
-use nm_tree::Schema;
+use nm_schema_tree::Schema;
 use nm_types::{Chosen, Path, Value};
+use nm_validate::check_rows;
+use nm_validate_rules::Rule;
 use std::alloc::Global;
 use std::test::Fail;
 

@@ -18,6 +18,7 @@ use Rattle.nm_decider.specs.declared.seat.Seat.{Seat}
 use Rattle.nm_decider.specs.declared.course.NextAction.{NextAction}
 use Rattle.nm_decider.specs.declared.course.NextAction.TheVariants.{Wait, Send, Decide, Finish}
 
+-- the course of one change set: its number, its verdict, and what is known of each device, in the order of their numbers
 pub record CourseState : Type 0 where
   pub change : ℕ
   pub verdict : Option Verdict
@@ -31,6 +32,7 @@ seat_count = 32
 
 -- ---- the beginning
 
+-- a device's seat at the beginning: whether the change set is at it, and its first stage
 abbrev pub seat_of : ℕ → Stage → ℕ → Seat
 seat_of devices first device = record { is_member = mask_contains devices device; stage = first; awaited = None; sent = 0 }
 
@@ -43,6 +45,7 @@ seats_from devices first device (suc count) = seat_of devices first device ∷ s
 abbrev pub new_course : ℕ → ℕ → CourseState
 new_course change devices = record { change = change; verdict = None; trouble = None; seats = seats_from devices (stage.Live 0) 1 seat_count }
 
+-- what lost memory means for a change set: where it was undecided, a cause to abort it
 abbrev pub lost_memory : Option Verdict → Option AbortCause
 lost_memory None = Some cause.Forgotten
 lost_memory (Some decided) = None
@@ -54,6 +57,7 @@ recovered_course change devices decided =
 
 -- ---- what happens
 
+-- the course with another seat for a device
 abbrev pub with_seat : CourseState → ℕ → Seat → CourseState
 with_seat course device seat = record course { seats = slice_set course.seats (device - 1) seat }
 
@@ -67,16 +71,20 @@ noted (Some decided) None later = None
 abbrev pub asked_next : Option Verdict → Seat → Seat
 asked_next decided seat = record seat { awaited = next_ask decided seat.stage; sent = raised seat.sent }
 
+-- the course once what comes next is asked of a device, where it has a seat
 abbrev pub with_sent_at : CourseState → ℕ → Option Seat → CourseState
 with_sent_at course device None = course
 with_sent_at course device (Some seat) = with_seat course device (asked_next course.verdict seat)
 
+-- the course once what comes next is asked of a device
 abbrev pub with_sent : CourseState → ℕ → CourseState
 with_sent course device = with_sent_at course device (slice_get course.seats (device - 1))
 
+-- a seat whose renewal is on its way
 abbrev pub renewed : Seat → Seat
 renewed seat = record seat { awaited = Some ask.Renew; sent = raised seat.sent }
 
+-- the course once a renewal is asked of a device, where it has a seat
 abbrev pub with_renewed_at : CourseState → ℕ → Option Seat → CourseState
 with_renewed_at course device None = course
 with_renewed_at course device (Some seat) = with_seat course device (renewed seat)
@@ -85,6 +93,7 @@ with_renewed_at course device (Some seat) = with_seat course device (renewed sea
 abbrev pub with_renewed : CourseState → ℕ → CourseState
 with_renewed course device = with_renewed_at course device (slice_get course.seats (device - 1))
 
+-- the course once a reply is handled, where one was awaited: the device's stage goes on, and a refusal is noted
 abbrev pub with_answer : CourseState → ℕ → Reply → Seat → Option Ask → CourseState
 with_answer course device reply seat None = course
 with_answer course device reply seat (Some what) =
@@ -92,6 +101,7 @@ with_answer course device reply seat (Some what) =
       trouble = noted course.verdict course.trouble (trouble_in device what reply);
     }
 
+-- the same where the device has a seat
 abbrev pub with_reply_at : CourseState → ℕ → Reply → Option Seat → CourseState
 with_reply_at course device reply None = course
 with_reply_at course device reply (Some seat) = with_answer course device reply seat seat.awaited
@@ -100,6 +110,7 @@ with_reply_at course device reply (Some seat) = with_answer course device reply 
 abbrev pub with_reply : CourseState → ℕ → Reply → CourseState
 with_reply course device reply = with_reply_at course device reply (slice_get course.seats (device - 1))
 
+-- the course once a device's link broke, where it has a seat: nothing is awaited, and the break is noted
 abbrev pub with_break_at : CourseState → ℕ → Option Seat → CourseState
 with_break_at course device None = course
 with_break_at course device (Some seat) =
@@ -111,6 +122,7 @@ with_break_at course device (Some seat) =
 abbrev pub with_break : CourseState → ℕ → CourseState
 with_break course device = with_break_at course device (slice_get course.seats (device - 1))
 
+-- a seat once the verdict stands: an abort may settle it at once
 abbrev pub decided_seat : Verdict → Seat → Seat
 decided_seat verdict.Commit seat = record seat { sent = 0 }
 decided_seat (verdict.Abort why) seat = record seat { stage = aborted_stage (is_some seat.awaited) seat.stage; sent = 0 }
@@ -119,10 +131,12 @@ decided_seat (verdict.Abort why) seat = record seat { stage = aborted_stage (is_
 abbrev pub with_verdict : CourseState → Verdict → CourseState
 with_verdict course decided = record course { verdict = Some decided; seats = map (decided_seat decided) course.seats }
 
+-- the course once a resynchronisation has found its outcome, where one was wanted
 abbrev pub with_found : CourseState → ℕ → Bool → Seat → Stage → CourseState
 with_found course device kept seat stage.Resync = with_seat course device (record seat { stage = stage.Settled kept; awaited = None })
 with_found course device kept seat _ = course
 
+-- the same where the device has a seat
 abbrev pub with_settled_at : CourseState → ℕ → Bool → Option Seat → CourseState
 with_settled_at course device kept None = course
 with_settled_at course device kept (Some seat) = with_found course device kept seat seat.stage
@@ -133,12 +147,15 @@ with_settled course device kept = with_settled_at course device kept (slice_get 
 
 -- ---- what comes next
 
+-- a device of the change set awaits a reply
 abbrev pub awaits : Seat → Bool
 awaits seat = seat.is_member && is_some seat.awaited
 
+-- a device of the change set hasn't acknowledged
 abbrev pub wants_acknowledgement : Seat → Bool
 wants_acknowledgement seat = seat.is_member && not (is_acknowledged seat.stage)
 
+-- a device of the change set isn't settled
 abbrev pub wants_settling : Seat → Bool
 wants_settling seat = seat.is_member && not (is_settled seat.stage)
 
@@ -151,6 +168,7 @@ pub record Choice : Type 0 where
   pub count : ℕ
   pub place : ℕ
 
+-- a place as one to act on, where something may be asked there
 abbrev pub choice_of : Option Verdict → ℕ → Seat → Option Choice
 choice_of decided place seat = if may_send decided seat then Some (record { count = seat.sent; place = place }) else None
 
@@ -170,10 +188,12 @@ abbrev pub fewest_from : Option Verdict → ℕ → List Seat → Option Choice
 fewest_from decided place [] = None
 fewest_from decided place (seat ∷ seats) = fewer (choice_of decided place seat) (fewest_from decided (place + 1) seats)
 
+-- a request to send, or to wait where there is none
 abbrev pub send_of : ℕ → Option Ask → NextAction
 send_of device None = Wait
 send_of device (Some what) = Send device what
 
+-- the next request to the device of a seat, where there is one
 abbrev pub send_seat : Option Verdict → ℕ → Option Seat → NextAction
 send_seat decided place None = Wait
 send_seat decided place (Some seat) = send_of (place + 1) (next_ask decided seat.stage)
@@ -183,6 +203,7 @@ abbrev pub send_at : Option Verdict → List Seat → Option ℕ → NextAction
 send_at decided seats None = Wait
 send_at decided seats (Some place) = send_seat decided place (slice_get seats place)
 
+-- the place of a choice
 abbrev pub place_of : Option Choice → Option ℕ
 place_of None = None
 place_of (Some choice) = Some choice.place
@@ -212,6 +233,7 @@ decided_action decided seats =
     if not (list_any wants_settling seats) then Finish (record { 0 = kept_from 0 seats })
     else send_at (Some decided) seats (place_of (fewest_from (Some decided) 0 seats))
 
+-- what comes next, by whether the change set is decided
 abbrev pub action_by : Option Verdict → Option AbortCause → List Seat → NextAction
 action_by None trouble seats = undecided_action trouble seats
 action_by (Some decided) trouble seats = decided_action decided seats
@@ -220,6 +242,7 @@ action_by (Some decided) trouble seats = decided_action decided seats
 abbrev pub next_action : CourseState → NextAction
 next_action course = action_by course.verdict course.trouble course.seats
 
+-- a device of the change set has acknowledged and awaits no reply
 abbrev pub may_renew_seat : Option Seat → Bool
 may_renew_seat None = false
 may_renew_seat (Some seat) = seat.is_member && (is_none seat.awaited && is_acknowledged seat.stage)

@@ -13,6 +13,7 @@ use Rattle.nm_decider.specs.declared.course.NextAction.{NextAction}
 use Rattle.nm_decider.specs.declared.course.NextAction.TheVariants as next
 use Rattle.nm_decider.specs.Course.{CourseState, next_action, may_renew, with_sent, with_renewed, with_reply, with_break, with_verdict, with_settled}
 
+-- what happens to a change set: a request or a renewal is on its way, a reply is handled, a link breaks, a verdict falls, a resynchronisation ends
 pub data Move : Type 0 where
   Sent : (device : ℕ) → Move
   Renewed : (device : ℕ) → Move
@@ -21,6 +22,7 @@ pub data Move : Type 0 where
   Decided : (verdict : Verdict) → Move
   Found : (device : ℕ) (kept : Bool) → Move
 
+-- the course after a move
 abbrev pub moved : CourseState → Move → CourseState
 moved course (Sent device) = with_sent course device
 moved course (Renewed device) = with_renewed course device
@@ -29,10 +31,12 @@ moved course (Broke device) = with_break course device
 moved course (Decided verdict) = with_verdict course verdict
 moved course (Found device kept) = with_settled course device kept
 
+-- the course after moves, oldest first
 abbrev pub moved_on : CourseState → List Move → CourseState
 moved_on course [] = course
 moved_on course (move ∷ moves) = moved_on (moved course move) moves
 
+-- what comes next is a request to this device
 abbrev pub sends_to : NextAction → ℕ → Bool
 sends_to (next.Send other what) device = other == device
 sends_to _ device = false
@@ -54,14 +58,17 @@ IsDriven course (move ∷ moves) = MayMove course move × IsDriven (moved course
 
 -- ---- what was asked of a device, and done
 
+-- what is asked is the confirmed commit
 abbrev pub is_commit : Option Ask → Bool
 is_commit (Some ask.CommitConfirmed) = true
 is_commit _ = false
 
+-- what is asked next of the device of a seat
 abbrev pub next_of : CourseState → Option Seat → Option Ask
 next_of course None = None
 next_of course (Some seat) = next_ask course.verdict seat.stage
 
+-- what the device of a seat was asked and hasn't answered
 abbrev pub awaited_of : Option Seat → Option Ask
 awaited_of None = None
 awaited_of (Some seat) = seat.awaited
@@ -87,12 +94,14 @@ abbrev pub commit_done : ℕ → CourseState → List Move → Bool
 commit_done place course [] = false
 commit_done place course (move ∷ moves) = does_commit place course move || commit_done place (moved course move) moves
 
+-- the device of a seat has acknowledged
 abbrev pub has_acknowledged : Option Seat → Bool
 has_acknowledged None = false
 has_acknowledged (Some seat) = is_acknowledged seat.stage
 
 -- ---- what stays of a seat
 
+-- whether a settled device keeps the change set
 abbrev pub settled_in : Stage → Option Bool
 settled_in (Settled kept) = Some kept
 settled_in _ = None
@@ -102,6 +111,7 @@ abbrev pub settled_of : Option Seat → Option Bool
 settled_of None = None
 settled_of (Some seat) = settled_in seat.stage
 
+-- the device of a seat is one of the change set
 abbrev pub member_of : Option Seat → Bool
 member_of None = false
 member_of (Some seat) = seat.is_member

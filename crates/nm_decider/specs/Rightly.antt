@@ -25,11 +25,13 @@ pub record IsReady (seat : Seat) : Type 0 where
   pub acknowledged : is_acknowledged seat.stage ≡ true
   pub quiet : seat.awaited ≡ None
 
+-- a change set may be committed: undecided, without trouble, and each of its devices has acknowledged and awaits nothing
 pub record MayCommit (course : CourseState) : Type 0 where
   pub undecided : course.verdict ≡ None
   pub calm : course.trouble ≡ None
   pub ready : All (λ seat. seat.is_member ≡ true → IsReady seat) course.seats
 
+-- a change set may be aborted for this cause: undecided, and the cause was noted
 pub record MayAbort (course : CourseState) (why : AbortCause) : Type 0 where
   pub undecided : course.verdict ≡ None
   pub noted : course.trouble ≡ Some why
@@ -41,6 +43,7 @@ pub record MayEnd (course : CourseState) (kept : DeviceMask) : Type 0 where
   pub kept_them : (place : ℕ) (seat : Seat) → slice_get course.seats place ≡ Some seat
       → mask_contains kept.0 (place + 1) ≡ (seat.is_member && has_kept seat.stage)
 
+-- each of the four next actions comes only where it may
 pub record ActsRightly (course : CourseState) : Type 0 where
   pub sends : (device : ℕ) (what : Ask) → next_action course ≡ Send device what → IsAsked course device what
   pub commits : next_action course ≡ Decide verdict.Commit → MayCommit course
@@ -61,6 +64,7 @@ abbrev pub IsNextInOrder : CourseState → ℕ → Type 0
 IsNextInOrder course device =
     (place : ℕ) (other : Seat) → place + 1 < device → slice_get course.seats place ≡ Some other → wants_acknowledgement other ≡ false
 
+-- requests go to the devices in order: until the decision one device after another, and after it the least busy first
 pub record TakesInOrder (course : CourseState) : Type 0 where
   pub undecided : (device : ℕ) (what : Ask) → course.verdict ≡ None → next_action course ≡ Send device what → IsNextInOrder course device
   pub decided : (device : ℕ) (what : Ask) → IsSome course.verdict → next_action course ≡ Send device what → IsLeastBusy course device

@@ -9,10 +9,12 @@ use Rattle.nm_decider_stage.specs.declared.stage.Stage.{Stage}
 use Rattle.nm_decider_stage.specs.declared.stage.Stage.TheVariants.{Leaving, Settled}
 use Rattle.nm_decider_stage.specs.Stages.{fits, learnt}
 
+-- what a reply to a confirm tells of whether the device keeps the change set: a refused one nothing
 abbrev pub told_by_confirm : Reply → Option Bool
 told_by_confirm Done = Some true
 told_by_confirm _ = None
 
+-- what a reply to the question for the mark tells
 abbrev pub told_by_mark : Reply → Option Bool
 told_by_mark (Mark there) = Some there
 told_by_mark _ = None
@@ -32,6 +34,7 @@ knows (Leaving kept) = Some kept
 knows (Settled kept) = Some kept
 knows _ = None
 
+-- what is learnt of a device comes from replies that tell it, and is never unlearnt
 pub record TellsAlone (decided : Option Verdict) (stage : Stage) (what : Ask) (reply : Reply) : Type 0 where
   -- what is known stays so
   pub stays : (kept : Bool) → knows stage ≡ Some kept → knows (learnt decided stage what reply) ≡ Some kept

@@ -1,3 +1,5 @@
+//! One device's seat in a course: what the manager knows of it. What comes next is chosen by the seats alone.
+
 use nm_decider_stage::Stage;
 use nm_proto::Ask;
 

@@ -1,1 +1,2 @@
+-- One device's stage in a change set.
 pub mod Stages

@@ -35,20 +35,24 @@ abbrev pub verdict_ask : Verdict → Ask
 verdict_ask verdict.Commit = ask.Confirm
 verdict_ask (verdict.Abort why) = ask.Cancel
 
+-- on a live link: the next request that brings the change set, or what the verdict wants of a device with a session
 abbrev pub live_ask : Option Verdict → ℕ → Option Ask
 live_ask None done = first_ask done
 live_ask (Some decided) done = if done == 0 then None else Some (verdict_ask decided)
 
+-- after a refusal: nothing, until the change set is to be aborted
 abbrev pub failed_ask : Option Verdict → Option Ask
 failed_ask None = None
 failed_ask (Some verdict.Commit) = None
 failed_ask (Some (verdict.Abort why)) = Some ask.Cancel
 
+-- after a refused confirm: whether the mark is there, where the change set is to be committed
 abbrev pub mark_ask : Option Verdict → Option Ask
 mark_ask None = None
 mark_ask (Some verdict.Commit) = Some ask.HasMark
 mark_ask (Some (verdict.Abort why)) = None
 
+-- what waits for the verdict, whichever it is
 abbrev pub once_decided : Ask → Option Verdict → Option Ask
 once_decided what None = None
 once_decided what (Some decided) = Some what
@@ -74,6 +78,7 @@ fits _ _ = false
 
 -- ---- what a reply tells
 
+-- what was asked is the next of the requests that bring the change set
 abbrev pub is_first : Option Ask → Ask → Bool
 is_first (Some ask.OpenSession) ask.OpenSession = true
 is_first (Some ask.LockRunning) ask.LockRunning = true
@@ -102,27 +107,33 @@ abbrev pub learnt_confirm : Reply → Stage
 learnt_confirm Done = Leaving true
 learnt_confirm _ = NeedMark
 
+-- the reply to what the verdict wanted: a confirm, or a cancel, after which nothing of the change set stays
 abbrev pub learnt_other : Option Verdict → ℕ → Ask → Reply → Stage
 learnt_other (Some verdict.Commit) done ask.Confirm reply = learnt_confirm reply
 learnt_other (Some (verdict.Abort why)) done ask.Cancel reply = Leaving false
 learnt_other _ done _ reply = Live done
 
+-- the stage after a reply on a live link: to one of the requests that bring the change set, or to what the verdict wanted
 abbrev pub learnt_live : Option Verdict → ℕ → Ask → Reply → Stage
 learnt_live decided done what reply =
     if is_first (first_ask done) what then learnt_first decided done what reply else learnt_other decided done what reply
 
+-- the stage after the reply to a cancel: nothing of the change set stays; another reply teaches nothing
 abbrev pub learnt_failed : Option Verdict → Ask → Stage
 learnt_failed (Some (verdict.Abort why)) ask.Cancel = Leaving false
 learnt_failed _ _ = Failed
 
+-- a mark that is told settles whether the device keeps the change set; another reply leaves it open
 abbrev pub mark_told : Reply → Stage
 mark_told (Mark there) = Leaving there
 mark_told _ = NeedMark
 
+-- the stage after the reply to the question for the mark
 abbrev pub learnt_mark : Option Verdict → Ask → Reply → Stage
 learnt_mark (Some verdict.Commit) ask.HasMark reply = mark_told reply
 learnt_mark _ _ _ = NeedMark
 
+-- the stage after the reply to the close of the session: settled, whatever the reply says
 abbrev pub learnt_leaving : Option Verdict → Bool → Ask → Stage
 learnt_leaving (Some decided) kept ask.CloseSession = Settled kept
 learnt_leaving _ kept _ = Leaving kept
@@ -142,6 +153,7 @@ abbrev pub tag_in : Reply → Tag
 tag_in (Error said session path) = said
 tag_in _ = tag.OperationFailed
 
+-- the reply is an error
 abbrev pub is_error : Reply → Bool
 is_error (Error said session path) = true
 is_error _ = false
@@ -163,6 +175,7 @@ abbrev pub is_acknowledged : Stage → Bool
 is_acknowledged (Live done) = done == all_done
 is_acknowledged _ = false
 
+-- the device is settled: whether it keeps the change set is known, and nothing is left to ask of it
 abbrev pub is_settled : Stage → Bool
 is_settled (Settled kept) = true
 is_settled _ = false

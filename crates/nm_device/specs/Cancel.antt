@@ -27,10 +27,12 @@ module _ {Config TheEdit Node : Type 0} (m : Meaning Config TheEdit Node) where
       (or_else (refused_if (is_locked_out s session) InUse)
       (refused_if (is_kept_from_undoing s session s.pending) InUse)))
 
+  -- a cancel that isn't refused undoes what is pending (RFC 6241 section 8.4.4.1)
   abbrev pub cancel_from : DeviceState Config Node → Option Tag → Stepped Config Node
   cancel_from s (Some tag) = refuse s tag
   cancel_from s None = done (undone m s)
 
+  -- what a cancel of a session does, and which token it names (RFC 6241 section 8.4.4.1)
   abbrev pub cancel_by : DeviceState Config Node → ℕ → Option (List ℕ) → Stepped Config Node
   cancel_by s session named = cancel_from s (cancel_tag s session named)
 

@@ -35,6 +35,7 @@ abbrev pub or_else : Option Tag → Option Tag → Option Tag
 or_else (Some tag) other = Some tag
 or_else None other = other
 
+-- one test of several: the tag where it finds something
 abbrev pub refused_if : Bool → Tag → Option Tag
 refused_if refused tag = if refused then Some tag else None
 
@@ -91,9 +92,11 @@ module _ {Config TheEdit Node : Type 0} (m : Meaning Config TheEdit Node) where
   commit_unless s session (Some refusal) confirmed persist deadline = refuse_at s refusal
   commit_unless s session None confirmed persist deadline = commit_done s session confirmed persist deadline
 
+  -- a commit whose tests have told their tag, or none: then candidate has to be valid
   abbrev pub commit_from : DeviceState Config Node → ℕ → Option Tag → Bool → Option (List ℕ) → ℕ → Stepped Config Node
   commit_from s session (Some tag) confirmed persist deadline = refuse s tag
   commit_from s session None confirmed persist deadline = commit_unless s session (violation_of s.stores.candidate) confirmed persist deadline
 
+  -- what a commit of a session does: the tests of locks and tokens come before that of candidate (RFC 6241 sections 8.3.4.1 and 8.4.5)
   abbrev pub commit_by : DeviceState Config Node → ℕ → CommitForm → Stepped Config Node
   commit_by s session form = commit_from s session (commit_tag s session form) form.confirmed form.persist (deadline_of s.clock form.timeout)

@@ -42,9 +42,11 @@ pub record Stepped (Config Node : Type 0) : Type 0 where
   pub after : DeviceState Config Node
 
 module _ {Config Node : Type 0} where
+  -- a reply, and the device after it
   abbrev pub answer : Reply → DeviceState Config Node → Stepped Config Node
   answer reply after = record { reply = reply; after = after }
 
+  -- the request is done, and has nothing to tell
   abbrev pub done : DeviceState Config Node → Stepped Config Node
   done after = answer Done after
 
@@ -70,6 +72,7 @@ path_of UnknownElement path = Some path
 path_of BadAttribute path = Some path
 path_of MissingElement path = Some path
 
+-- the user of the manager, whose edits alone may say which marks come and go (this project's own)
 abbrev pub is_manager : Option (List ℕ) → Bool
 is_manager None = false
 is_manager (Some user) = bytes_eq user manager
@@ -87,6 +90,7 @@ module _ {Config Node : Type 0} where
   abbrev pub is_dropped : DeviceState Config Node → DeviceState Config Node → Bool
   is_dropped old new = is_some old.pending && not (is_some new.pending)
 
+  -- the device with other datastores
   abbrev pub with_stores : DeviceState Config Node → StoresState Config → DeviceState Config Node
   with_stores s stores = record s { stores = stores }
 
@@ -108,6 +112,7 @@ module _ {Config TheEdit Node : Type 0} (m : Meaning Config TheEdit Node) where
     pub lock : (holder : ℕ) → holding ≡ Some holder → is_author p holder ≡ true
     pub parts : All (λ lock. is_author p lock.session ≡ false → All (λ node. m.part p.before node ≡ m.part running node) lock.nodes) locks
 
+  -- what is pending is guarded, where anything is
   abbrev pub IsGuarded : DeviceState Config Node → Type 0
   IsGuarded s = IfSome s.pending (GuardedBy s.stores.running (owner_of s.locks Running) s.partials.locks)
 
@@ -117,6 +122,7 @@ module _ {Config TheEdit Node : Type 0} (m : Meaning Config TheEdit Node) where
     pub before_valid : IfSome pending (λ p. m.violation p.before ≡ None)
     pub guarded : IfSome pending (GuardedBy running holding locks)
 
+  -- the same of a device
   abbrev pub IsSteady : DeviceState Config Node → Type 0
   IsSteady s = AreSteady s.stores.running s.pending (owner_of s.locks Running) s.partials.locks
 

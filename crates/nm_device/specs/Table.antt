@@ -35,9 +35,11 @@ module _ {Config Node : Type 0} where
   open_with s None user = refuse s ResourceDenied
   open_with s (Some session) user = answer (Opened session) (record s { sessions = entered s.sessions user })
 
+  -- a session is opened for a user, unless as many are open as may be (RFC 6241 section 8.1)
   abbrev pub opened : DeviceState Config Node → List ℕ → Stepped Config Node
   opened s user = open_with s (next_id s.sessions) user
 
+  -- the device with a datastore locked by a session
   abbrev pub with_lock : DeviceState Config Node → Store → ℕ → DeviceState Config Node
   with_lock s store session = record s { locks = with_owner s.locks store (Some session) }
 
@@ -54,6 +56,7 @@ module _ {Config Node : Type 0} where
   lock_candidate s session (Some holder) = deny_lock s holder
   lock_candidate s session None = if is_modified s.stores then deny_lock s 0 else done (with_lock s Candidate session)
 
+  -- a session asks for the global lock of a datastore (RFC 6241 section 7.5)
   abbrev pub locked : DeviceState Config Node → ℕ → Store → Stepped Config Node
   locked s session Running = lock_running s session (owner_of s.locks Running) (least_owner s.partials)
   locked s session Candidate = lock_candidate s session (owner_of s.locks Candidate)
@@ -143,9 +146,11 @@ opening_user GetConfig = None
 opening_user (Kill session) = None
 opening_user CloseSession = None
 
+-- a request that opens a session
 abbrev pub is_opening : Request → Bool
 is_opening request = is_some (opening_user request)
 
+-- a commit, of either kind
 abbrev pub is_commit : Request → Bool
 is_commit (Commit confirmed timeout persist persist_id) = true
 is_commit (OpenSession user) = false
@@ -183,6 +188,7 @@ asks_for_end CloseSession = false
 abbrev pub undid : {Config Node : Type 0} → Request → DeviceState Config Node → DeviceState Config Node → Bool
 undid request old new = is_dropped old new && not (asks_for_end request)
 
+-- a reply that refuses
 abbrev pub is_error : Reply → Bool
 is_error Done = false
 is_error (Opened session) = false
@@ -191,6 +197,7 @@ is_error (Mark there) = false
 is_error (Rows count) = false
 is_error (Error tag session path) = true
 
+-- a reply that tells no more than that the request was done
 abbrev pub is_done : Reply → Bool
 is_done Done = true
 is_done (Opened session) = false

@@ -16,6 +16,7 @@ module _ {Config TheEdit Node : Type 0} (m : Meaning Config TheEdit Node) where
   abbrev pub undone_to : DeviceState Config Node → Config → DeviceState Config Node
   undone_to s before = record s { stores = record s.stores { running = before }; partials = forgotten m before s.partials; pending = None }
 
+  -- the same of this pending commit, or of none
   abbrev pub undone_by : DeviceState Config Node → Option (PendingState Config) → DeviceState Config Node
   undone_by s None = s
   undone_by s (Some p) = undone_to s p.before
@@ -24,6 +25,7 @@ module _ {Config TheEdit Node : Type 0} (m : Meaning Config TheEdit Node) where
   abbrev pub undone : DeviceState Config Node → DeviceState Config Node
   undone s = undone_by s s.pending
 
+  -- the same where a test says so
   abbrev pub undone_if : DeviceState Config Node → Bool → DeviceState Config Node
   undone_if s undoes = if undoes then undone s else s
 

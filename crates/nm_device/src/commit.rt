@@ -34,7 +34,8 @@ impl<C: Content> Device<C> {
     ) -> Result<Reply, NoMemory>
         requires sound { IsSound (C.meaning content.now) self.old }
         requires in_time { IsInTime self.old.clock }
-        ensures stepped { Does result self.old self.new (commit_by (C.meaning content.now) self.old session (record { confirmed = confirmed; timeout = timeout; persist = persist.now; persist_id = persist_id.now })) }
+        ensures stepped { Does result self.old self.new (commit_by (C.meaning content.now) self.old session
+            (record { confirmed = confirmed; timeout = timeout; persist = persist.now; persist_id = persist_id.now })) }
         ensures clock { self.new.clock ≡ self.old.clock }
         ensures error_changes_nothing { IfOk result (λ reply. is_error reply ≡ true → self.new ≡ self.old) }
     {
@@ -57,7 +58,8 @@ impl<C: Content> Device<C> {
         persist: &Option<Label>,
         persist_id: &Option<Label>,
     ) -> Option<Tag>
-        ensures { result ≡ commit_tag (C.meaning content.now) self.now session (record { confirmed = confirmed; timeout = timeout; persist = persist.now; persist_id = persist_id.now }) }
+        ensures { result ≡ commit_tag (C.meaning content.now) self.now session
+            (record { confirmed = confirmed; timeout = timeout; persist = persist.now; persist_id = persist_id.now }) }
     {
         match self.commit_refusal(session, confirmed, timeout, persist, persist_id) {
             Some(tag) => Some(tag),
@@ -92,7 +94,9 @@ impl<C: Content> Device<C> {
         persist: &Option<Label>,
         persist_id: &Option<Label>,
     ) -> Option<Tag>
-        ensures { result ≡ commit_refusal self.now session (record { confirmed = confirmed; timeout = timeout; persist = persist.now; persist_id = persist_id.now }) }
+        ensures { result
+            ≡ commit_refusal self.now session
+            (record { confirmed = confirmed; timeout = timeout; persist = persist.now; persist_id = persist_id.now }) }
     {
         if (names_reserved(persist) || names_reserved(persist_id)) && !self.is_manager(session) {
             return Some(Tag::AccessDenied);

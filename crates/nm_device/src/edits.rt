@@ -46,7 +46,8 @@ impl<C: Content> Device<C> {
     ) -> Result<Reply, NoMemory>
         requires sound { IsSound (C.meaning content.now) self.old }
         requires edit_belongs { (C.meaning content.now).edit_belongs edit.now }
-        ensures stepped { Does result self.old self.new (edit_gives self.old ((C.meaning content.now).edited (candidate_of self.old.stores) edit.now default_operation marks)) }
+        ensures stepped { Does result self.old self.new
+            (edit_gives self.old ((C.meaning content.now).edited (candidate_of self.old.stores) edit.now default_operation marks)) }
         ensures clock { self.new.clock ≡ self.old.clock }
         ensures error_changes_nothing { IfOk result (λ reply. is_error reply ≡ true → self.new ≡ self.old) }
     {

@@ -46,7 +46,8 @@ impl<C: Content> Device<C> {
         session: SessionId,
         mut nodes: Vec<C::Node>,
     ) -> Result<Reply, NoMemory>
-        ensures locked { Does result self.old self.new (nodes_locked (C.meaning content.now) self.old session nodes.items (owner_of self.old.locks Store.Running)) }
+        ensures locked { Does result self.old self.new (nodes_locked (C.meaning content.now) self.old session nodes.items
+            (owner_of self.old.locks Store.Running)) }
         ensures clock { self.new.clock ≡ self.old.clock }
         ensures error_changes_nothing { IfOk result (λ reply. is_error reply ≡ true → self.new ≡ self.old) }
     {

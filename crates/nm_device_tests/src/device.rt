@@ -1,18 +1,16 @@
 ghost use Rattle.std.specs.Prelude.{◌≡◌, IfOk};
-ghost use Rattle.nm_proto.specs.FlatContent.{flat_meaning};
+ghost use Rattle.nm_flat.specs.FlatContent.{flat_meaning};
 ghost use Rattle.nm_device.specs.Device.{IsInTime, IsSound};
 
 use nm_base::{ChangeMask, ChangeNo, EditNo, Label, MANAGER, NoMemory, SelectNo, SessionId, Tag};
+use nm_device_laws::laws;
+use nm_flat::{FlatConfig, FlatContent, FlatEdit, FlatNode, NumberMap};
 use nm_history::{Noted, Outcome, Recorded, Undoing, outcome_of};
 use nm_locks::GlobalLocks;
 use nm_partial::PartialLocks;
 use nm_pending::Pending;
-use nm_proto::{
-    Content, DefaultOperation, FlatConfig, FlatContent, FlatEdit, FlatNode, Listed, Marks,
-    NumberMap, Reply, Request, Store, Tables,
-};
+use nm_proto::{Content, DefaultOperation, Listed, Marks, Reply, Request, Store, Tables};
 use nm_sessions::Sessions;
-use nm_standing::laws;
 use std::alloc::Global;
 use std::test::Fail;
 

@@ -1,8 +1,8 @@
 use nm_base::{ChangeMask, ChangeNo, DeviceMask, DeviceNo, EditNo, Label, SelectNo, Tag};
+use nm_flat::{FlatConfig, FlatContent, FlatEdit, FlatNode, NumberMap};
 use nm_proto::{
-    AbortCause, Content, DefaultOperation, Entry, Event, FlatConfig, FlatContent, FlatEdit,
-    FlatNode, Listed, Marks, NumberMap, PlanEntry, PlanFault, Reply, Request, Show, Tables,
-    Verdict,
+    AbortCause, Content, DefaultOperation, Entry, Event, Listed, Marks, PlanEntry, PlanFault,
+    Reply, Request, Show, Tables, Verdict,
 };
 use std::alloc::Global;
 use std::test::Fail;

@@ -1,7 +1,7 @@
 //! What may be shared with a thread, sent to it and sent back.
 
 use nm_base::{Label, SessionId};
-use nm_proto::{FlatConfig, FlatEdit, FlatNode, NumberMap};
+use nm_flat::{FlatConfig, FlatEdit, FlatNode, NumberMap};
 use nm_sessions::Sessions;
 use std::test::Fail;
 use std::thread;

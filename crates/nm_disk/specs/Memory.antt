@@ -1,8 +1,8 @@
 -- A disk in memory: the record of its calls, its bytes and its crash images.
-use Rattle.std.specs.Prelude.{◌≡◌, ◌⊎◌, ◌≤◌, ◌+◌, ◌||◌, ℕ, Bool, nat_lt, nat_le, nat_eq, List, [], ◌∷◌, ◌++◌, length, take, drop, replicate, if◌then◌else◌}
+use Rattle.std.specs.Prelude.{◌≡◌, ◌⊎◌, ◌≤◌, ◌+◌, ◌||◌, ℕ, Bool, nat_lt, nat_le, nat_eq, List, [], ◌∷◌, ◌++◌, length, take, drop, replicate, Some, if◌then◌else◌}
 use Rattle.std.specs.List.{list_any}
 use Rattle.nm_base.specs.Count.{raised}
-use Rattle.nm_disk.specs.Image.{with_piece, IsTorn, IsCut, IsPerhapsCut}
+use Rattle.nm_disk.specs.Image.{DiskState, with_piece, IsTorn, IsCut, IsPerhapsCut}
 use Rattle.nm_disk.specs.declared.memory.Call.{Call}
 use Rattle.nm_disk.specs.declared.memory.Call.TheVariants.{Asked, Wrote, Tore, Cut, PerhapsCut, Synced}
 
@@ -44,6 +44,16 @@ pub record MemoryState : Type 0 where
   pub room : ℕ
   pub failing : List ℕ
   pub faults : ℕ
+
+-- what its callers know of it: the clock counts its calls
+abbrev pub memory_state : MemoryState → DiskState
+memory_state disk = record {
+  contents = Some (bytes_after disk.calls);
+  faults = disk.faults;
+  crash_images = IsCrashImage disk.calls;
+  moment = length disk.calls;
+  images_since = MightHaveLeft disk.calls;
+}
 
 -- a disk of no bytes and no call
 abbrev pub empty_disk : ℕ → ℕ → MemoryState

@@ -1,5 +1,3 @@
-ghost use Rattle.std.specs.Prelude.{None};
-
 use crate::disk::Disk;
 use crate::file::FileDisk;
 use crate::memory::MemoryDisk;
@@ -14,17 +12,9 @@ pub enum AnyDisk<R: Files> {
 }
 
 impl<R: Files> Disk for AnyDisk<R> {
-    ghost use Rattle.nm_disk.specs.Any.{any_told, any_faults, any_may_leave, any_moment, any_might_have_left, any_as_read, any_counts_now, any_only_now};
+    ghost use Rattle.nm_disk.specs.Any.{any_state, any_as_read, any_counts_now, any_only_now};
 
-    ghost told = { any_told };
-
-    ghost faults = { any_faults };
-
-    ghost may_leave = { any_may_leave };
-
-    ghost moment = { any_moment };
-
-    ghost might_have_left = { any_might_have_left };
+    ghost state = { any_state };
 
     ghost as_read = { any_as_read };
 

@@ -1,5 +1,5 @@
-ghost use Rattle.std.specs.Prelude.{◌≡◌, ◌≤◌, ◌-◌, ◌<◌, length, None, IfOk, is_ok};
-ghost use Rattle.nm_disk.specs.File.{after_call};
+ghost use Rattle.std.specs.Prelude.{◌≡◌, ◌≤◌, ◌-◌, ◌<◌, length, IfOk, is_ok};
+ghost use Rattle.nm_disk.specs.File.{after_call, file_state};
 
 use crate::disk::Disk;
 use nm_base::{Failed, Label, count_fault};
@@ -152,15 +152,7 @@ fn not_open() -> io::Error {
 }
 
 impl<R: Files> Disk for FileDisk<R> {
-    ghost told = { λ _. None };
-
-    ghost faults = { λ disk. disk.faults };
-
-    ghost may_leave = { λ _ _. Unit {0} };
-
-    ghost moment = { λ _. 0 };
-
-    ghost might_have_left = { λ _ _ _. Unit {0} };
+    ghost state = { file_state };
 
     ghost as_read = { λ _ _ _. tt };
 

@@ -3,15 +3,7 @@ use nm_base::Failed;
 
 // A disk that is lent.
 impl<D: Disk> Disk for &mut D {
-    ghost told = { λ disk. D.told disk.now };
-
-    ghost faults = { λ disk. D.faults disk.now };
-
-    ghost may_leave = { λ disk. D.may_leave disk.now };
-
-    ghost moment = { λ disk. D.moment disk.now };
-
-    ghost might_have_left = { λ disk. D.might_have_left disk.now };
+    ghost state = { λ disk. D.state disk.now };
 
     ghost as_read = { λ disk. D.as_read disk.now };
 

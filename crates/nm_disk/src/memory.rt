@@ -1,4 +1,4 @@
-ghost use Rattle.std.specs.Prelude.{◌≡◌, ◌≤◌, ◌+◌, ◌^◌, ◌<◌, ◌↔◌, [], ◌++◌, length, take, drop, Some, IfOk, OnOk, OnErr, IsErr, IsTrue, vec_capacity, if◌then◌else◌, replicate};
+ghost use Rattle.std.specs.Prelude.{◌≡◌, ◌≤◌, ◌+◌, ◌^◌, ◌<◌, ◌↔◌, [], ◌++◌, length, take, drop, IfOk, OnOk, OnErr, IsErr, IsTrue, vec_capacity, if◌then◌else◌, replicate};
 ghost use Rattle.nm_disk.specs.Image.{with_piece, ImageStep, IsTorn, IsPerhapsCut};
 ghost use Rattle.nm_base.specs.Count.{raised};
 
@@ -59,9 +59,17 @@ impl Model for MemoryDisk {
 
     ghost Value = { MemoryState };
 
-    ghost view = { λ disk. record { calls = reverse disk.calls.items; limit = disk.limit; room = disk.room; failing = disk.failing.items; faults = disk.faults } };
+    ghost view = { λ disk. record {
+      calls = reverse disk.calls.items;
+      limit = disk.limit;
+      room = disk.room;
+      failing =
+          disk.failing.items;
+      faults = disk.faults;
+    } };
 
-    ghost invariant = { λ disk. (disk.bytes.items ≡ bytes_after (reverse disk.calls.items)) × (length disk.bytes.items ≤ disk.limit) × (disk.limit ≤ vec_capacity disk.bytes) × (length disk.calls.items ≤ disk.room) × (disk.room ≤ vec_capacity disk.calls) };
+    ghost invariant = { λ disk. (disk.bytes.items ≡ bytes_after (reverse disk.calls.items)) × (length disk.bytes.items ≤ disk.limit)
+        × (disk.limit ≤ vec_capacity disk.bytes) × (length disk.calls.items ≤ disk.room) × (disk.room ≤ vec_capacity disk.calls) };
 }
 
 impl MemoryDisk {
@@ -155,19 +163,11 @@ fn content_of(piece: &[u8]) -> [u8; 32]
 }
 
 impl Disk for MemoryDisk {
-    ghost use Rattle.nm_disk.specs.Memory.{bytes_after, fails_next, fails_write, noted, failed, wrote, IsCrashImage, MightHaveLeft};
+    ghost use Rattle.nm_disk.specs.Memory.{bytes_after, fails_next, fails_write, noted, failed, wrote, memory_state};
     ghost use Rattle.nm_disk.specs.MemoryLaws.{reads_image, image_now, image_only_now};
     ghost use Rattle.nm_disk.specs.declared.memory.Call.TheVariants.{Asked, Tore, Cut, PerhapsCut, Synced};
 
-    ghost told = { λ disk. Some (bytes_after disk.calls) };
-
-    ghost faults = { λ disk. disk.faults };
-
-    ghost may_leave = { λ disk. IsCrashImage disk.calls };
-
-    ghost moment = { λ disk. length disk.calls };
-
-    ghost might_have_left = { λ disk. MightHaveLeft disk.calls };
+    ghost state = { memory_state };
 
     ghost as_read = { reads_image };
 
@@ -210,7 +210,7 @@ impl Disk for MemoryDisk {
     fn write_at(&mut self, at: u64, piece: &[u8]) -> Result<(), Failed>
         requires { at ≤ length (bytes_after self.old.calls) }
         ensures refused { IsErr result ↔ IsTrue (fails_write self.old at (length piece.now)) }
-        ensures crash { ImageStep (IsTorn at (length piece.now)) (IsCrashImage self.old.calls) (IsCrashImage self.new.calls) }
+        ensures crash { ImageStep (IsTorn at (length piece.now)) (memory_state self.old) (memory_state self.new) }
         ensures count { self.old.faults ≤ self.new.faults }
         ensures ok { OnOk result (self.new ≡ noted self.old (wrote at piece.now)) }
         ensures err { OnErr result (self.new ≡ failed self.old (Tore at (length piece.now))) }
@@ -229,7 +229,7 @@ impl Disk for MemoryDisk {
     fn cut(&mut self, to: u64) -> Result<(), Failed>
         requires { to ≤ length (bytes_after self.old.calls) }
         ensures planned { IsErr result ↔ IsTrue (fails_next self.old) }
-        ensures crash { ImageStep (IsPerhapsCut to) (IsCrashImage self.old.calls) (IsCrashImage self.new.calls) }
+        ensures crash { ImageStep (IsPerhapsCut to) (memory_state self.old) (memory_state self.new) }
         ensures count { self.old.faults ≤ self.new.faults }
         ensures ok { OnOk result (self.new ≡ noted self.old (Cut to)) }
         ensures err { OnErr result (self.new ≡ failed self.old (PerhapsCut to)) }

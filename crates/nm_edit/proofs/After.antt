@@ -11,7 +11,7 @@ use Rattle.nm_types.specs.PathLaws.{paths_total, path_cmp-IsAntisymmetric}
 use Rattle.nm_types.specs.declared.value.Value.{Value}
 use Rattle.nm_proto.specs.Content.{Refusal}
 use Rattle.nm_proto.specs.declared.message.DefaultOperation.{DefaultOperation}
-use Rattle.nm_tree.specs.Nodes.{SchemaTree}
+use Rattle.nm_schema_tree.specs.Nodes.{SchemaTree}
 use Rattle.nm_config.specs.Rows.{Rows, with_entries}
 use Rattle.nm_config.specs.Under.{is_under, without_under}
 use Rattle.nm_json.specs.Whole.{row_limit}

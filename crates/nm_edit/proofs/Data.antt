@@ -11,19 +11,19 @@ use Rattle.nm_types.specs.declared.value.Value.TheVariants.{Present}
 use Rattle.nm_proto.specs.Content.{Refusal}
 use Rattle.nm_proto.specs.declared.message.DefaultOperation.{DefaultOperation}
 use Rattle.nm_proto.specs.declared.message.DefaultOperation.TheVariants as unsaid
-use Rattle.nm_tree.specs.declared.node.NodeKind.{NodeKind}
-use Rattle.nm_tree.specs.declared.node.NodeKind.TheVariants.{Container, Leaf, LeafList, List as ListOf}
-use Rattle.nm_tree.specs.Nodes.{SchemaTree, is_guard, is_guard_in}
+use Rattle.nm_schema_tree.specs.declared.node.NodeKind.{NodeKind}
+use Rattle.nm_schema_tree.specs.declared.node.NodeKind.TheVariants.{Container, Leaf, LeafList, List as ListOf}
+use Rattle.nm_schema_tree.specs.Nodes.{SchemaTree, is_guard, is_guard_in}
 use Rattle.nm_path.specs.Spelling.{node_of, found_of}
 use Rattle.nm_config.specs.Rows.{Rows}
 use Rattle.nm_config.specs.Under.{is_under, goes_along, is_end, has_under, EntersList}
 use Rattle.nm_config.proofs.Meaning.{under-means}
-use Rattle.nm_rules.specs.Standing.{is_chosen, is_chosen_in, is_chosen_at, is_own_at, is_row_from, is_row_path, StandsIn}
-use Rattle.nm_rules.specs.Values.{is_same_path}
-use Rattle.nm_rules.specs.Violated.{last_chosen}
-use Rattle.nm_rules.proofs.Among.{Among, any_passes, among_left, among_right, among_flat, both, among_contains}
-use Rattle.nm_rules.proofs.Leading.{place_at, node_last}
-use Rattle.nm_rules.proofs.Placed.{key_there, both_true as both_pass}
+use Rattle.nm_validate_rules.specs.Standing.{is_chosen, is_chosen_in, is_chosen_at, is_own_at, is_row_from, is_row_path, StandsIn}
+use Rattle.nm_validate_rules.specs.Values.{is_same_path}
+use Rattle.nm_validate_rules.specs.Violated.{last_chosen}
+use Rattle.nm_validate_rules.proofs.Among.{Among, any_passes, among_left, among_right, among_flat, both, among_contains}
+use Rattle.nm_validate_rules.proofs.Leading.{place_at, node_last}
+use Rattle.nm_validate_rules.proofs.Placed.{key_there, both_true as both_pass}
 use Rattle.nm_edit.specs.declared.operation.Operation.{Operation}
 use Rattle.nm_edit.specs.declared.operation.Effective.{Effective}
 use Rattle.nm_edit.specs.declared.operation.Effective.TheVariants.{Merge, Replace, Create, Delete, Remove, Nothing}

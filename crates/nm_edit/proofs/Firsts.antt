@@ -11,7 +11,7 @@ use Rattle.nm_types.specs.Path.{PathStep, path_cmp}
 use Rattle.nm_types.specs.PathLaws.{paths_total}
 use Rattle.nm_proto.specs.Content.{Refusal}
 use Rattle.nm_proto.specs.declared.message.DefaultOperation.{DefaultOperation}
-use Rattle.nm_tree.specs.Nodes.{SchemaTree}
+use Rattle.nm_schema_tree.specs.Nodes.{SchemaTree}
 use Rattle.nm_config.specs.Rows.{Rows}
 use Rattle.nm_edit.specs.declared.edit.EditNode.{EditNode}
 use Rattle.nm_edit.specs.declared.standing.Standing.{Standing}

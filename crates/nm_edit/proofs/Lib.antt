@@ -1,6 +1,10 @@
+pub mod Nodes
+pub mod Paths
+pub mod Exact
+pub mod Outcome
 pub mod Steps
 pub mod Outwards
-pub mod Going
+pub mod GoingNodes
 pub mod After
 pub mod Firsts
 pub mod Named

@@ -8,15 +8,15 @@ use Rattle.nm_types.specs.PathLaws.{same_path_decides}
 use Rattle.nm_types.specs.declared.value.Value.{Value}
 use Rattle.nm_types.specs.declared.value.Value.TheVariants.{Present}
 use Rattle.nm_proto.specs.declared.message.DefaultOperation.{DefaultOperation}
-use Rattle.nm_tree.specs.declared.node.NodeKind.{NodeKind}
-use Rattle.nm_tree.specs.declared.node.NodeKind.TheVariants.{Container, Leaf, LeafList, List as ListOf}
-use Rattle.nm_tree.specs.Nodes.{SchemaTree, is_key}
+use Rattle.nm_schema_tree.specs.declared.node.NodeKind.{NodeKind}
+use Rattle.nm_schema_tree.specs.declared.node.NodeKind.TheVariants.{Container, Leaf, LeafList, List as ListOf}
+use Rattle.nm_schema_tree.specs.Nodes.{SchemaTree, is_key}
 use Rattle.nm_path.specs.Spelling.{node_of}
-use Rattle.nm_rules.specs.Standing.{is_chosen, is_chosen_in, is_chosen_at, is_row, is_row_in, is_row_at, is_row_from, is_row_path}
-use Rattle.nm_rules.specs.Values.{is_same_path}
-use Rattle.nm_rules.specs.Violated.{last_chosen}
-use Rattle.nm_rules.proofs.Among.{Among, any_passes}
-use Rattle.nm_rules.proofs.Placed.{any_at, both_true as both_pass}
+use Rattle.nm_validate_rules.specs.Standing.{is_chosen, is_chosen_in, is_chosen_at, is_row, is_row_in, is_row_at, is_row_from, is_row_path}
+use Rattle.nm_validate_rules.specs.Values.{is_same_path}
+use Rattle.nm_validate_rules.specs.Violated.{last_chosen}
+use Rattle.nm_validate_rules.proofs.Among.{Among, any_passes}
+use Rattle.nm_validate_rules.proofs.Placed.{any_at, both_true as both_pass}
 use Rattle.nm_edit.specs.declared.operation.Operation.{Operation}
 use Rattle.nm_edit.specs.declared.edit.EditNode.{EditNode}
 use Rattle.nm_edit.specs.declared.standing.Standing.{Standing}

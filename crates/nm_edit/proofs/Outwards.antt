@@ -1,8 +1,8 @@
 -- A case among those outwards of one that passes a test.
 use Rattle.std.proofs.Common.{◌≡◌, ℕ, zero, suc, ◌-◌, ◌<◌, Bool, true, false, ◌||◌, Option, Some, None, refl, ap, ◌∙◌, arith}
 use Rattle.std.specs.List.{list_any}
-use Rattle.nm_tree.specs.Nodes.{SchemaTree, outer_case}
-use Rattle.nm_rules.specs.Cases.{outwards}
+use Rattle.nm_schema_tree.specs.Nodes.{SchemaTree, outer_case}
+use Rattle.nm_validate_rules.specs.Cases.{outwards}
 
 module _ (t : SchemaTree) (test : ℕ → Bool) where
   pub any_none : (n : ℕ) → list_any test (outwards t n None) ≡ false

@@ -14,6 +14,7 @@ use Rattle.nm_edit.specs.Standing.{Sayings, said, standing}
 abbrev pub act_of : EditNode → Standing → Act
 act_of n s = record { path = n.path; operation = s.operation; is_explicit = s.is_explicit; value = n.value }
 
+-- what is done at a node; nothing where a node above it goes as a whole
 abbrev pub act_if : Standing → EditNode → List Act
 act_if s n = if s.is_cut then [] else act_of n s ∷ []
 
@@ -25,6 +26,7 @@ acts_at told d n = act_if (standing told d n.path) n
 abbrev pub acts : List EditNode → DefaultOperation → List Act
 acts nodes d = flat_map (acts_at (said nodes) d) nodes
 
+-- the row of a path, where it comes and has a value
 abbrev pub rows_if : Bool → List PathStep → Option Value → List (List PathStep × Value)
 rows_if false path value = []
 rows_if true path None = []

@@ -5,13 +5,13 @@ use Rattle.std.specs.List.Sorted.{IsStrictlySortedBy}
 use Rattle.nm_types.specs.Path.{PathStep, path_cmp, Choice, whole, keys, entry}
 use Rattle.nm_types.specs.declared.value.Value.{Value}
 use Rattle.nm_types.specs.declared.value.Value.TheVariants.{Present}
-use Rattle.nm_tree.specs.declared.node.Node.{Node}
-use Rattle.nm_tree.specs.declared.node.NodeKind.{NodeKind}
-use Rattle.nm_tree.specs.declared.node.NodeKind.TheVariants.{Container, Leaf, LeafList, List as ListOf}
-use Rattle.nm_tree.specs.Nodes.{SchemaTree, is_key}
+use Rattle.nm_schema_tree.specs.declared.node.Node.{Node}
+use Rattle.nm_schema_tree.specs.declared.node.NodeKind.{NodeKind}
+use Rattle.nm_schema_tree.specs.declared.node.NodeKind.TheVariants.{Container, Leaf, LeafList, List as ListOf}
+use Rattle.nm_schema_tree.specs.Nodes.{SchemaTree, is_key}
 use Rattle.nm_path.specs.Spelling.{node_of}
-use Rattle.nm_rules.specs.Values.{is_same_path}
-use Rattle.nm_rules.specs.Violated.{last_chosen}
+use Rattle.nm_validate_rules.specs.Values.{is_same_path}
+use Rattle.nm_validate_rules.specs.Violated.{last_chosen}
 use Rattle.nm_edit.specs.declared.operation.Operation.{Operation}
 use Rattle.nm_edit.specs.declared.operation.Operation.TheVariants.{Delete, Remove}
 use Rattle.nm_edit.specs.declared.edit.EditNode.{EditNode}
@@ -22,7 +22,8 @@ is_removal (Some Delete) = true
 is_removal (Some Remove) = true
 is_removal _ = false
 
--- what a node of an edit chooses and the value of its row fit its node: a container without presence has no row, and a leaf may lack its value only where it is taken away
+-- what a node of an edit chooses and the value of its row fit its node: a container without presence has no row, and a leaf
+-- may lack its value only where it is taken away
 abbrev pub HasWorth : Option Operation → NodeKind → Choice → Option Value → Type 0
 HasWorth said (Container presence) whole value = value ≡ (if presence then Some Present else None)
 HasWorth said (ListOf ks u e) (keys vs) value = value ≡ Some Present
@@ -39,6 +40,7 @@ pub record IsNamed (t : SchemaTree) (n : EditNode) : Type 0 where
   pub no_key : is_key t.nodes at ≡ false
   pub worth : HasWorth n.operation node.kind (last_chosen n.path) n.value
 
+-- the paths of an edit's nodes, in their order
 abbrev pub paths : List EditNode → List (List PathStep)
 paths nodes = map (λ n. n.path) nodes
 

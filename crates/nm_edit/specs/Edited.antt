@@ -8,12 +8,12 @@ use Rattle.nm_base.specs.declared.tag.Tag.TheVariants.{ResourceDenied}
 use Rattle.nm_proto.specs.Content.{Refusal}
 use Rattle.nm_proto.specs.declared.message.DefaultOperation.{DefaultOperation}
 use Rattle.nm_proto.specs.declared.message.DefaultOperation.TheVariants as unsaid
-use Rattle.nm_tree.specs.Nodes.{SchemaTree}
+use Rattle.nm_schema_tree.specs.Nodes.{SchemaTree}
 use Rattle.nm_path.specs.Spelling.{node_of}
 use Rattle.nm_config.specs.Rows.{Rows, with_entries}
 use Rattle.nm_config.specs.Under.{without_under}
 use Rattle.nm_json.specs.Whole.{row_limit}
-use Rattle.nm_rules.specs.Standing.{is_own_at}
+use Rattle.nm_validate_rules.specs.Standing.{is_own_at}
 use Rattle.nm_edit.specs.declared.edit.EditNode.{EditNode}
 use Rattle.nm_edit.specs.declared.act.Act.{Act}
 use Rattle.nm_edit.specs.declared.fault.EditFault.{EditFault}
@@ -29,6 +29,7 @@ use Rattle.nm_edit.specs.Rivals.{ousted_by}
 abbrev pub all_without : Rows → List (List PathStep) → Rows
 all_without rows nodes = fold without_under rows nodes
 
+-- a path as a list of one, where its node goes
 abbrev pub gone_if : Bool → List PathStep → List (List PathStep)
 gone_if goes path = if goes then path ∷ [] else []
 
@@ -46,6 +47,7 @@ ousted t rows = flat_map (λ row. ousted_by t row.0) rows
 
 -- ---- what is held
 
+-- the row at a path, where there is one
 abbrev pub rows_at : List PathStep → Option Value → List (List PathStep × Value)
 rows_at path None = []
 rows_at path (Some value) = (path, value) ∷ []
@@ -54,6 +56,7 @@ rows_at path (Some value) = (path, value) ∷ []
 abbrev pub held_at : SchemaTree → Rows → List PathStep → List (List PathStep × Value)
 held_at t old path = if is_own_at t.nodes (node_of t path) then rows_at path (get old path) else []
 
+-- the same along the steps of a path, from the top down
 abbrev pub held_from : SchemaTree → Rows → List PathStep → List PathStep → List (List PathStep × Value)
 held_from t old above [] = []
 held_from t old above (s ∷ ss) = held_at t old above ++ held_from t old (above ++ s ∷ []) ss
@@ -78,6 +81,7 @@ base_of unsaid.Nothing old = old
 abbrev pub brought_by : SchemaTree → Rows → Rows → List (List PathStep) → List (List PathStep × Value) → Rows
 brought_by t old base goes rows = with_entries (with_entries (all_without (all_without base goes) (ousted t rows)) (held t old rows)) rows
 
+-- the configuration that what is done brings about, over the one that it began from
 abbrev pub brought : SchemaTree → Rows → Rows → List Act → Rows
 brought t old base done = brought_by t old base (gone done) (coming done)
 
@@ -99,10 +103,12 @@ moved rows moves = with_entries (with_entries (all_without rows moves.goes) move
 abbrev pub limited : Rows → Result Rows Refusal
 limited rows = if nat_lt row_limit (len rows) then Err (record { tag = ResourceDenied; path = [] }) else Ok rows
 
+-- a refusal comes before what would be given
 abbrev pub unless : Option Refusal → Result Rows Refusal → Result Rows Refusal
 unless None given = given
 unless (Some refusal) given = Err refusal
 
+-- the configuration that an edit makes, or what it is refused for: first what is wrong at a node, then the limit on rows
 abbrev pub edited_by : SchemaTree → Rows → Rows → List Act → Result Rows Refusal
 edited_by t old base done = unless (first_refusal t old done) (limited (brought t old base done))
 

@@ -8,11 +8,11 @@ use Rattle.nm_types.specs.Path.{PathStep, path_cmp}
 use Rattle.nm_types.specs.declared.value.Value.{Value}
 use Rattle.nm_proto.specs.Content.{Refusal}
 use Rattle.nm_proto.specs.declared.message.DefaultOperation.{DefaultOperation}
-use Rattle.nm_tree.specs.Nodes.{SchemaTree}
+use Rattle.nm_schema_tree.specs.Nodes.{SchemaTree}
 use Rattle.nm_path.specs.Written.{path_text}
 use Rattle.nm_config.specs.Rows.{Rows}
 use Rattle.nm_config.specs.Under.{is_under}
-use Rattle.nm_rules.specs.Values.{is_same_path}
+use Rattle.nm_validate_rules.specs.Values.{is_same_path}
 use Rattle.nm_edit.specs.declared.edit.EditNode.{EditNode}
 use Rattle.nm_edit.specs.declared.act.Act.{Act}
 use Rattle.nm_edit.specs.Acts.{acts, coming}
@@ -31,7 +31,8 @@ goes nodes path = list_any (λ node. is_under node path) nodes
 -- the value at a path after acts on rows: that of a row that comes, else that of a row that is held, else the one before, unless it goes
 abbrev pub value_by : SchemaTree → Rows → Rows → List Act → List PathStep → Option Value
 value_by t old base done path =
-    option_or (last_at (coming done) path) (option_or (last_at (held t old (coming done)) path) (if goes (gone done ++ ousted t (coming done)) path then None else get base path))
+    option_or (last_at (coming done) path)
+    (option_or (last_at (held t old (coming done)) path) (if goes (gone done ++ ousted t (coming done)) path then None else get base path))
 
 -- the value at a path after an edit
 abbrev pub value_after : SchemaTree → Rows → List EditNode → DefaultOperation → List PathStep → Option Value

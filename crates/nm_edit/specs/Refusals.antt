@@ -4,10 +4,10 @@ use Rattle.nm_types.specs.Path.{PathStep}
 use Rattle.nm_base.specs.declared.tag.Tag.{Tag}
 use Rattle.nm_base.specs.declared.tag.Tag.TheVariants.{DataExists, DataMissing}
 use Rattle.nm_proto.specs.Content.{Refusal}
-use Rattle.nm_tree.specs.declared.node.Node.{Node}
-use Rattle.nm_tree.specs.declared.node.NodeKind.{NodeKind}
-use Rattle.nm_tree.specs.declared.node.NodeKind.TheVariants.{Container}
-use Rattle.nm_tree.specs.Nodes.{SchemaTree}
+use Rattle.nm_schema_tree.specs.declared.node.Node.{Node}
+use Rattle.nm_schema_tree.specs.declared.node.NodeKind.{NodeKind}
+use Rattle.nm_schema_tree.specs.declared.node.NodeKind.TheVariants.{Container}
+use Rattle.nm_schema_tree.specs.Nodes.{SchemaTree}
 use Rattle.nm_path.specs.Spelling.{node_of}
 use Rattle.nm_path.specs.Written.{path_text}
 use Rattle.nm_config.specs.Rows.{Rows}
@@ -23,6 +23,7 @@ abbrev pub is_passed : NodeKind → Bool
 is_passed (Container presence) = not presence
 is_passed _ = false
 
+-- a node is a container without presence
 abbrev pub is_passed_in : Option Node → Bool
 is_passed_in None = false
 is_passed_in (Some n) = is_passed n.kind
@@ -43,6 +44,7 @@ refused_by _ exists passed = None
 abbrev pub refused_at : SchemaTree → Rows → Act → Option Tag
 refused_at t old a = refused_by a.operation (has_under old a.path) (is_passed_at t.nodes (node_of t a.path))
 
+-- a node's refusal comes before those of later nodes; its path is told as text
 abbrev pub refusal_or : SchemaTree → List PathStep → Option Tag → Option Refusal → Option Refusal
 refusal_or t path None others = others
 refusal_or t path (Some tag) others = Some (record { tag = tag; path = path_text t path })

@@ -2,10 +2,11 @@
 use Rattle.std.specs.Prelude.{ℕ, List, [], ◌∷◌, ◌++◌, Bool, false, not, ◌&&◌, ◌==◌, Option, Some, None, if◌then◌else◌}
 use Rattle.std.specs.List.{list_any, flat_map}
 use Rattle.nm_types.specs.Path.{PathStep}
-use Rattle.nm_tree.specs.Nodes.{SchemaTree, same_parent, parent_of, choice_at}
+use Rattle.nm_schema_tree.specs.Nodes.{SchemaTree, same_parent, parent_of, choice_at}
 use Rattle.nm_path.specs.Spelling.{node_of}
-use Rattle.nm_rules.specs.Cases.{bare, numbers, cases_over}
+use Rattle.nm_validate_rules.specs.Cases.{bare, numbers, cases_over}
 
+-- two nodes are of one choice; what is in no choice isn't
 abbrev pub is_one_choice : Option ℕ → Option ℕ → Bool
 is_one_choice (Some k) (Some other) = k == other
 is_one_choice _ _ = false
@@ -30,10 +31,12 @@ rival_at t above x y = if are_rivals t x y then (above ++ bare t.nodes y ∷ [])
 abbrev pub rivals_of : SchemaTree → List PathStep → ℕ → List (List PathStep)
 rivals_of t above x = flat_map (rival_at t above x) (numbers t.nodes)
 
+-- the paths of the rivals of a node, where there is one
 abbrev pub rivals_at : SchemaTree → List PathStep → Option ℕ → List (List PathStep)
 rivals_at t above None = []
 rivals_at t above (Some x) = rivals_of t above x
 
+-- the paths of the rivals of each node on the way of some steps
 abbrev pub ousted_from : SchemaTree → List PathStep → List PathStep → List (List PathStep)
 ousted_from t above [] = []
 ousted_from t above (s ∷ ss) = rivals_at t above (node_of t (above ++ s ∷ [])) ++ ousted_from t (above ++ s ∷ []) ss

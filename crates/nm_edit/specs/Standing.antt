@@ -1,4 +1,5 @@
--- The operation that stands at each node of an edit: its own, and without one that of the node above it, at the top the default operation (RFC 6241 section 7.2).
+-- The operation that stands at each node of an edit: its own, and without one that of the node above it, at the top the
+-- default operation (RFC 6241 section 7.2).
 use Rattle.std.specs.Prelude.{List, [], ◌∷◌, ◌++◌, fold, true, false, ◌||◌, Option, Some, None}
 use Rattle.std.specs.FinMap.{FinMap, empty, get, insert}
 use Rattle.nm_types.specs.Path.{PathStep, path_cmp}
@@ -12,6 +13,7 @@ use Rattle.nm_edit.specs.Words.{effective, of_default, takes_away}
 abbrev pub Sayings : Type 0
 Sayings = FinMap path_cmp Operation
 
+-- what is said with the operation of one node more, where that says one
 abbrev pub with_operation : Sayings → List PathStep → Option Operation → Sayings
 with_operation said path None = said
 with_operation said path (Some operation) = insert said path operation

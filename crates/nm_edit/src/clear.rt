@@ -2,7 +2,7 @@
 
 ghost use Rattle.std.specs.Prelude.{◌≡◌, ◌++◌, ◌∷◌, [], IfOk, OnOk, None, Some};
 ghost use Rattle.nm_path.specs.Spelling.{node_of as found_at};
-ghost use Rattle.nm_rules.specs.Cases as cases;
+ghost use Rattle.nm_validate_rules.specs.Cases as cases;
 ghost use Rattle.nm_edit.specs.Edited as spec;
 ghost use Rattle.nm_edit.specs.Rivals as rival_spec;
 
@@ -11,7 +11,7 @@ use crate::front::{further, top};
 use crate::rivals::are_rivals;
 use nm_base::{Label, NoMemory};
 use nm_path::node_of;
-use nm_tree::{Node, Schema};
+use nm_schema_tree::{Node, Schema};
 use nm_types::{Chosen, Path, Step, Value};
 use std::alloc::Global;
 

@@ -13,7 +13,7 @@ use nm_base::{Label, NoMemory, Tag};
 use nm_config::{Config, RowMap};
 use nm_json::ROW_LIMIT;
 use nm_proto::DefaultOperation;
-use nm_tree::Schema;
+use nm_schema_tree::Schema;
 use std::alloc::Global;
 
 // What an edit begins with: nothing where the default operation is replace.

@@ -2,14 +2,14 @@
 
 ghost use Rattle.std.specs.Prelude.{◌≡◌, ◌++◌, ◌∷◌, [], IfOk, OnOk};
 ghost use Rattle.nm_path.specs.Spelling.{node_of as found_at};
-ghost use Rattle.nm_rules.specs.Standing.{is_own_at};
+ghost use Rattle.nm_validate_rules.specs.Standing.{is_own_at};
 ghost use Rattle.nm_edit.specs.Edited as spec;
 
 use crate::front::{go_on, top};
 use nm_base::NoMemory;
 use nm_config::RowMap;
 use nm_path::node_of;
-use nm_tree::Schema;
+use nm_schema_tree::Schema;
 use nm_types::{Path, Value};
 use std::alloc::Global;
 

@@ -9,7 +9,7 @@ use crate::clear::{gone_of, put_ousted};
 use crate::hold::held_of;
 use nm_base::NoMemory;
 use nm_config::RowMap;
-use nm_tree::Schema;
+use nm_schema_tree::Schema;
 use nm_types::{Path, Value};
 use std::alloc::Global;
 use std::marker::Model;

@@ -11,7 +11,7 @@ use crate::operation::Effective;
 use nm_base::Tag;
 use nm_config::RowMap;
 use nm_path::{node_of, write_path};
-use nm_tree::{NodeKind, Schema};
+use nm_schema_tree::{NodeKind, Schema};
 use nm_types::Path;
 use std::alloc::Global;
 

@@ -2,11 +2,11 @@
 
 ghost use Rattle.std.specs.Prelude.{◌≡◌};
 ghost use Rattle.std.specs.List.{list_any};
-ghost use Rattle.nm_tree.specs.Nodes.{same_parent};
-ghost use Rattle.nm_rules.specs.Cases.{cases_over, outwards};
+ghost use Rattle.nm_schema_tree.specs.Nodes.{same_parent};
+ghost use Rattle.nm_validate_rules.specs.Cases.{cases_over, outwards};
 ghost use Rattle.nm_edit.specs.Rivals as spec;
 
-use nm_tree::Schema;
+use nm_schema_tree::Schema;
 
 // Whether two cases are other cases of one choice.
 fn is_other_case(schema: &Schema, case: usize, other: usize) -> bool
@@ -41,7 +41,7 @@ fn any_other(schema: &Schema, case: usize, most: usize, from: Option<usize>) -> 
 }
 
 // Whether a node stands in another case of the choice of a case.
-#[tactic(auto, unfolding(nm_rules::specs::Cases::cases_over, crate::specs::Rivals::is_in_other))]
+#[tactic(auto, unfolding(nm_validate_rules::specs::Cases::cases_over, crate::specs::Rivals::is_in_other))]
 fn is_in_other(schema: &Schema, other: usize, case: usize) -> bool
     ensures { result ≡ spec.is_in_other schema.now other case }
 {
@@ -79,7 +79,7 @@ fn is_same_parent(one: Option<usize>, other: Option<usize>) -> bool
 }
 
 /// Whether two nodes stand in one node, in two cases of one choice.
-#[tactic(auto, unfolding(nm_rules::specs::Cases::cases_over, crate::specs::Rivals::are_rivals))]
+#[tactic(auto, unfolding(nm_validate_rules::specs::Cases::cases_over, crate::specs::Rivals::are_rivals))]
 pub fn are_rivals(schema: &Schema, one: usize, other: usize) -> bool
     ensures { result ≡ spec.are_rivals schema.now one other }
 {

@@ -16,15 +16,15 @@ use Rattle.nm_types.specs.Path.{PathStep, Choice, whole, keys, entry, path_cmp}
 use Rattle.nm_types.specs.PathLaws.{paths_total, path_cmp-IsAntisymmetric}
 use Rattle.nm_types.specs.declared.value.Value.{Value}
 use Rattle.nm_types.specs.declared.value.Value.TheVariants.{Present}
-use Rattle.nm_tree.specs.declared.node.Node.{Node}
-use Rattle.nm_tree.specs.declared.node.NodeKind.{NodeKind}
-use Rattle.nm_tree.specs.declared.node.NodeKind.TheVariants.{Container, Leaf, LeafList, List as ListOf}
-use Rattle.nm_tree.specs.Nodes.{SchemaTree, is_key}
+use Rattle.nm_schema_tree.specs.declared.node.Node.{Node}
+use Rattle.nm_schema_tree.specs.declared.node.NodeKind.{NodeKind}
+use Rattle.nm_schema_tree.specs.declared.node.NodeKind.TheVariants.{Container, Leaf, LeafList, List as ListOf}
+use Rattle.nm_schema_tree.specs.Nodes.{SchemaTree, is_key}
 use Rattle.nm_path.specs.declared.place.Place.{Place}
 use Rattle.nm_path.specs.declared.place.Place.TheVariants.{Top, Within}
 use Rattle.nm_path.specs.Spelling.{below, node_from, node_of, HasSteps}
 use Rattle.nm_proto.specs.Content.{Refusal}
-use Rattle.nm_rules.specs.Violated.{last_chosen}
+use Rattle.nm_validate_rules.specs.Violated.{last_chosen}
 use Rattle.nm_json.specs.declared.fault.JsonKind.{JsonKind}
 use Rattle.nm_json.specs.declared.fault.Fault.{Fault as JsonFault}
 use Rattle.nm_json.specs.Values.{leaf_value}

@@ -12,7 +12,7 @@ use Rattle.nm_types.specs.Path.{PathStep, keys}
 use Rattle.nm_types.specs.LeafType.{TypeOfLeaf}
 use Rattle.nm_types.specs.declared.value.Value.{Value as LeafValue}
 use Rattle.nm_types.specs.declared.value.Value.TheVariants.{Present}
-use Rattle.nm_tree.specs.Nodes.{SchemaTree, is_key}
+use Rattle.nm_schema_tree.specs.Nodes.{SchemaTree, is_key}
 use Rattle.nm_json.specs.declared.fault.Fault.{Fault as JsonFault}
 use Rattle.nm_json.specs.Values.{leaf_value}
 use Rattle.nm_json.specs.Findings.{Spot, bare, step_below, node_named, key_read, values_of, entry_path}

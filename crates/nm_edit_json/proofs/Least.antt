@@ -11,7 +11,7 @@ use Rattle.serde_json.specs.Data.{Data}
 use Rattle.nm_base.specs.declared.tag.Tag.TheVariants.{ResourceDenied}
 use Rattle.nm_types.specs.PathLaws.{steps_total}
 use Rattle.nm_proto.specs.Content.{Refusal}
-use Rattle.nm_tree.specs.Nodes.{SchemaTree}
+use Rattle.nm_schema_tree.specs.Nodes.{SchemaTree}
 use Rattle.nm_json.specs.Places.{place_steps, place_text}
 use Rattle.nm_edit.specs.declared.edit.EditNode.{EditNode}
 use Rattle.nm_edit_json.specs.declared.fault.Fault.{Fault}

@@ -3,7 +3,7 @@ use Rattle.std.proofs.Common.{◌≡◌, List, [], ◌∷◌, fold, Bool, true, 
 use Rattle.std.specs.FinMap.{insert, get}
 use Rattle.serde_json.specs.Data.{Data}
 use Rattle.nm_types.specs.Path.{PathStep}
-use Rattle.nm_tree.specs.Nodes.{SchemaTree}
+use Rattle.nm_schema_tree.specs.Nodes.{SchemaTree}
 use Rattle.nm_edit_json.specs.declared.fault.FaultKind.TheVariants.{Invalid}
 use Rattle.nm_edit_json.specs.declared.fault.Fault.{Fault}
 use Rattle.nm_edit_json.specs.declared.gathered.Gathered.{Gathered}

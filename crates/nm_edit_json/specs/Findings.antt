@@ -6,10 +6,10 @@ use Rattle.nm_types.specs.LeafType.{TypeOfLeaf}
 use Rattle.nm_types.specs.Path.{PathStep, whole, entry}
 use Rattle.nm_types.specs.declared.value.Value.{Value}
 use Rattle.nm_types.specs.declared.value.Value.TheVariants.{Present}
-use Rattle.nm_tree.specs.declared.node.Node.{Node}
-use Rattle.nm_tree.specs.declared.node.NodeKind.{NodeKind}
-use Rattle.nm_tree.specs.declared.node.NodeKind.TheVariants.{Container, Leaf, LeafList, List as ListOf}
-use Rattle.nm_tree.specs.Nodes.{SchemaTree, is_key}
+use Rattle.nm_schema_tree.specs.declared.node.Node.{Node}
+use Rattle.nm_schema_tree.specs.declared.node.NodeKind.{NodeKind}
+use Rattle.nm_schema_tree.specs.declared.node.NodeKind.TheVariants.{Container, Leaf, LeafList, List as ListOf}
+use Rattle.nm_schema_tree.specs.Nodes.{SchemaTree, is_key}
 use Rattle.nm_json.specs.declared.fault.JsonKind.{JsonKind}
 use Rattle.nm_json.specs.declared.fault.JsonKind.TheVariants as json
 use Rattle.nm_json.specs.declared.fault.Fault.{Fault as JsonFault}

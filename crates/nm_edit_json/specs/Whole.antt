@@ -9,7 +9,7 @@ use Rattle.nm_base.specs.declared.tag.Tag.{Tag}
 use Rattle.nm_base.specs.declared.tag.Tag.TheVariants.{UnknownElement, MissingElement, InvalidValue, BadAttribute, ResourceDenied}
 use Rattle.nm_types.specs.Path.{PathStep, path_cmp, step_cmp}
 use Rattle.nm_proto.specs.Content.{Refusal}
-use Rattle.nm_tree.specs.Nodes.{SchemaTree}
+use Rattle.nm_schema_tree.specs.Nodes.{SchemaTree}
 use Rattle.nm_json.specs.Places.{place_steps, place_text}
 use Rattle.nm_edit.specs.declared.edit.EditNode.{EditNode}
 use Rattle.nm_edit.specs.declared.fault.EditFault.{EditFault}

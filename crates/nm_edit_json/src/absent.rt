@@ -17,7 +17,7 @@ use nm_base::NoMemory;
 use nm_edit::Operation;
 use nm_json::names::node_named;
 use nm_json::spot::Spot;
-use nm_tree::{Node, NodeKind, Schema};
+use nm_schema_tree::{Node, NodeKind, Schema};
 use nm_types::LeafType;
 use std::alloc::Global;
 

@@ -9,7 +9,7 @@ ghost use Rattle.nm_edit_json.specs.Findings as spec;
 use crate::said::{Said, member, said_in, said_in_one};
 use nm_base::NoMemory;
 use nm_json::gathered::long_name;
-use nm_tree::Node;
+use nm_schema_tree::Node;
 use nm_types::Path;
 use serde_json::{Map, Value as Json};
 use std::alloc::Global;

@@ -11,6 +11,7 @@ use nm_json::gathered::place_steps;
 use nm_types::Path;
 use std::alloc::Global;
 use std::cmp::Ordering;
+use std::mem;
 
 /// What is wrong with a part of an edit. At one place an earlier kind comes before a later one.
 #[derive(Clone, Copy, PartialEq, Eq)]
@@ -90,9 +91,18 @@ fn order(alloc: Global, one: &Fault, other: &Fault) -> Result<Ordering, NoMemory
     ensures { IfOk result (λ order. order ≡ spec.fault_cmp one.now other.now) }
 {
     let ours = place_steps(alloc, &one.place)?;
-    let theirs = place_steps(alloc, &other.place)?;
-    let places = ours.as_slice().cmp(theirs.as_slice());
-    Ok(places.then(rank(one.kind).cmp(&rank(other.kind))))
+    match place_steps(alloc, &other.place) {
+        Ok(theirs) => {
+            let places = ours.as_slice().cmp(theirs.as_slice());
+            drop(theirs);
+            drop(ours);
+            Ok(places.then(rank(one.kind).cmp(&rank(other.kind))))
+        }
+        Err(error) => {
+            drop(ours);
+            Err(error)
+        }
+    }
 }
 
 // Whether a fault is the least with those that were found.
@@ -109,8 +119,18 @@ fn is_lesser(alloc: Global, least: &Option<Fault>, fault: &Fault) -> Result<bool
 pub fn note_lesser(alloc: Global, least: &mut Option<Fault>, fault: Fault) -> Result<(), NoMemory>
     ensures { OnOk result (least.new ≡ spec.lesser least.old fault) }
 {
-    if is_lesser(alloc, least, &fault)? {
-        *least = Some(fault);
+    match is_lesser(alloc, least, &fault) {
+        Ok(true) => {
+            drop(mem::replace(least, Some(fault)));
+            Ok(())
+        }
+        Ok(false) => {
+            drop(fault);
+            Ok(())
+        }
+        Err(error) => {
+            drop(fault);
+            Err(error)
+        }
     }
-    Ok(())
 }

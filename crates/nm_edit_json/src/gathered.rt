@@ -52,12 +52,19 @@ impl Gathered {
     pub fn note_node(&mut self, alloc: Global, node: EditNode) -> Result<(), NoMemory>
         ensures { OnOk result (self.new ≡ spec.noted self.old (named node)) }
     {
-        self.note_repeated(alloc, &node.path)?;
-        let EditNode {
-            path,
-            operation,
-            value,
-        } = node;
-        self.nodes.put(path, Told { operation, value })
+        match self.note_repeated(alloc, &node.path) {
+            Ok(()) => {
+                let EditNode {
+                    path,
+                    operation,
+                    value,
+                } = node;
+                self.nodes.put(path, Told { operation, value })
+            }
+            Err(error) => {
+                drop(node);
+                Err(error)
+            }
+        }
     }
 }

@@ -13,7 +13,7 @@ use nm_base::NoMemory;
 use nm_json::fault::Stop;
 use nm_json::keys::read_key;
 use nm_json::spot::Spot;
-use nm_tree::Schema;
+use nm_schema_tree::Schema;
 use nm_types::Value;
 use serde_json::{Map, Value as Json};
 use std::alloc::Global;
@@ -60,7 +60,13 @@ pub fn read_keys(
 {
     let mut values = Vec::with_capacity(alloc, keys.len())?;
     for key in keys {
-        keep_key(alloc, schema, gathered, list, members, *key, &mut values)?;
+        match keep_key(alloc, schema, gathered, list, members, *key, &mut values) {
+            Ok(()) => {}
+            Err(error) => {
+                drop(values);
+                return Err(error);
+            }
+        }
     }
     Ok(values)
 }

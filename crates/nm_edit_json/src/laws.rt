@@ -4,7 +4,7 @@
 ghost use Rattle.std.specs.Prelude.{◌≡◌, ◌↔◌, ◌⊎◌, List, Some, Ok, Err};
 ghost use Rattle.serde_json.specs.Data.{Data};
 ghost use Rattle.nm_proto.specs.Content.{Refusal};
-ghost use Rattle.nm_tree.specs.Nodes.{SchemaTree};
+ghost use Rattle.nm_schema_tree.specs.Nodes.{SchemaTree};
 ghost use Rattle.nm_edit.specs.declared.operation.Operation.{Operation as AnyOperation};
 ghost use Rattle.nm_edit.specs.declared.edit.EditNode.{EditNode as NamedNode};
 ghost use Rattle.nm_edit_json.specs.Annotations as spec;

@@ -1,7 +1,7 @@
 //! The JSON of edits of YANG data: the nodes that an edit names, with what its annotations say of them (RFC 7951, RFC 7952,
 //! RFC 6241 section 7.2).
 //!
-//! Stands on `nm_edit`, whose edits it reads, on `nm_json`, `nm_tree` and `serde_json`. The layers above rely on `read_edit`
+//! Stands on `nm_edit`, whose edits it reads, on `nm_json`, `nm_schema_tree` and `serde_json`. The layers above rely on `read_edit`
 //! answering the reading that `specs/Whole.antt` defines, and on what it answers being an edit of the schema.
 #![tactic(auto)]
 

@@ -1,6 +1,6 @@
 //! The nodes of an edit by their paths.
 
-ghost use Rattle.std.specs.Prelude.{◌≡◌, IfOk, OnOk, is_some};
+ghost use Rattle.std.specs.Prelude.{◌≡◌, ◌∷◌, ◌++◌, [], IfOk, OnOk, is_some};
 ghost use Rattle.std.specs.FinMap as map;
 ghost use Rattle.nm_edit_json.specs.Whole as spec;
 
@@ -66,7 +66,8 @@ impl Nodes {
     pub fn put(&mut self, path: Path, told: Told) -> Result<(), NoMemory>
         ensures { OnOk result (self.new ≡ map.insert self.old path told) }
     {
-        self.tree.insert(path, told)?;
+        let before = self.tree.insert(path, told)?;
+        drop(before);
         Ok(())
     }
 
@@ -76,7 +77,13 @@ impl Nodes {
     {
         let mut nodes = Vec::with_capacity(alloc, self.tree.len())?;
         for (path, told) in self.tree.iter() {
-            nodes.push(node_at(alloc, path, told)?)?;
+            match push_node(alloc, &mut nodes, path, told) {
+                Ok(()) => {}
+                Err(error) => {
+                    drop(nodes);
+                    return Err(error);
+                }
+            }
         }
         Ok(Edit { nodes })
     }
@@ -91,13 +98,33 @@ fn copy_value(value: &Option<Value>) -> Result<Option<Value>, NoMemory>
     }
 }
 
+// Puts the node of a path behind others.
+fn push_node(
+    alloc: Global,
+    nodes: &mut Vec<EditNode>,
+    path: &Path,
+    told: &Told,
+) -> Result<(), NoMemory>
+    ensures { OnOk result (nodes.new.items ≡ nodes.old.items ++ spec.node_at (path.now, told.now) ∷ []) }
+{
+    nodes.push(node_at(alloc, path, told)?)?;
+    Ok(())
+}
+
 // The node of a path.
 fn node_at(alloc: Global, path: &Path, told: &Told) -> Result<EditNode, NoMemory>
     ensures { IfOk result (λ node. node ≡ spec.node_at (path.now, told.now)) }
 {
-    Ok(EditNode {
-        path: path.copy(alloc)?,
-        operation: told.operation,
-        value: copy_value(&told.value)?,
-    })
+    let value = copy_value(&told.value)?;
+    match path.copy(alloc) {
+        Ok(path) => Ok(EditNode {
+            path,
+            operation: told.operation,
+            value,
+        }),
+        Err(error) => {
+            drop(value);
+            Err(error)
+        }
+    }
 }

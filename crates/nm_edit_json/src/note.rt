@@ -16,7 +16,7 @@ use nm_base::{Label, NoMemory};
 use nm_edit::{EditNode, Operation};
 use nm_json::fault::Place;
 use nm_json::spot::{Spot, step_below};
-use nm_tree::Node;
+use nm_schema_tree::Node;
 use nm_types::{Chosen, Path, Value};
 use std::alloc::Global;
 
@@ -143,9 +143,20 @@ pub fn note_misplaced(
 fn note_misheld(alloc: Global, gathered: &mut Gathered, node: EditNode) -> Result<(), NoMemory>
     ensures { OnOk result (gathered.new ≡ all_noted gathered.old (spec.named node ∷ spec.wrong (spec.fault_at node.path Annotation) ∷ [])) }
 {
-    let path = node.path.copy(alloc)?;
-    gathered.note_node(alloc, node)?;
-    gathered.note_fault(alloc, fault_at(path, FaultKind::Annotation))
+    let path = match node.path.copy(alloc) {
+        Ok(path) => path,
+        Err(error) => {
+            drop(node);
+            return Err(error);
+        }
+    };
+    match gathered.note_node(alloc, node) {
+        Ok(()) => gathered.note_fault(alloc, fault_at(path, FaultKind::Annotation)),
+        Err(error) => {
+            drop(path);
+            Err(error)
+        }
+    }
 }
 
 /// Notes a node with what is said of it.
@@ -183,8 +194,33 @@ pub fn note_node_below(
 ) -> Result<(), NoMemory>
     ensures { OnOk result (gathered.new ≡ all_noted gathered.old (spec.node_found (path_below above.now node.now whole) held said value)) }
 {
-    let path = step_below(alloc, above, node, Chosen::Whole)?;
-    note_node(alloc, gathered, path, held, said, value)
+    match step_below(alloc, above, node, Chosen::Whole) {
+        Ok(path) => note_node(alloc, gathered, path, held, said, value),
+        Err(error) => {
+            drop(value);
+            Err(error)
+        }
+    }
+}
+
+// Notes a node of a path with what is said of it.
+fn note_path(
+    alloc: Global,
+    gathered: &mut Gathered,
+    path: &Path,
+    held: bool,
+    said: Said,
+    value: Option<Value>,
+) -> Result<(), NoMemory>
+    ensures { OnOk result (gathered.new ≡ all_noted gathered.old (spec.node_found path.now held said value)) }
+{
+    match path.copy(alloc) {
+        Ok(own) => note_node(alloc, gathered, own, held, said, value),
+        Err(error) => {
+            drop(value);
+            Err(error)
+        }
+    }
 }
 
 /// Notes the node of a spot with what is said of it, and answers its path.
@@ -201,7 +237,18 @@ pub fn note_step(
     ensures noted { OnOk result (gathered.new ≡ all_noted gathered.old
         (spec.node_found (path_below spot.now.above.now spot.now.node.now (choice_of chosen)) held said value)) }
 {
-    let path = step_below(alloc, spot.above, spot.node, chosen)?;
-    note_node(alloc, gathered, path.copy(alloc)?, held, said, value)?;
-    Ok(path)
+    let path = match step_below(alloc, spot.above, spot.node, chosen) {
+        Ok(path) => path,
+        Err(error) => {
+            drop(value);
+            return Err(error);
+        }
+    };
+    match note_path(alloc, gathered, &path, held, said, value) {
+        Ok(()) => Ok(path),
+        Err(error) => {
+            drop(path);
+            Err(error)
+        }
+    }
 }

@@ -15,7 +15,7 @@ use crate::walk::read_members;
 use nm_base::{Label, NoMemory, Tag};
 use nm_edit::{Edit, EditFault};
 use nm_json::config::place_label;
-use nm_tree::Schema;
+use nm_schema_tree::Schema;
 use nm_types::Path;
 use serde_json::{Map, Value as Json};
 use std::alloc::Global;
@@ -49,7 +49,9 @@ fn read_top(
         held: false,
         all: members,
     };
-    read_members(alloc, schema, gathered, &around, members)
+    let read = read_members(alloc, schema, gathered, &around, members);
+    drop(above);
+    read
 }
 
 // What is found in a whole edit.
@@ -72,8 +74,13 @@ fn gather(alloc: Global, schema: &Schema, whole: &Json) -> Result<Gathered, NoMe
     ensures { IfOk result (λ gathered. gathered ≡ all_noted nothing (whole_found schema.now (view whole.now))) }
 {
     let mut gathered = Gathered::new(alloc);
-    read_whole(alloc, schema, &mut gathered, whole)?;
-    Ok(gathered)
+    match read_whole(alloc, schema, &mut gathered, whole) {
+        Ok(()) => Ok(gathered),
+        Err(error) => {
+            drop(gathered);
+            Err(error)
+        }
+    }
 }
 
 // The edit, or its least fault.
@@ -104,5 +111,7 @@ pub fn read_edit(alloc: Global, schema: &Schema, value: &Json) -> Result<Edit, E
     ensures edit_of { IfOk result (λ edit. IsEditOf schema.now edit) }
 {
     let gathered = gather(alloc, schema, value)?;
-    answer(alloc, schema, &gathered)
+    let answered = answer(alloc, schema, &gathered);
+    drop(gathered);
+    answered
 }

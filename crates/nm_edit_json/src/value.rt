@@ -1,6 +1,6 @@
 //! Leafs, and the entries of leaf-lists with their annotations.
 
-ghost use Rattle.std.specs.Prelude.{◌≡◌, OnOk, Some, None, MatchOption, option_map, slice_get};
+ghost use Rattle.std.specs.Prelude.{◌≡◌, IfOk, OnOk, Some, None, MatchOption, option_map, slice_get};
 ghost use Rattle.serde_json.specs.View.{view, items_view};
 ghost use Rattle.nm_types.specs.Path.{entry};
 ghost use Rattle.nm_json.specs.Spots.{spot_of};
@@ -18,7 +18,7 @@ use nm_base::NoMemory;
 use nm_json::fault::Refusal;
 use nm_json::leafs::leaf_value;
 use nm_json::spot::{Spot, step_below};
-use nm_types::{Chosen, LeafType, Value};
+use nm_types::{Chosen, LeafType, Path, Value};
 use serde_json::Value as Json;
 use std::alloc::Global;
 
@@ -47,6 +47,13 @@ pub fn read_leaf(
     }
 }
 
+// The path of an entry of a leaf-list by its value.
+fn entry_path(alloc: Global, spot: &Spot, value: &Value) -> Result<Path, NoMemory>
+    ensures { IfOk result (λ path. path ≡ path_below spot.now.above.now spot.now.node.now (entry value.now)) }
+{
+    step_below(alloc, spot.above, spot.node, Chosen::Entry(value.copy()?))
+}
+
 // Notes an entry of a leaf-list by its value.
 fn note_value(
     alloc: Global,
@@ -59,9 +66,13 @@ fn note_value(
     ensures { OnOk result (gathered.new ≡ all_noted gathered.old
         (spec.node_found (path_below spot.now.above.now spot.now.node.now (entry value)) held said (Some value))) }
 {
-    let chosen = Chosen::Entry(value.copy()?);
-    let path = step_below(alloc, spot.above, spot.node, chosen)?;
-    note_node(alloc, gathered, path, held, said, Some(value))
+    match entry_path(alloc, spot, &value) {
+        Ok(path) => note_node(alloc, gathered, path, held, said, Some(value)),
+        Err(error) => {
+            drop(value);
+            Err(error)
+        }
+    }
 }
 
 // An entry of a leaf-list.
@@ -128,9 +139,9 @@ pub fn read_noted(
 {
     match notes {
         None => {
-            let none = Vec::new(alloc);
             note_misplaced(alloc, gathered, spot.above, spot.node, true)?;
-            read_values(
+            let none = Vec::new(alloc);
+            let read = read_values(
                 alloc,
                 gathered,
                 spot,
@@ -138,7 +149,9 @@ pub fn read_noted(
                 held,
                 none.as_slice(),
                 items,
-            )
+            );
+            drop(none);
+            read
         }
         Some(notes) => {
             let longer = notes.len() > items.len();

@@ -2,7 +2,7 @@
 
 ghost use Rattle.std.specs.Prelude.{◌≡◌, ◌++◌, Some, None, OnOk};
 ghost use Rattle.serde_json.specs.View.{view, items_view, members_view};
-ghost use Rattle.nm_tree.specs.declared.node.NodeKind.TheVariants as kind;
+ghost use Rattle.nm_schema_tree.specs.declared.node.NodeKind.TheVariants as kind;
 ghost use Rattle.nm_json.specs.Spots.{spot_of};
 ghost use Rattle.nm_json.specs.Values.{leaf_value as value_of_leaf};
 ghost use Rattle.nm_edit_json.specs.Noted.{gathered as all_noted};
@@ -19,7 +19,7 @@ use crate::value::{read_leaf, read_leaf_list};
 use nm_base::NoMemory;
 use nm_json::names::{is_twice, node_named};
 use nm_json::spot::Spot;
-use nm_tree::{Node, NodeKind, Schema};
+use nm_schema_tree::{Node, NodeKind, Schema};
 use nm_types::{Chosen, LeafType, Value};
 use serde_json::{Map, Value as Json};
 use std::alloc::Global;
@@ -91,7 +91,8 @@ fn read_leaf_noted(
     part: &Json,
 ) -> Result<(), NoMemory>
     ensures { OnOk result (gathered.new ≡ all_noted gathered.old
-        (spec.leaf_found (spot_of spot.now) around.now.held (spec.said_of (around_of around.now) spot.now.node.now) (value_of_leaf leaf_type.now (view part.now)))) }
+        (spec.leaf_found (spot_of spot.now) around.now.held (spec.said_of (around_of around.now) spot.now.node.now)
+        (value_of_leaf leaf_type.now (view part.now)))) }
 {
     let said = said_of(alloc, around, spot.node)?;
     read_leaf(alloc, gathered, spot, leaf_type, around.held, said, part)
@@ -233,7 +234,9 @@ fn read_container(
                 held: held_by(held, said),
                 all: members,
             };
-            read_members(alloc, schema, gathered, &around, members)
+            let read = read_members(alloc, schema, gathered, &around, members);
+            drop(path);
+            read
         }
         _ => note_misfit(alloc, gathered, spot),
     }
@@ -299,6 +302,7 @@ fn read_entry(
         Json::Object(members) => {
             let values = read_keys(alloc, schema, gathered, spot, members, keys)?;
             if values.len() != keys.len() {
+                drop(values);
                 return Ok(());
             }
             let said = own_said(members);
@@ -311,7 +315,9 @@ fn read_entry(
                 held: held_by(held, said),
                 all: members,
             };
-            read_members(alloc, schema, gathered, &around, members)
+            let read = read_members(alloc, schema, gathered, &around, members);
+            drop(path);
+            read
         }
         _ => note_misfit(alloc, gathered, spot),
     }

@@ -1,2 +1,4 @@
 pub mod Places
 pub mod Saying
+pub mod Parting
+pub mod Leading

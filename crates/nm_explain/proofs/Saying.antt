@@ -3,11 +3,11 @@ use Rattle.std.proofs.Common.{◌≡◌, ◌⊎◌, inl, inr, ℕ, ◌<◌, ◌�
 use Rattle.std.proofs.lemmas.List.{length-replicate}
 use Rattle.std.specs.Io.KnownBytes.{IsAtEnd}
 use Rattle.nm_io.specs.Bytes.{ReadsUpTo}
-use Rattle.nm_scenario_parts.specs.declared.fault.Fault.{Fault}
+use Rattle.nm_scenario_form.specs.declared.fault.Fault.{Fault}
 use Rattle.nm_scenario.specs.declared.scenario.Scenario.{Scenario}
 use Rattle.nm_base.specs.declared.fault.NoMemory.{NoMemory}
-use Rattle.nm_scenario_parts.specs.declared.fault.ReadError.{ReadError}
-use Rattle.nm_scenario_parts.specs.declared.fault.ReadError.TheVariants.{Bad}
+use Rattle.nm_scenario_form.specs.declared.fault.ReadError.{ReadError}
+use Rattle.nm_scenario_form.specs.declared.fault.ReadError.TheVariants.{Bad}
 use Rattle.nm_scenario.specs.Scenario.{Reads, ReadsBytes, byte_limit}
 use Rattle.nm_scenario.proofs.Whole.{bytes_exact, long_reads}
 use Rattle.nm_explain.specs.declared.program.Status.{Status}

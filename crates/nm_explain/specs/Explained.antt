@@ -2,13 +2,13 @@
 use Rattle.std.specs.Prelude.{◌≡◌, ℕ, List, [], ◌++◌, Bool, Option, Some, None, option_and_then, Result, Ok, Err, codes}
 use Rattle.serde_json.specs.Data.{Data}
 use Rattle.serde_json.specs.Find.{as_str}
-use Rattle.nm_scenario_parts.specs.declared.fault.Step.{Step}
-use Rattle.nm_scenario_parts.specs.declared.fault.Inner.{Inner}
-use Rattle.nm_scenario_parts.specs.declared.fault.InnerPlace.{InnerPlace}
-use Rattle.nm_scenario_parts.specs.declared.fault.InnerPlace.TheVariants.{Byte, Path}
-use Rattle.nm_scenario_parts.specs.declared.fault.Fault.{Fault}
-use Rattle.nm_scenario_parts.specs.Reading.{plain}
-use Rattle.nm_scenario_parts.specs.Line.{line_of}
+use Rattle.nm_scenario_form.specs.declared.fault.Step.{Step}
+use Rattle.nm_scenario_form.specs.declared.fault.Inner.{Inner}
+use Rattle.nm_scenario_form.specs.declared.fault.InnerPlace.{InnerPlace}
+use Rattle.nm_scenario_form.specs.declared.fault.InnerPlace.TheVariants.{Byte, Path}
+use Rattle.nm_scenario_form.specs.declared.fault.Fault.{Fault}
+use Rattle.nm_scenario_form.specs.Reading.{plain}
+use Rattle.nm_scenario_form.specs.Line.{line_of}
 use Rattle.nm_proto.specs.declared.kind.ScenarioKind.TheVariants.{TooLong}
 use Rattle.nm_scenario_form.specs.Places.{walked}
 use Rattle.nm_scenario.specs.declared.scenario.Scenario.{Scenario}
@@ -31,10 +31,12 @@ pub record Told : Type 0 where
 abbrev pub text_at : List ℕ → List Step → Option (List ℕ)
 text_at bytes place = option_and_then as_str (option_and_then (walked place) (json_of bytes))
 
+-- what is told at a byte of a module's text, where the text is there
 abbrev pub byte_told : Option (List ℕ) → ℕ → Inner → List ℕ
 byte_told None byte inner = []
 byte_told (Some text) byte inner = module_text text byte inner
 
+-- one line: what is wrong at a path
 abbrev pub at_told : List ℕ → List ℕ → List ℕ
 at_told path word = codes "at " ++ path ++ codes ": " ++ of_data word ++ codes "\n"
 
@@ -61,19 +63,24 @@ inner_told bytes place inner (Path path) = path_told bytes path inner.what
 abbrev pub wanted_told : Fault → List ℕ
 wanted_told fault = of_kind fault.cause.kind ++ codes "\n" ++ at_place fault.place ++ codes "\n"
 
+-- what is told beside the line of a fault: what its lower reader told, or what was wanted
 abbrev pub detail_told : List ℕ → Fault → Option Inner → List ℕ
 detail_told bytes fault None = wanted_told fault
 detail_told bytes fault (Some inner) = inner_told bytes fault.place inner inner.place
 
+-- all that is told of a fault: its line as the program prints it, and then why
 abbrev pub fault_told : List ℕ → Fault → List ℕ
 fault_told bytes fault = line_of fault ++ detail_told bytes fault fault.cause.inner
 
+-- what is told of a scenario without a fault
 abbrev pub fine_told : Told
 fine_told = record { status = Fine; text = codes "nothing is wrong with the scenario\n" }
 
+-- what is told of a scenario with a fault
 abbrev pub faulted : List ℕ → Fault → Told
 faulted bytes fault = record { status = Faulty; text = fault_told bytes fault }
 
+-- what is told of a scenario as it was read
 abbrev pub told_of : List ℕ → Result Scenario Fault → Told
 told_of bytes (Ok s) = fine_told
 told_of bytes (Err fault) = faulted bytes fault
@@ -87,6 +94,7 @@ pub record Tells (told : Told) (status : Status) (text : List ℕ) : Type 0 wher
 abbrev pub too_long : Fault
 too_long = record { cause = plain TooLong; place = [] }
 
+-- what is told of an input that is too long
 abbrev pub too_long_told : Told
 too_long_told = record { status = Faulty; text = line_of too_long ++ wanted_told too_long }
 

@@ -1,3 +1,4 @@
+-- What is told of a fault: lines of a text, sentences for faults, and `Explained` with the whole.
 pub mod Lines
 pub mod Sentence
 pub mod Wanted
@@ -5,3 +6,8 @@ pub mod Module
 pub mod Tree
 pub mod Explained
 pub mod Program
+-- What a schema tree wants at a place, in words.
+pub mod Place
+pub mod Numbers
+pub mod Types
+pub mod Values

@@ -2,6 +2,7 @@
 use Rattle.std.specs.Prelude.{ℕ, ◌+◌, List, [], ◌∷◌, ◌++◌, Bool, ◌||◌, ◌==◌, nat_lt, nat_le, if◌then◌else◌}
 use Rattle.std.specs.List.{before_first}
 
+-- the byte of a line feed
 abbrev pub is_break : ℕ → Bool
 is_break byte = byte == 10
 
@@ -36,6 +37,7 @@ abbrev pub characters_from : ℕ → List ℕ → ℕ
 characters_from count [] = count
 characters_from count (b ∷ bytes) = characters_from (if begins_character b then count + 1 else count) bytes
 
+-- how many characters a text has
 abbrev pub characters : List ℕ → ℕ
 characters text = characters_from 0 text
 
@@ -43,6 +45,7 @@ characters text = characters_from 0 text
 abbrev pub blank_of : ℕ → List ℕ
 blank_of byte = if byte == 9 then 9 ∷ [] else (if begins_character byte then 32 ∷ [] else [])
 
+-- blanks as wide as a text, so that a mark below it stands in the right column
 abbrev pub blanks : List ℕ → List ℕ
 blanks [] = []
 blanks (b ∷ bytes) = blank_of b ++ blanks bytes

@@ -3,7 +3,7 @@ use Rattle.std.specs.Prelude.{ℕ, ◌+◌, List, [], ◌++◌, take, drop, Opti
 use Rattle.nm_yang.specs.Tree.{Tree, statement}
 use Rattle.nm_yang.specs.Module.{reading}
 use Rattle.nm_yang.specs.declared.fault.Fault.{Fault as TextFault}
-use Rattle.nm_scenario_parts.specs.declared.fault.Inner.{Inner}
+use Rattle.nm_scenario_form.specs.declared.fault.Inner.{Inner}
 use Rattle.nm_explain.specs.Lines.{line_after, last_line, rest_of_line, characters, blanks}
 use Rattle.nm_explain.specs.Sentence.{of_module}
 
@@ -12,10 +12,12 @@ abbrev pub name_in : Result Tree TextFault → Option (List ℕ)
 name_in (Err fault) = None
 name_in (Ok (statement keyword argument place below)) = argument
 
+-- a module by its name, where that is known
 abbrev pub named : Option (List ℕ) → List ℕ
 named None = codes "module"
 named (Some name) = codes "module" ++ codes " " ++ name
 
+-- a word behind a colon, where there is one
 abbrev pub about_text : Option (List ℕ) → List ℕ
 about_text None = []
 about_text (Some word) = codes ": " ++ word

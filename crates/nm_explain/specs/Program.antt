@@ -7,6 +7,7 @@ use Rattle.nm_explain.specs.declared.program.Status.{Status}
 use Rattle.nm_explain.specs.declared.program.Status.TheVariants.{Fine, Usage, Scenario, ReadFault, WriteFault, NoMemory}
 use Rattle.nm_explain.specs.Explained.{Told, Tells, Explains}
 
+-- the exit status of an outcome; 0 only where nothing is wrong
 abbrev pub status_code : Status → ℕ
 status_code Fine = 0
 status_code Usage = 2
@@ -24,6 +25,7 @@ is_whole ReadFault = false
 is_whole WriteFault = false
 is_whole NoMemory = false
 
+-- the words as texts
 abbrev pub texts_of : List (String Global) → List (List ℕ)
 texts_of words = map string_bytes words
 
@@ -32,6 +34,7 @@ abbrev pub takes : List (List ℕ) → Bool
 takes [] = true
 takes (word ∷ words) = false
 
+-- what is told where words were given
 abbrev pub usage_told : Told
 usage_told = record { status = Usage; text = codes "usage: netm_explain < scenario\n" }
 

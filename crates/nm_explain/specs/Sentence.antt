@@ -22,6 +22,7 @@ of_whole_text word =
     if bytes_eq word (codes "too-long") then codes "the text has more than 262,144 bytes" else (
     if bytes_eq word (codes "too-deep") then codes "more than 64 braces are open" else of_statement word))))
 
+-- a fault of a module's text, in a sentence
 unfoldable pub of_module : List ℕ → List ℕ
 of_module word =
     if bytes_eq word (codes "unclosed-quote") then codes "a quote that is never closed" else (

@@ -3,9 +3,10 @@ use Rattle.std.specs.Prelude.{ℕ, List, [], ◌∷◌, Option, Some, None, code
 use Rattle.std.specs.Str.{bytes_eq}
 use Rattle.nm_proto.specs.declared.kind.ScenarioKind.{ScenarioKind}
 use Rattle.nm_proto.specs.declared.kind.ScenarioKind.TheVariants.{TooLong, NotJson, NotBuilt, Missing, Unknown, BadValue, TooMany, Yang, Schema, Content, Invalid}
-use Rattle.nm_scenario_parts.specs.declared.fault.Step.{Step}
-use Rattle.nm_scenario_parts.specs.declared.fault.Step.TheVariants.{Name, Item}
+use Rattle.nm_scenario_form.specs.declared.fault.Step.{Step}
+use Rattle.nm_scenario_form.specs.declared.fault.Step.TheVariants.{Name, Item}
 
+-- what a kind of fault means, in a sentence
 abbrev pub of_kind : ScenarioKind → List ℕ
 of_kind TooLong = codes "the input has more than 16,777,216 bytes"
 of_kind NotJson = codes "the input is not one JSON value"
@@ -19,6 +20,7 @@ of_kind Schema = codes "the module says what isn't taken"
 of_kind Content = codes "the configuration or the edit can't be read"
 of_kind Invalid = codes "the configuration isn't valid, or holds marks"
 
+-- where to look for what no line here tells
 abbrev pub elsewhere : List ℕ
 elsewhere = codes "docs/FORMATS.md has what may stand here"
 
@@ -31,6 +33,7 @@ of_outer_member name =
     if bytes_eq name (codes "drain") then codes "wanted: true or false" else (
     if bytes_eq name (codes "trace") then codes "wanted: true or false" else elsewhere))))
 
+-- what is wanted of members of change sets, of edits and of operators
 unfoldable pub of_inner_member : List ℕ → List ℕ
 of_inner_member name =
     if bytes_eq name (codes "edits") then codes "wanted: a list of one edit or more, by ascending devices" else (
@@ -40,6 +43,7 @@ of_inner_member name =
     if bytes_eq name (codes "operators") then codes "wanted: a list of at most 16 operators" else (
     if bytes_eq name (codes "user") then codes "wanted: a name of 1 to 64 bytes other than \"netm\"" else of_outer_member name)))))
 
+-- what is wanted of a member of this name
 unfoldable pub of_member : List ℕ → List ℕ
 of_member name =
     if bytes_eq name (codes "netm") then codes "wanted: the number 1" else (
@@ -56,6 +60,7 @@ innermost found [] = found
 innermost found (Name name ∷ place) = innermost (Some name) place
 innermost found (Item n ∷ place) = innermost found place
 
+-- what is wanted of a member, where the fault is in one
 abbrev pub of_name : Option (List ℕ) → List ℕ
 of_name None = elsewhere
 of_name (Some name) = of_member name

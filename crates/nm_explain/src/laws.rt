@@ -7,5 +7,6 @@ use crate::program::Status;
 
 /// Bytes have one explanation: no two statuses or texts explain the same bytes.
 pub fn one_explanation()
-    ensures { (bytes : List ℕ) (status other : Status) (text words : List ℕ) → Explains bytes status text → Explains bytes other words → (other ≡ status) × (words ≡ text) }
+    ensures { (bytes : List ℕ) (status other : Status) (text words : List ℕ) → Explains bytes status text
+        → Explains bytes other words → (other ≡ status) × (words ≡ text) }
 {}

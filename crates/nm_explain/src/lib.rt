@@ -1,19 +1,23 @@
-//! What is wrong with a scenario, told in full: the line of its first fault, and where and why in the module, the configuration or the
-//! edit that has it.
+//! What is wrong with a scenario, told in full: the fault, where it is, what stands there and what a schema tree wants there, in words.
 //!
-//! Stands on `nm_scenario` for what is read of bytes, on `nm_yang` for the name of a module, on `nm_schema` and `nm_wanted` for what
-//! the modules want at a path, and on `nm_io` for sources and sinks.
+//! Stands on `nm_scenario` for the first fault and on `nm_schema_tree` for what nodes want.
 #![tactic(auto)]
 
 pub mod laws;
+mod led;
 mod lines;
 mod module;
 mod name;
+mod numbers;
 mod place;
 pub mod program;
 mod sentence;
 mod telling;
+mod text;
 mod tree;
+mod types;
+pub mod values;
 mod wanted;
 
 pub use program::{Status, explain};
+pub use values::put_wanted;

@@ -7,7 +7,7 @@ use crate::lines::{characters, last_line, line_after, rest_of_line, write_blanks
 use crate::name::module_name;
 use crate::sentence::of_module;
 use nm_base::{Label, NoMemory, write_decimal};
-use nm_scenario_parts::Inner;
+use nm_scenario_form::Inner;
 use std::alloc::Global;
 
 /// Appends a text.

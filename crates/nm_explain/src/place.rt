@@ -4,7 +4,7 @@ ghost use Rattle.std.specs.Prelude.{◌≡◌, option_map};
 ghost use Rattle.serde_json.specs.View.{view};
 ghost use Rattle.nm_scenario_form.specs.Places.{stepped, walked};
 
-use nm_scenario_parts::Step;
+use nm_scenario_form::Step;
 use serde_json::Value;
 
 // What is there one step further in.

@@ -70,17 +70,20 @@ pub fn explain<S: Source, K: Sink>(
     output: &mut K,
 ) -> Status
     // The text for the words and the input was written, and nothing else.
-    ensures answered { IsTrue (spec.is_whole result) → spec.Answers (spec.texts_of words.now) (S.left input.old) (K.taken output.old) (K.taken output.new) result }
+    ensures answered { IsTrue (spec.is_whole result)
+        → spec.Answers (spec.texts_of words.now) (S.left input.old) (K.taken output.old) (K.taken output.new) result }
 
     // The input was read to its end, or past the greatest length of a scenario.
-    ensures read_out { IsTrue (spec.is_whole result) → IsTrue (spec.takes (spec.texts_of words.now)) → ReadsUpTo byte_limit (S.left input.old) (S.left input.new) }
+    ensures read_out { IsTrue (spec.is_whole result) → IsTrue (spec.takes (spec.texts_of words.now))
+        → ReadsUpTo byte_limit (S.left input.old) (S.left input.new) }
 
     // The input failed: nothing was written.
     ensures read_fault { result ≡ Status.ReadFault → Rose (S.faults input.old) (S.faults input.new) × (K.taken output.new ≡ K.taken output.old) }
 
     // The output failed: a front of the text was written.
     ensures write_fault { result ≡ Status.WriteFault
-        → Rose (K.faults output.old) (K.faults output.new) × spec.CutOff (spec.texts_of words.now) (S.left input.old) (K.taken output.old) (K.taken output.new) }
+        → Rose (K.faults output.old) (K.faults output.new)
+        × spec.CutOff (spec.texts_of words.now) (S.left input.old) (K.taken output.old) (K.taken output.new) }
 
     // Memory ran out: nothing was written.
     ensures no_memory { result ≡ Status.NoMemory → K.taken output.new ≡ K.taken output.old }

@@ -15,7 +15,7 @@ use crate::wanted::{at_place, of_kind};
 use nm_base::NoMemory;
 use nm_proto::Listed;
 use nm_scenario::{ReadError, read_scenario};
-use nm_scenario_parts::{Cause, Fault, Inner, InnerPlace, ScenarioKind, write_line};
+use nm_scenario_form::{Cause, Fault, Inner, InnerPlace, ScenarioKind, write_line};
 use serde_json::Value;
 use std::alloc::Global;
 

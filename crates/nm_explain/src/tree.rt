@@ -7,13 +7,13 @@ ghost use Rattle.nm_schema.specs.Built.{built_of};
 ghost use Rattle.nm_scenario.specs.Head.{statements_of};
 ghost use Rattle.nm_explain.specs.Tree as spec;
 
+use crate::put_wanted;
 use nm_base::NoMemory;
 use nm_proto::Listed;
 use nm_scenario::ReadError;
 use nm_scenario::head::{Head, ModuleParts, ReadModule, parts_of, read_head};
 use nm_schema::{SchemaFault, build};
-use nm_tree::Schema;
-use nm_wanted::put_wanted;
+use nm_schema_tree::Schema;
 use serde_json::Value;
 use std::alloc::Global;
 

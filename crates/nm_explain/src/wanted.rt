@@ -3,7 +3,7 @@
 ghost use Rattle.std.specs.Prelude.{◌≡◌, None, option_copied};
 ghost use Rattle.nm_explain.specs.Wanted as spec;
 
-use nm_scenario_parts::{ScenarioKind, Step};
+use nm_scenario_form::{ScenarioKind, Step};
 
 /// What a kind of fault means.
 pub(crate) fn of_kind(kind: ScenarioKind) -> &'static str

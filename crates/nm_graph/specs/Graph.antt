@@ -3,6 +3,7 @@ use Rattle.std.specs.Prelude.{◌≡◌, ℕ, zero, suc, ◌<◌, List, [], ◌�
 use Rattle.std.specs.declared.vec.Vec.{Vec}
 use Rattle.std.specs.declared.alloc.Global.{Global}
 
+-- a graph: row i has the nodes that node i leads to
 abbrev pub Graph : Type 0
 Graph = List (Vec ℕ Global)
 

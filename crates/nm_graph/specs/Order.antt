@@ -5,7 +5,8 @@ use Rattle.nm_graph.specs.Graph.{Graph, successors_of, Leads}
 -- an order grows node by node: a node comes once, and after all that it leads to (this project's own)
 pub data IsOrder (graph : Graph) : List ℕ → Type 0 where
   none : IsOrder graph []
-  after : (nodes : List ℕ) (node : ℕ) → IsOrder graph nodes → All (Contains nodes) (successors_of graph node) → ¬ (Contains nodes node) → IsOrder graph (nodes ++ node ∷ [])
+  after : (nodes : List ℕ) (node : ℕ) → IsOrder graph nodes → All (Contains nodes) (successors_of graph node)
+      → ¬ (Contains nodes node) → IsOrder graph (nodes ++ node ∷ [])
 
 -- no node below a number leads to itself
 abbrev pub NoneBelow : Graph → ℕ → Type 0

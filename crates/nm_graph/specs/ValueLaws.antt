@@ -4,6 +4,7 @@ use Rattle.std.specs.Option.{option_map, option_and_then}
 use Rattle.std.proofs.Common.{arith, refl, ap, sym, ◌∙◌}
 use Rattle.nm_graph.specs.Value.{Step, IsStrict, all_there, strict}
 
+-- where one value is missing, not all are there
 pub one_missing : {Y : Type 0} (values : List (Option Y)) → Contains values None → all_there values ≡ None
 one_missing [] c = absurd (omega (arith, c.1))
 one_missing (None ∷ values) c = refl

@@ -1,3 +1,5 @@
+//! What is reached from some nodes, by a search without recursion.
+
 ghost use Rattle.std.specs.Prelude.{◌≡◌, ℕ, ◌<◌, ◌↔◌, [], ◌∷◌, IfOk, OnOk, All, length, slice_index_or, true, false, vec_len};
 ghost use Rattle.nm_graph.specs.Graph.{IsGraph, ReachedFrom};
 ghost use Rattle.nm_graph.specs.Search.{IsSearch, Finds};

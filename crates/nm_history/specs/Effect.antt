@@ -17,14 +17,17 @@ pub data Effect : Type 0 where
   Undoes : (by : Undoing) → Effect
   Neither : Effect
 
+-- the entry was answered Done: nothing else is an answer that a commit took effect
 abbrev pub is_done_reply : Option Reply → Bool
 is_done_reply None = false
 is_done_reply (Some reply) = is_done reply
 
+-- an effect where there was one
 abbrev pub effect_if : Bool → Effect → Effect
 effect_if true effect = effect
 effect_if false effect = Neither
 
+-- of a commit: one to be confirmed begins, or goes on with what is pending; another ends it (RFC 6241 section 8.4)
 abbrev pub effect_of_commit : Bool → Option (List ℕ) → Effect
 effect_of_commit true persist = Begins persist
 effect_of_commit false persist = Ends
@@ -47,6 +50,7 @@ effect_of Discard done undone = Neither
 effect_of (HasMark change) done undone = Neither
 effect_of GetConfig done undone = Neither
 
+-- of what happens at a device: who ended a session, a timer or a restart undoes what is pending
 abbrev pub effect_of_event : DeviceEvent → Bool → Bool → Effect
 effect_of_event (Asked session request) done undone = effect_of request done undone
 effect_of_event (Entered user) done undone = Neither
@@ -54,5 +58,6 @@ effect_of_event (Lost session) done undone = effect_if undone (Undoes End)
 effect_of_event (Advanced seconds) done undone = effect_if undone (Undoes Timer)
 effect_of_event Restarted done undone = effect_if undone (Undoes Restart)
 
+-- what an entry of a history did to the pending commit, read from the entry alone
 abbrev pub noted_effect : Noted → Effect
 noted_effect entry = effect_of_event entry.event (is_done_reply entry.reply) entry.undone

@@ -38,6 +38,7 @@ module _ {Config Node : Type 0} where
   abbrev pub answered : DeviceState Config Node → Request → Stepped Config Node → Happened Config Node
   answered s request stepped = record { reply = Some stepped.reply; undone = undid request s stepped.after; after = stepped.after }
 
+  -- what happens where it can
   abbrev pub happened_if : Bool → Happened Config Node → Option (Happened Config Node)
   happened_if can happened = if can then Some happened else None
 
@@ -89,7 +90,8 @@ module _ {Config TheEdit Node : Type 0} (m : Meaning Config TheEdit Node) (table
   -- what an event does, None where it can't happen: a request or a loss wants an open session
   abbrev pub device_event : DeviceState Config Node → DeviceEvent → Option (Happened Config Node)
   device_event s (Entered user) = Some (entering s user)
-  device_event s (Asked session request) = happened_if (is_open s.sessions session && not (is_opening request)) (answered s request (device_step m tables s session request))
+  device_event s (Asked session request) =
+      happened_if (is_open s.sessions session && not (is_opening request)) (answered s request (device_step m tables s session request))
   device_event s (Lost session) = loss_of m s session
   device_event s (Advanced seconds) = Some (advancing m s seconds)
   device_event s Restarted = Some (restarting m s)
@@ -98,6 +100,7 @@ module _ {Config TheEdit Node : Type 0} (m : Meaning Config TheEdit Node) (table
   abbrev pub recorded_after : RecordedState Config Node → DeviceEvent → RecordedState Config Node
   recorded_after r event = recorded_if r event (device_event r.device event)
 
+  -- events one after another
   abbrev pub recorded_run : RecordedState Config Node → List DeviceEvent → RecordedState Config Node
   recorded_run r [] = r
   recorded_run r (event ∷ events) = recorded_run (recorded_after r event) events
@@ -137,10 +140,12 @@ event_by session request (Some user) = Some (Entered user)
 event_by None request None = None
 event_by (Some session) request None = Some (Asked session request)
 
+-- a request as what happens at the device: one that opens a session needs none, any other needs its own
 abbrev pub event_of : Option ℕ → Request → Option DeviceEvent
 event_of session request = event_by session request (opening_user request)
 
 module _ {Config Node : Type 0} where
+  -- what is told of an event that was answered
   abbrev pub replied_with : RecordedState Config Node → DeviceEvent → Happened Config Node → Option Reply → Option (Served Config Node)
   replied_with r event h None = None
   replied_with r event h (Some reply) = Some (record { reply = reply; undone = h.undone; after = recorded_with r event h })
@@ -150,6 +155,7 @@ module _ {Config Node : Type 0} where
   served_as r event None = None
   served_as r event (Some h) = replied_with r event h h.reply
 
+  -- what is told of an event that nobody asked for
   abbrev pub parted_as : RecordedState Config Node → DeviceEvent → Option (Happened Config Node) → Option (Parted Config Node)
   parted_as r event None = None
   parted_as r event (Some h) = Some (record { undone = h.undone; after = recorded_with r event h })
@@ -160,6 +166,7 @@ module _ {Config TheEdit Node : Type 0} (m : Meaning Config TheEdit Node) where
   lost r session = parted_as r (Lost session) (loss_of m r.device session)
 
 module _ {Config TheEdit Node : Type 0} (m : Meaning Config TheEdit Node) (tables : TablesState TheEdit) where
+  -- what an event does, where there is one
   abbrev pub served_event : RecordedState Config Node → Option DeviceEvent → Option (Served Config Node)
   served_event r None = None
   served_event r (Some event) = served_as r event (device_event m tables r.device event)

@@ -22,6 +22,7 @@ asker_by session false done = None
 asker_by session true false = None
 asker_by session true true = Some session
 
+-- who asked for what happened, where that is for a session to answer for: the end of a commit that was asked for and done
 abbrev pub asker_of : DeviceEvent → Bool → Option ℕ
 asker_of (Asked session request) done = asker_by session (asks_for_end request) done
 asker_of (Entered user) done = None
@@ -29,6 +30,7 @@ asker_of (Lost session) done = None
 asker_of (Advanced seconds) done = None
 asker_of Restarted done = None
 
+-- the same of an entry
 abbrev pub asker : Noted → Option ℕ
 asker entry = asker_of entry.event (is_done_reply entry.reply)
 

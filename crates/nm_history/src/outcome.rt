@@ -112,7 +112,8 @@ impl Standing {
         confirmed: bool,
         persist: &Option<Label>,
     ) -> Standing
-        ensures outcome { result.outcome ≡ (standing_after token.now self.outcome self.other (effect_if done (effect_of_commit confirmed persist.now))).outcome }
+        ensures outcome { result.outcome
+            ≡ (standing_after token.now self.outcome self.other (effect_if done (effect_of_commit confirmed persist.now))).outcome }
         ensures other { result.other ≡ (standing_after token.now self.outcome self.other (effect_if done (effect_of_commit confirmed persist.now))).other }
     {
         if !done {

@@ -127,7 +127,8 @@ impl<C: Content> Recorded<C> {
     pub fn advance(&mut self, content: &C, seconds: u32) -> Result<bool, NoMemory>
         requires sound { IsSound (C.meaning content.now) self.old.device }
         requires in_time { IsInTime self.old.device.clock }
-        ensures advanced { IfOk result (λ undone. Changes undone self.old self.new (DeviceEvent.Advanced seconds) (advancing (C.meaning content.now) self.old.device seconds)) }
+        ensures advanced { IfOk result (λ undone. Changes undone self.old self.new (DeviceEvent.Advanced seconds)
+            (advancing (C.meaning content.now) self.old.device seconds)) }
         ensures unchanged { OnErr result (self.new ≡ self.old) }
         ensures sound { IsSound (C.meaning content.now) self.new.device }
     {
@@ -144,7 +145,8 @@ impl<C: Content> Recorded<C> {
     /// Restarts the device, notes that, and tells whether it undid a pending commit.
     pub fn restart(&mut self, content: &C) -> Result<bool, NoMemory>
         requires sound { IsSound (C.meaning content.now) self.old.device }
-        ensures restarted { IfOk result (λ undone. Changes undone self.old self.new DeviceEvent.Restarted (restarting (C.meaning content.now) self.old.device)) }
+        ensures restarted { IfOk result (λ undone. Changes undone self.old self.new DeviceEvent.Restarted
+            (restarting (C.meaning content.now) self.old.device)) }
         ensures unchanged { OnErr result (self.new ≡ self.old) }
         ensures clock { self.new.device.clock ≡ self.old.device.clock }
         ensures sound { IsSound (C.meaning content.now) self.new.device }
@@ -169,7 +171,8 @@ impl<C: Content> Recorded<C> {
 
     // A user asks for a session.
     fn enter(&mut self, user: Label) -> Result<Told, NoMemory>
-        ensures served { IfOk result (λ told. Serves (Some told) self.old self.new (served_as self.old (DeviceEvent.Entered user) (Some (entering self.old.device user)))) }
+        ensures served { IfOk result
+            (λ told. Serves (Some told) self.old self.new (served_as self.old (DeviceEvent.Entered user) (Some (entering self.old.device user)))) }
         ensures unchanged { OnErr result (self.new ≡ self.old) }
         ensures clock { self.new.device.clock ≡ self.old.device.clock }
         ensures only_sessions { self.new.device ≡ record self.old.device { sessions = self.new.device.sessions } }
@@ -210,7 +213,9 @@ impl<C: Content> Recorded<C> {
         requires in_time { IsInTime self.old.device.clock }
         requires edits_belong { All (C.meaning content.now).edit_belongs tables.now.edits }
         requires asks { is_opening request.now ≡ false }
-        ensures served { IfOk result (λ told. Serves told self.old self.new (served_event (C.meaning content.now) tables.now self.old (Some (DeviceEvent.Asked session request.now)))) }
+        ensures served { IfOk result
+            (λ told. Serves told self.old self.new (served_event (C.meaning content.now) tables.now self.old
+            (Some (DeviceEvent.Asked session request.now)))) }
         ensures unchanged { OnErr result (self.new ≡ self.old) }
         ensures clock { self.new.device.clock ≡ self.old.device.clock }
         ensures sound { IsSound (C.meaning content.now) self.new.device }
@@ -237,7 +242,9 @@ impl<C: Content> Recorded<C> {
         requires edits_belong { All (C.meaning content.now).edit_belongs tables.now.edits }
         requires open { is_open self.old.device.sessions session ≡ true }
         requires asks { is_opening request.now ≡ false }
-        ensures served { IfOk result (λ told. Serves (Some told) self.old self.new (served_as self.old (DeviceEvent.Asked session request.now) (Some (answered self.old.device request.now (device_step (C.meaning content.now) tables.now self.old.device session request.now))))) }
+        ensures served { IfOk result
+            (λ told. Serves (Some told) self.old self.new (served_as self.old (DeviceEvent.Asked session request.now)
+            (Some (answered self.old.device request.now (device_step (C.meaning content.now) tables.now self.old.device session request.now))))) }
         ensures unchanged { OnErr result (self.new ≡ self.old) }
         ensures clock { self.new.device.clock ≡ self.old.device.clock }
         ensures sound { IsSound (C.meaning content.now) self.new.device }

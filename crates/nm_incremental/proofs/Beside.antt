@@ -5,13 +5,13 @@ use Rattle.std.specs.List.{list_any}
 use Rattle.std.specs.declared.alloc.Global.{Global}
 use Rattle.nm_types.specs.declared.value.Value.{Value}
 use Rattle.nm_types.specs.Path.{PathStep}
-use Rattle.nm_tree.specs.Nodes.{SchemaTree}
-use Rattle.nm_rules.specs.declared.rule.Rule.{Rule}
-use Rattle.nm_rules.specs.Cases.{numbers, is_in_case}
-use Rattle.nm_validate.specs.Members.{AreOthers}
-use Rattle.nm_validate.proofs.Below.{any_kept}
-use Rattle.nm_reads.specs.Reads.{tells, other_reads, beside_reads, reads}
-use Rattle.nm_reads.specs.Candidates.{candidates}
+use Rattle.nm_schema_tree.specs.Nodes.{SchemaTree}
+use Rattle.nm_validate_rules.specs.declared.rule.Rule.{Rule}
+use Rattle.nm_validate_rules.specs.Cases.{numbers, is_in_case}
+use Rattle.nm_validate_places.specs.Members.{AreOthers}
+use Rattle.nm_validate_places.proofs.Below.{any_kept}
+use Rattle.nm_validate_rules.specs.Reads.{tells, other_reads, beside_reads, reads}
+use Rattle.nm_validate_rules.specs.Candidates.{candidates}
 use Rattle.nm_incremental.specs.Read.{present, read_at, read_of}
 
 pub beside_of : (t : SchemaTree) (above : List PathStep) (x : ℕ) (row : List PathStep) (case : Option ℕ) (others : Vec ℕ Global) → AreOthers t x case (Some others)

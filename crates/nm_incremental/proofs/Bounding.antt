@@ -5,18 +5,18 @@ use Rattle.std.specs.Ordering.{is_lt}
 use Rattle.std.specs.FinMap.{keys}
 use Rattle.nm_types.specs.Path.{PathStep, path_cmp}
 use Rattle.nm_types.specs.PathLaws.{paths_total}
-use Rattle.nm_tree.specs.Nodes.{SchemaTree}
+use Rattle.nm_schema_tree.specs.Nodes.{SchemaTree}
 use Rattle.nm_config.specs.Rows.{Rows}
-use Rattle.nm_rules.specs.declared.rule.Rule.{Rule}
-use Rattle.nm_rules.specs.Rule.{all_rules, rule_number}
-use Rattle.nm_rules.specs.Violation.{Violation}
-use Rattle.nm_rules.proofs.Among.{Among, filter_passes, contains_among, among_contains}
-use Rattle.nm_rules.proofs.Placed.{key_there}
-use Rattle.nm_validate.proofs.Counting.{AllAfter, InOrder, in_order}
-use Rattle.nm_validate.proofs.Gathered.{Gathered, flat_among, either}
-use Rattle.nm_reads.specs.Reads.{reads}
-use Rattle.nm_reads.specs.Candidates.{candidates, has_candidates}
-use Rattle.nm_reads.specs.Reaches.{Reaches}
+use Rattle.nm_validate_rules.specs.declared.rule.Rule.{Rule}
+use Rattle.nm_validate_rules.specs.Rule.{all_rules, rule_number}
+use Rattle.nm_validate_rules.specs.Violation.{Violation}
+use Rattle.nm_validate_rules.proofs.Among.{Among, filter_passes, contains_among, among_contains}
+use Rattle.nm_validate_rules.proofs.Placed.{key_there}
+use Rattle.nm_validate_places.proofs.Counting.{AllAfter, InOrder, in_order}
+use Rattle.nm_validate_places.proofs.Gathered.{Gathered, flat_among, either}
+use Rattle.nm_validate_rules.specs.Reads.{reads}
+use Rattle.nm_validate_rules.specs.Candidates.{candidates, has_candidates}
+use Rattle.nm_validate_rules.specs.Reaches.{Reaches}
 use Rattle.nm_incremental.specs.Bound.{AreApart, IsBounded}
 use Rattle.nm_incremental.specs.Differing.{differing}
 use Rattle.nm_incremental.specs.Read.{read_at, read_of, read_set, judged_by, all_judged}

@@ -4,20 +4,20 @@ use Rattle.std.proofs.lemmas.Bool.Decides.{nat_tests}
 use Rattle.std.specs.Prelude.{nat_lt}
 use Rattle.std.specs.List.{find, range_with_len}
 use Rattle.nm_types.specs.Path.{PathStep}
-use Rattle.nm_tree.specs.Nodes.{SchemaTree, case_at, choice_at}
+use Rattle.nm_schema_tree.specs.Nodes.{SchemaTree, case_at, choice_at}
 use Rattle.nm_path.specs.Spelling.{node_of}
 use Rattle.nm_path.specs.Sound.{IsSound}
 use Rattle.nm_config.specs.Under.{is_under}
-use Rattle.nm_rules.specs.declared.rule.Rule.{Rule}
-use Rattle.nm_rules.specs.declared.rule.Rule.TheVariants.{ValueType, Key, Mandatory, Leafref, Unique, MinElements, MaxElements, MandatoryChoice, OneCase}
-use Rattle.nm_rules.specs.Cases.{is_choice, outwards, cases_over, case_of_choice}
-use Rattle.nm_rules.specs.Guards.{front}
-use Rattle.nm_rules.specs.Violated.{child_by, case_of_node, child_over}
-use Rattle.nm_rules.proofs.Among.{any_passes, both, among_numbers}
-use Rattle.nm_rules.proofs.Placed.{any_at}
-use Rattle.nm_reads.specs.Reads.{child_reads, reads}
-use Rattle.nm_reads.specs.Candidates.{has_candidates}
-use Rattle.nm_reads.proofs.Concerned.{read_concerns}
+use Rattle.nm_validate_rules.specs.declared.rule.Rule.{Rule}
+use Rattle.nm_validate_rules.specs.declared.rule.Rule.TheVariants.{ValueType, Key, Mandatory, Leafref, Unique, MinElements, MaxElements, MandatoryChoice, OneCase}
+use Rattle.nm_validate_rules.specs.Cases.{is_choice, outwards, cases_over, case_of_choice}
+use Rattle.nm_validate_rules.specs.Guards.{front}
+use Rattle.nm_validate_rules.specs.Violated.{child_by, case_of_node, child_over}
+use Rattle.nm_validate_rules.proofs.Among.{any_passes, both, among_numbers}
+use Rattle.nm_validate_rules.proofs.Placed.{any_at}
+use Rattle.nm_validate_rules.specs.Reads.{child_reads, reads}
+use Rattle.nm_validate_rules.specs.Candidates.{has_candidates}
+use Rattle.nm_validate_rules.proofs.Concerned.{read_concerns}
 use Rattle.nm_incremental.specs.Whole.{is_cased, passes_case, is_concerned}
 
 never : (b : Bool) → b ≡ false → b ≡ true → ⊥

@@ -4,10 +4,10 @@ use Rattle.std.proofs.lemmas.Grind.{common_steps}
 use Rattle.std.proofs.Common.{arith}
 use Rattle.std.specs.List.{list_any}
 use Rattle.nm_base.specs.Numbers.{is_among}
-use Rattle.nm_tree.specs.Nodes.{SchemaTree, parent_of}
-use Rattle.nm_tree.specs.Levels.{IsTree}
-use Rattle.nm_rules.specs.Places.{chain}
-use Rattle.nm_validate.proofs.InUse.{chain_more}
+use Rattle.nm_schema_tree.specs.Nodes.{SchemaTree, parent_of}
+use Rattle.nm_schema_tree.specs.Levels.{IsTree}
+use Rattle.nm_validate_rules.specs.Places.{chain}
+use Rattle.nm_validate_places.proofs.InUse.{chain_more}
 
 or_or : (a b c : Bool) → (a || (b || c)) ≡ ((a || b) || c)
 or_or true b c = refl

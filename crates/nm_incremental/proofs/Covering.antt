@@ -6,17 +6,17 @@ use Rattle.nm_types.specs.declared.value.Value.{Value}
 use Rattle.nm_types.specs.Path.{PathStep}
 use Rattle.nm_types.specs.Value.{is_same_value}
 use Rattle.nm_types.specs.ValueLaws.{same_value_decides, values_equiv}
-use Rattle.nm_tree.specs.Nodes.{SchemaTree}
+use Rattle.nm_schema_tree.specs.Nodes.{SchemaTree}
 use Rattle.nm_config.specs.Rows.{Rows}
 use Rattle.nm_config.specs.Under.{is_under}
-use Rattle.nm_rules.specs.declared.rule.Rule.{Rule}
-use Rattle.nm_rules.proofs.Among.{Among, among_filter, filter_passes, among_flat, among_left, among_right, contains_among, among_contains}
-use Rattle.nm_rules.proofs.Areas.{key_among}
-use Rattle.nm_rules.proofs.Placed.{key_there}
-use Rattle.nm_validate.proofs.Gathered.{filter_among, flat_among, either}
-use Rattle.nm_reads.specs.Reads.{reads}
-use Rattle.nm_reads.specs.Reaches.{Covers, DifferAmong, Reaches}
-use Rattle.nm_reads.proofs.Lists.{contrary, or_left, or_right}
+use Rattle.nm_validate_rules.specs.declared.rule.Rule.{Rule}
+use Rattle.nm_validate_rules.proofs.Among.{Among, among_filter, filter_passes, among_flat, among_left, among_right, contains_among, among_contains}
+use Rattle.nm_validate_rules.proofs.Areas.{key_among}
+use Rattle.nm_validate_rules.proofs.Placed.{key_there}
+use Rattle.nm_validate_places.proofs.Gathered.{filter_among, flat_among, either}
+use Rattle.nm_validate_rules.specs.Reads.{reads}
+use Rattle.nm_validate_rules.specs.Reaches.{Covers, DifferAmong, Reaches}
+use Rattle.nm_validate_rules.proofs.Lists.{contrary, or_left, or_right}
 use Rattle.nm_incremental.specs.Differing.{rows_at, is_same_row, differs, differing_at, differing}
 
 same_by : (o p : Option Value) → is_same_row o p ≡ true → o ≡ p

@@ -1,16 +1,16 @@
 -- What is read of guards, from the last step of a path.
 use Rattle.std.proofs.Common.{◌≡◌, ℕ, List, [], ◌∷◌, ◌++◌, Bool, true, false, ◌&&◌, ◌||◌, Option, Some, None, if◌then◌else◌, refl, sym, ap, ◌∙◌, append-nil, append_assoc}
 use Rattle.nm_types.specs.Path.{PathStep}
-use Rattle.nm_tree.specs.Nodes.{SchemaTree, case_at}
+use Rattle.nm_schema_tree.specs.Nodes.{SchemaTree, case_at}
 use Rattle.nm_path.specs.Spelling.{node_of}
 use Rattle.nm_config.specs.Under.{is_whole, is_end}
-use Rattle.nm_rules.specs.Standing.{is_own_at}
-use Rattle.nm_rules.specs.Guards.{front}
-use Rattle.nm_rules.specs.Values.{is_same_path}
-use Rattle.nm_rules.specs.Violated.{last_chosen}
-use Rattle.nm_rules.proofs.Areas.{ends}
-use Rattle.nm_reads.specs.Reads.{allowed_reads, open_reads, guard_reads, holds_reads_from, holds_reads, stands_reads_from, stands_reads}
-use Rattle.nm_reads.proofs.Entries.{front_last, chosen_last}
+use Rattle.nm_validate_rules.specs.Standing.{is_own_at}
+use Rattle.nm_validate_rules.specs.Guards.{front}
+use Rattle.nm_validate_rules.specs.Values.{is_same_path}
+use Rattle.nm_validate_rules.specs.Violated.{last_chosen}
+use Rattle.nm_validate_rules.proofs.Areas.{ends}
+use Rattle.nm_validate_rules.specs.Reads.{allowed_reads, open_reads, guard_reads, holds_reads_from, holds_reads, stands_reads_from, stands_reads}
+use Rattle.nm_validate_rules.proofs.Entries.{front_last, chosen_last}
 use Rattle.nm_incremental.specs.Guarded.{open_at, open_by}
 
 module _ (t : SchemaTree) (row : List PathStep) where

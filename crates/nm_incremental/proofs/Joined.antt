@@ -4,27 +4,27 @@ use Rattle.std.specs.Prelude.{filter}
 use Rattle.std.specs.List.{list_any, find}
 use Rattle.std.specs.FinMap.{contains_key, keys}
 use Rattle.nm_types.specs.Path.{PathStep}
-use Rattle.nm_tree.specs.Nodes.{SchemaTree}
+use Rattle.nm_schema_tree.specs.Nodes.{SchemaTree}
 use Rattle.nm_path.specs.Sound.{IsSound}
 use Rattle.nm_config.specs.Rows.{Rows}
-use Rattle.nm_rules.specs.declared.rule.Rule.{Rule}
-use Rattle.nm_rules.specs.Standing.{StandsIn}
-use Rattle.nm_rules.specs.Violated.{violated}
-use Rattle.nm_rules.specs.Rule.{all_rules}
-use Rattle.nm_rules.specs.Violation.{IsValid, looked_at, least_of, least_at, told, first_told, violation}
-use Rattle.nm_rules.proofs.Among.{any_passes, among_filter, filter_passes, among_flat, contains_among}
-use Rattle.nm_rules.proofs.Areas.{key_among}
-use Rattle.nm_rules.proofs.Looked.{looked}
-use Rattle.nm_rules.proofs.Placed.{any_at}
-use Rattle.nm_validate.proofs.Firsts.{least_key}
-use Rattle.nm_validate.proofs.Gathered.{same_least}
-use Rattle.nm_validate.proofs.Leasts.{filter_none}
-use Rattle.nm_reads.specs.Reads.{reads}
-use Rattle.nm_reads.specs.Candidates.{candidates, has_candidates}
-use Rattle.nm_reads.specs.Reaches.{DifferAmong}
-use Rattle.nm_reads.proofs.Lists.{contrary, not_true}
-use Rattle.nm_reads.proofs.Joined.{changed_is_read}
-use Rattle.nm_reads.proofs.Placed.{read_at_candidates}
+use Rattle.nm_validate_rules.specs.declared.rule.Rule.{Rule}
+use Rattle.nm_validate_rules.specs.Standing.{StandsIn}
+use Rattle.nm_validate_rules.specs.Violated.{violated}
+use Rattle.nm_validate_rules.specs.Rule.{all_rules}
+use Rattle.nm_validate_rules.specs.Violation.{IsValid, looked_at, least_of, least_at, told, first_told, violation}
+use Rattle.nm_validate_rules.proofs.Among.{any_passes, among_filter, filter_passes, among_flat, contains_among}
+use Rattle.nm_validate_rules.proofs.Areas.{key_among}
+use Rattle.nm_validate_rules.proofs.Looked.{looked}
+use Rattle.nm_validate_rules.proofs.Placed.{any_at}
+use Rattle.nm_validate_places.proofs.Firsts.{least_key}
+use Rattle.nm_validate_places.proofs.Gathered.{same_least}
+use Rattle.nm_validate_places.proofs.Leasts.{filter_none}
+use Rattle.nm_validate_rules.specs.Reads.{reads}
+use Rattle.nm_validate_rules.specs.Candidates.{candidates, has_candidates}
+use Rattle.nm_validate_rules.specs.Reaches.{DifferAmong}
+use Rattle.nm_validate_rules.proofs.Lists.{contrary, not_true}
+use Rattle.nm_validate_rules.proofs.Joined.{changed_is_read}
+use Rattle.nm_validate_rules.proofs.PlacedReads.{read_at_candidates}
 use Rattle.nm_incremental.specs.Read.{read_at, read_of, read_set, least_found, first_found}
 use Rattle.nm_incremental.specs.Whole.{is_concerned, least_if}
 use Rattle.nm_incremental.proofs.Sets.{set_there}

@@ -9,3 +9,4 @@ pub mod Joined
 pub mod Bounding
 pub mod Walks
 pub mod Beside
+pub mod Loops

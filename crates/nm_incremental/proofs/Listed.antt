@@ -2,7 +2,7 @@
 use Rattle.std.proofs.Common.{◌≡◌, ℕ, ◌+◌, ◌-◌, ◌<◌, List, [], ◌∷◌, ◌++◌, map, Bool, true, false, cond, refl, sym, ap, ◌∙◌, append_assoc, append-nil, if◌then◌else◌}
 use Rattle.std.specs.Prelude.{filter}
 use Rattle.std.specs.List.{flat_map, range_with_len}
-use Rattle.nm_validate.proofs.Leasts.{range_step}
+use Rattle.nm_validate_places.proofs.Leasts.{range_step}
 
 -- one more is put behind what was put for the others
 pub put_one : {Y : Type 0} (f : ℕ → Y) (i n : ℕ) (before after all : List Y) → i < n → after ≡ before ++ f i ∷ [] → before ++ map f (range_with_len i (n - i)) ≡ all → after ++ map f (range_with_len (i + 1) (n - (i + 1))) ≡ all

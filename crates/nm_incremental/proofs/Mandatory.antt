@@ -2,10 +2,10 @@
 use Rattle.std.proofs.Common.{◌≡◌, ℕ, List, [], ◌∷◌, ◌++◌, map, Option, Some, None, if◌then◌else◌, length, slice_get, refl, ap}
 use Rattle.std.specs.List.{flat_map, range_with_len}
 use Rattle.nm_types.specs.Path.{PathStep}
-use Rattle.nm_tree.specs.declared.choice.ChoiceNode.{ChoiceNode}
-use Rattle.nm_tree.specs.Nodes.{SchemaTree}
-use Rattle.nm_rules.specs.Places.{choice_step}
-use Rattle.nm_reads.specs.Candidates.{fronts_of, areas_below_fronts, choices_below_fronts, is_mandatory_choice}
+use Rattle.nm_schema_tree.specs.declared.choice.ChoiceNode.{ChoiceNode}
+use Rattle.nm_schema_tree.specs.Nodes.{SchemaTree}
+use Rattle.nm_validate_rules.specs.Places.{choice_step}
+use Rattle.nm_validate_rules.specs.Candidates.{fronts_of, areas_below_fronts, choices_below_fronts, is_mandatory_choice}
 use Rattle.nm_incremental.specs.Candidates.{areas_of, mandatory_at, choices_of}
 use Rattle.nm_incremental.proofs.Listed.{flat_kept}
 

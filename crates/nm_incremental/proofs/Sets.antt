@@ -7,9 +7,9 @@ use Rattle.nm_types.specs.declared.value.Value.TheVariants.{Present}
 use Rattle.nm_types.specs.Path.{PathStep, path_cmp}
 use Rattle.nm_types.specs.PathLaws.{paths_total, paths_equiv, same_path_decides}
 use Rattle.nm_config.specs.Rows.{Rows, with_entries}
-use Rattle.nm_rules.specs.Values.{is_same_path}
-use Rattle.nm_rules.proofs.Among.{Among, any_passes}
-use Rattle.nm_rules.proofs.Placed.{any_at}
+use Rattle.nm_validate_rules.specs.Values.{is_same_path}
+use Rattle.nm_validate_rules.proofs.Among.{Among, any_passes}
+use Rattle.nm_validate_rules.proofs.Placed.{any_at}
 use Rattle.nm_incremental.specs.Read.{present}
 
 some_or : (b : Bool) (o : Option Value) → is_some (cond b (Some Present) o) ≡ (b || is_some o)

@@ -12,8 +12,8 @@ use Rattle.nm_config.specs.Rows.{Rows, next_path}
 use Rattle.nm_config.specs.Under.{is_under}
 use Rattle.nm_config.proofs.Contiguous.{under-later, under-between}
 use Rattle.nm_config.proofs.Meaning.{under-means}
-use Rattle.nm_validate.specs.Counts.{behind}
-use Rattle.nm_validate.proofs.Counting.{AllAfter, InOrder, IsBehind, in_order, from_first, from_next}
+use Rattle.nm_validate_places.specs.Counts.{behind}
+use Rattle.nm_validate_places.proofs.Counting.{AllAfter, InOrder, IsBehind, in_order, from_first, from_next}
 use Rattle.nm_incremental.specs.Differing.{rows_at}
 
 kept : (p k : List PathStep) (ks : List (List PathStep)) (b : Bool) → is_under p k ≡ b → filter (is_under p) (k ∷ ks) ≡ cond b (k ∷ filter (is_under p) ks) (filter (is_under p) ks)

@@ -1,10 +1,10 @@
 -- How many steps a check takes (this project's own).
 use Rattle.std.specs.Prelude.{◌≤◌, ◌+◌, ℕ, List, [], ◌∷◌, length, Contains}
 use Rattle.nm_types.specs.Path.{PathStep}
-use Rattle.nm_tree.specs.Nodes.{SchemaTree}
+use Rattle.nm_schema_tree.specs.Nodes.{SchemaTree}
 use Rattle.nm_config.specs.Rows.{Rows}
-use Rattle.nm_rules.specs.Violation.{Violation}
-use Rattle.nm_reads.specs.Reaches.{Reaches}
+use Rattle.nm_validate_rules.specs.Violation.{Violation}
+use Rattle.nm_validate_rules.specs.Reaches.{Reaches}
 
 -- none of some constraints comes twice; a constraint is a rule at one place
 abbrev pub AreApart : List Violation → Type 0

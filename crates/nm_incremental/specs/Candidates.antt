@@ -2,13 +2,13 @@
 use Rattle.std.specs.Prelude.{ℕ, List, [], ◌∷◌, ◌++◌, length, map, Bool, false, Option, Some, None, is_some, filter, slice_get, if◌then◌else◌}
 use Rattle.std.specs.List.{flat_map, range_with_len}
 use Rattle.nm_types.specs.Path.{PathStep}
-use Rattle.nm_tree.specs.declared.choice.ChoiceNode.{ChoiceNode}
-use Rattle.nm_tree.specs.Nodes.{SchemaTree, is_mandatory_at, elements_at}
-use Rattle.nm_rules.specs.declared.rule.Rule.{Rule}
-use Rattle.nm_rules.specs.declared.rule.Rule.TheVariants.{Mandatory, MinElements, MaxElements}
-use Rattle.nm_rules.specs.Places.{choice_step}
-use Rattle.nm_rules.specs.Values.{path_in}
-use Rattle.nm_reads.specs.Candidates.{is_above, choices_below_fronts, is_mandatory_choice}
+use Rattle.nm_schema_tree.specs.declared.choice.ChoiceNode.{ChoiceNode}
+use Rattle.nm_schema_tree.specs.Nodes.{SchemaTree, is_mandatory_at, elements_at}
+use Rattle.nm_validate_rules.specs.declared.rule.Rule.{Rule}
+use Rattle.nm_validate_rules.specs.declared.rule.Rule.TheVariants.{Mandatory, MinElements, MaxElements}
+use Rattle.nm_validate_rules.specs.Places.{choice_step}
+use Rattle.nm_validate_rules.specs.Values.{path_in}
+use Rattle.nm_validate_rules.specs.Candidates.{is_above, choices_below_fronts, is_mandatory_choice}
 
 -- a rule on single nodes is said of node x
 abbrev pub has_rule : SchemaTree → Rule → ℕ → Bool
@@ -30,4 +30,5 @@ mandatory_at t fronts (Some k) = if k.mandatory then map (λ above. above ++ cho
 -- the candidates of the rule of mandatory choices
 abbrev pub choices_of : SchemaTree → List PathStep → List (List PathStep)
 choices_of t row =
-    flat_map (λ k. choices_below_fronts t row (slice_get t.choices k)) (filter (λ k. is_mandatory_choice (slice_get t.choices k)) (range_with_len 0 (length t.choices)))
+    flat_map (λ k. choices_below_fronts t row (slice_get t.choices k))
+    (filter (λ k. is_mandatory_choice (slice_get t.choices k)) (range_with_len 0 (length t.choices)))

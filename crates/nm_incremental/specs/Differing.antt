@@ -12,6 +12,7 @@ use Rattle.nm_config.specs.Under.{is_under}
 abbrev pub rows_at : Rows → List PathStep → List (List PathStep)
 rows_at rows path = filter (is_under path) (keys rows)
 
+-- a row is the same in two configurations: it has one value in both, or is in neither
 abbrev pub is_same_row : Option Value → Option Value → Bool
 is_same_row None None = true
 is_same_row (Some one) (Some other) = is_same_value one other
@@ -25,5 +26,6 @@ differs base next path = not (is_same_row (get base path) (get next path))
 abbrev pub differing_at : Rows → Rows → List PathStep → List (List PathStep)
 differing_at base next path = filter (differs base next) (rows_at base path) ++ filter (λ row. not (contains_key base row)) (rows_at next path)
 
+-- the rows at or below some paths that two configurations don't have alike
 abbrev pub differing : Rows → Rows → List (List PathStep) → List (List PathStep)
 differing base next touched = flat_map (differing_at base next) touched

@@ -1,12 +1,13 @@
 -- What is read of the last step of a path.
 use Rattle.std.specs.Prelude.{List, Bool, false, ◌&&◌, ◌||◌, ℕ, Option, Some, None}
 use Rattle.nm_types.specs.Path.{PathStep}
-use Rattle.nm_tree.specs.Nodes.{SchemaTree, case_at}
+use Rattle.nm_schema_tree.specs.Nodes.{SchemaTree, case_at}
 use Rattle.nm_path.specs.Spelling.{node_of}
 use Rattle.nm_config.specs.Under.{is_whole}
-use Rattle.nm_rules.specs.Violated.{last_chosen}
-use Rattle.nm_reads.specs.Reads.{allowed_reads}
+use Rattle.nm_validate_rules.specs.Violated.{last_chosen}
+use Rattle.nm_validate_rules.specs.Reads.{allowed_reads}
 
+-- the last step of a path is read: it chooses no entry, and a row is read for what is above it, or for its case
 abbrev pub open_at : SchemaTree → Bool → List PathStep → List PathStep → Option ℕ → List PathStep → Bool
 open_at t so_far above path None row = false
 open_at t so_far above path (Some x) row = is_whole (last_chosen path) && (so_far || allowed_reads t above (case_at t.nodes x) row)

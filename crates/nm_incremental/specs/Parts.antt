@@ -2,13 +2,13 @@
 use Rattle.std.specs.Prelude.{ℕ, List, Bool, ◌&&◌, ◌||◌, length, slice_get}
 use Rattle.std.specs.List.{list_any, range_with_len}
 use Rattle.nm_types.specs.Path.{PathStep}
-use Rattle.nm_tree.specs.declared.choice.ChoiceNode.{ChoiceNode}
-use Rattle.nm_tree.specs.Nodes.{SchemaTree}
+use Rattle.nm_schema_tree.specs.declared.choice.ChoiceNode.{ChoiceNode}
+use Rattle.nm_schema_tree.specs.Nodes.{SchemaTree}
 use Rattle.nm_path.specs.Spelling.{node_of}
 use Rattle.nm_config.specs.Under.{is_whole}
-use Rattle.nm_rules.specs.Values.{is_same_path}
-use Rattle.nm_rules.specs.Violated.{last_chosen, is_mandatory_node}
-use Rattle.nm_reads.specs.Reads.{stands_reads, holds_reads, allowed_reads, choice_reads, missing_reads}
+use Rattle.nm_validate_rules.specs.Values.{is_same_path}
+use Rattle.nm_validate_rules.specs.Violated.{last_chosen, is_mandatory_node}
+use Rattle.nm_validate_rules.specs.Reads.{stands_reads, holds_reads, allowed_reads, choice_reads, missing_reads}
 
 -- what the rule of mandatory leafs reads
 abbrev pub mandatory_reads : SchemaTree → List PathStep → List PathStep → Bool

@@ -2,13 +2,13 @@
 use Rattle.std.specs.Prelude.{ℕ, suc, List, take, length, Bool, false, Option, Some, None, is_some, if◌then◌else◌}
 use Rattle.std.specs.List.{list_any, range_with_len}
 use Rattle.nm_types.specs.Path.{PathStep}
-use Rattle.nm_tree.specs.Nodes.{SchemaTree, case_at}
+use Rattle.nm_schema_tree.specs.Nodes.{SchemaTree, case_at}
 use Rattle.nm_path.specs.Spelling.{node_of}
 use Rattle.nm_config.specs.Rows.{Rows}
-use Rattle.nm_rules.specs.declared.rule.Rule.{Rule}
-use Rattle.nm_rules.specs.declared.rule.Rule.TheVariants.{Leafref, Unique, OneCase}
-use Rattle.nm_rules.specs.Violation.{least_at}
-use Rattle.nm_reads.specs.Concerns.{concerns}
+use Rattle.nm_validate_rules.specs.declared.rule.Rule.{Rule}
+use Rattle.nm_validate_rules.specs.declared.rule.Rule.TheVariants.{Leafref, Unique, OneCase}
+use Rattle.nm_validate_rules.specs.Violation.{least_at}
+use Rattle.nm_validate_rules.specs.Concerns.{concerns}
 
 -- a node stands in a case, if there is one
 abbrev pub is_cased : SchemaTree → Option ℕ → Bool

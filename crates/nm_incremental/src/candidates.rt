@@ -2,19 +2,19 @@
 
 ghost use Rattle.std.specs.Prelude.{◌≡◌, ◌∷◌, ◌++◌, [], IfOk, OnOk, filter, map as each, slice_get};
 ghost use Rattle.std.specs.List.{flat_map};
-ghost use Rattle.nm_rules.specs.Cases.{numbers};
-ghost use Rattle.nm_rules.specs.Places as place;
-ghost use Rattle.nm_rules.specs.Values as value;
-ghost use Rattle.nm_reads.specs.Candidates as spec;
+ghost use Rattle.nm_validate_rules.specs.Cases.{numbers};
+ghost use Rattle.nm_validate_rules.specs.Places as place;
+ghost use Rattle.nm_validate_rules.specs.Values as value;
+ghost use Rattle.nm_validate_rules.specs.Candidates as spec;
 ghost use Rattle.nm_incremental.specs.Candidates as own;
 
 use crate::paths::{begin, front_count, is_above};
 use nm_base::NoMemory;
-use nm_rules::Rule;
-use nm_tree::{ChoiceNode, Schema};
+use nm_schema_tree::{ChoiceNode, Schema};
 use nm_types::Path;
-use nm_validate::values::path_in;
-use nm_validate::{choice_count, choice_of, choice_step};
+use nm_validate_places::values::path_in;
+use nm_validate_places::{choice_count, choice_of, choice_step};
+use nm_validate_rules::Rule;
 use std::alloc::Global;
 
 // The paths that a path begins with, from the top to the path itself.
@@ -37,7 +37,8 @@ fn put_below(
     at: usize,
     paths: &mut Vec<Path>,
 ) -> Result<(), NoMemory>
-    ensures { OnOk result (paths.new.items ≡ paths.old.items ++ each (λ above. value.path_in schema.now above at) (filter (spec.is_above schema.now at) fronts.now)) }
+    ensures { OnOk result
+        (paths.new.items ≡ paths.old.items ++ each (λ above. value.path_in schema.now above at) (filter (spec.is_above schema.now at) fronts.now)) }
 {
     for above in fronts {
         if is_above(schema, at, above) {
@@ -75,7 +76,8 @@ fn has_rule(schema: &Schema, rule: Rule, at: usize) -> bool
 
 // The candidates of a rule on single nodes.
 fn of_nodes(alloc: Global, schema: &Schema, rule: Rule, row: &Path) -> Result<Vec<Path>, NoMemory>
-    ensures { IfOk result (λ paths. paths.items ≡ flat_map (spec.below_fronts schema.now row.now) (filter (own.has_rule schema.now rule) (numbers schema.now.nodes))) }
+    ensures { IfOk result
+        (λ paths. paths.items ≡ flat_map (spec.below_fronts schema.now row.now) (filter (own.has_rule schema.now rule) (numbers schema.now.nodes))) }
 {
     let fronts = fronts_of(alloc, row)?;
     let mut paths = Vec::new(alloc);

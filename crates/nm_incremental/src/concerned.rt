@@ -2,22 +2,22 @@
 
 ghost use Rattle.std.specs.Prelude.{◌≡◌, IfOk, Some};
 ghost use Rattle.std.specs.List.{list_any};
-ghost use Rattle.nm_tree.specs.Nodes.{same_parent, reference_at};
-ghost use Rattle.nm_rules.specs.declared.rule.Rule.TheVariants as rule;
-ghost use Rattle.nm_rules.specs.Places.{chain};
-ghost use Rattle.nm_reads.specs.Reads as read;
-ghost use Rattle.nm_reads.specs.Concerns as spec;
-ghost use Rattle.nm_validate.specs.Tables.{AreOfCases};
+ghost use Rattle.nm_schema_tree.specs.Nodes.{same_parent, reference_at};
+ghost use Rattle.nm_validate_rules.specs.declared.rule.Rule.TheVariants as rule;
+ghost use Rattle.nm_validate_rules.specs.Places.{chain};
+ghost use Rattle.nm_validate_rules.specs.Reads as read;
+ghost use Rattle.nm_validate_rules.specs.Concerns as spec;
+ghost use Rattle.nm_validate_places.specs.Tables.{AreOfCases};
 ghost use Rattle.nm_incremental.specs.Hanging as hanging;
 
+use crate::choices::is_area_of;
 use crate::guarded::case_reads;
 use crate::paths::{begin, front_count, leads_to, path_of};
 use nm_base::{NoMemory, Numbers};
 use nm_path::node_of;
-use nm_rule_at::choices::is_area_of;
-use nm_tree::{Reference, Schema};
+use nm_schema_tree::{Reference, Schema};
 use nm_types::Path;
-use nm_validate::front;
+use nm_validate_places::front;
 use std::alloc::Global;
 
 // Whether two nodes stand in one node, or both at the top, by what they stand in.
@@ -128,7 +128,7 @@ fn any_hangs(
 }
 
 // Whether it may hang on a row where the default of a leaf is in use.
-#[tactic(auto, unfolding(nm_reads::specs::Reads::default_reads))]
+#[tactic(auto, unfolding(nm_validate_rules::specs::Reads::default_reads))]
 fn default_reads(
     alloc: Global,
     schema: &Schema,

@@ -3,7 +3,7 @@
 ghost use Rattle.std.specs.Prelude.{◌≡◌, ◌∷◌, ◌++◌, [], IfOk, OnOk, cond, filter, not};
 ghost use Rattle.std.specs.FinMap.{contains_key, keys};
 ghost use Rattle.nm_config.specs.Under as under;
-ghost use Rattle.nm_validate.specs.Counts.{behind};
+ghost use Rattle.nm_validate_places.specs.Counts.{behind};
 ghost use Rattle.nm_incremental.specs.Differing as spec;
 
 use crate::candidates::alone;

@@ -2,12 +2,12 @@
 
 ghost use Rattle.std.specs.Prelude.{◌≡◌, IfOk, length};
 ghost use Rattle.std.specs.List.{list_any};
-ghost use Rattle.nm_tree.specs.Nodes.{case_at};
+ghost use Rattle.nm_schema_tree.specs.Nodes.{case_at};
 ghost use Rattle.nm_path.specs.Spelling as path_spec;
 ghost use Rattle.nm_config.specs.Under as under;
-ghost use Rattle.nm_rules.specs.Standing as standing;
-ghost use Rattle.nm_validate.specs.Tables.{AreOfCases};
-ghost use Rattle.nm_reads.specs.Reads as spec;
+ghost use Rattle.nm_validate_rules.specs.Standing as standing;
+ghost use Rattle.nm_validate_places.specs.Tables.{AreOfCases};
+ghost use Rattle.nm_validate_rules.specs.Reads as spec;
 ghost use Rattle.nm_incremental.specs.Guarded as guard;
 
 use crate::members::nodes_of;
@@ -15,12 +15,12 @@ use crate::paths::path_of;
 use nm_base::NoMemory;
 use nm_config::is_under;
 use nm_path::node_of;
-use nm_tree::Schema;
+use nm_schema_tree::Schema;
 use nm_types::Path;
-use nm_validate::cases::others_of;
-use nm_validate::front;
-use nm_validate::tables::nodes_in;
-use nm_validate::values::{is_whole, step_count};
+use nm_validate_places::cases::others_of;
+use nm_validate_places::front;
+use nm_validate_places::tables::nodes_in;
+use nm_validate_places::values::{is_whole, step_count};
 use std::alloc::Global;
 
 // Whether a row tells that a node exists at a place.

@@ -2,13 +2,13 @@
 
 ghost use Rattle.std.specs.Prelude.{◌≡◌, ◌≤◌, ◌+◌, ℕ, List, length};
 ghost use Rattle.nm_types.specs.Path.{PathStep};
-ghost use Rattle.nm_tree.specs.Nodes.{SchemaTree};
+ghost use Rattle.nm_schema_tree.specs.Nodes.{SchemaTree};
 ghost use Rattle.nm_path.specs.Sound.{IsSound};
 ghost use Rattle.nm_config.specs.Rows.{Rows};
-ghost use Rattle.nm_rules.specs.Rule.{all_rules};
-ghost use Rattle.nm_rules.specs.Standing.{StandsIn};
-ghost use Rattle.nm_rules.specs.Violation.{IsValid, violation};
-ghost use Rattle.nm_reads.specs.Reaches.{DifferAmong, Covers};
+ghost use Rattle.nm_validate_rules.specs.Rule.{all_rules};
+ghost use Rattle.nm_validate_rules.specs.Standing.{StandsIn};
+ghost use Rattle.nm_validate_rules.specs.Violation.{IsValid, violation};
+ghost use Rattle.nm_validate_rules.specs.Reaches.{DifferAmong, Covers};
 ghost use Rattle.nm_incremental.specs.Read.{first_found, all_judged};
 ghost use Rattle.nm_incremental.specs.Differing.{differing};
 ghost use Rattle.nm_incremental.specs.Bound.{IsBounded};

@@ -1,20 +1,28 @@
 //! Whether a configuration is valid, given a valid one and the paths at or below which the two differ.
 //!
-//! Stands on `nm_reads`, whose laws say which rows a rule reads and at which paths, and on `nm_rule_at`, which judges a rule at
-//! one path. The layers above rely on the answer being that of a whole check, and on no more steps being taken than
-//! there are constraints that a touched path reaches.
+//! Stands on `nm_validate_rules`, whose laws say what each rule reads, and on the crates that judge places, leafrefs and unique
+//! statements. The layers above rely on the answer being that of the whole check.
 #![tactic(auto)]
 
 mod candidates;
+pub mod choices;
 mod concerned;
 mod differing;
+pub mod elements;
+pub mod groups;
 mod guarded;
+pub mod judge;
 pub mod laws;
+pub mod leafs;
 mod local;
 mod members;
 mod paths;
 mod reading;
+pub mod rows;
 mod touched;
+pub mod unique;
 mod whole;
 
+pub use groups::{Members, members_of};
+pub use judge::{judged, rule_at};
 pub use touched::check_touched;

@@ -3,20 +3,20 @@
 ghost use Rattle.std.specs.Prelude.{◌≡◌, ◌∷◌, ◌++◌, ◌≤◌, ◌+◌, [], IfOk, OnOk, Some, filter, map as each, length, true};
 ghost use Rattle.std.specs.List.{find};
 ghost use Rattle.std.specs.FinMap.{keys};
-ghost use Rattle.nm_rules.specs.Violated.{violated};
-ghost use Rattle.nm_rule_at.specs.Members.{AreMembers};
-ghost use Rattle.nm_reads.specs.Reads.{reads};
-ghost use Rattle.nm_reads.specs.Candidates.{has_candidates};
+ghost use Rattle.nm_validate_rules.specs.Violated.{violated};
+ghost use Rattle.nm_incremental.specs.Members.{AreMembers};
+ghost use Rattle.nm_validate_rules.specs.Reads.{reads};
+ghost use Rattle.nm_validate_rules.specs.Candidates.{has_candidates};
 ghost use Rattle.nm_incremental.specs.Read as spec;
 
 use crate::candidates::candidates;
 use crate::reading::reads_at;
+use crate::{Members, judged};
 use nm_base::{NoMemory, Steps};
 use nm_config::{Config, RowMap};
-use nm_rule_at::{Members, judged};
-use nm_rules::Rule;
-use nm_tree::Schema;
+use nm_schema_tree::Schema;
 use nm_types::{Path, Value};
+use nm_validate_rules::Rule;
 use std::alloc::Global;
 use std::sync::ledger::Ledger;
 

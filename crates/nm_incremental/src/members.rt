@@ -2,10 +2,10 @@
 
 ghost use Rattle.std.specs.Prelude.{◌≡◌, IfOk, filter};
 ghost use Rattle.nm_base.specs.Numbers.{is_among};
-ghost use Rattle.nm_rules.specs.Cases as spec;
+ghost use Rattle.nm_validate_rules.specs.Cases as spec;
 
 use nm_base::NoMemory;
-use nm_tree::Schema;
+use nm_schema_tree::Schema;
 use std::alloc::Global;
 
 // Whether a case is among this one and those outwards of it, of which at most so many are looked at.
@@ -28,7 +28,7 @@ fn is_outwards(schema: &Schema, case: usize, most: usize, from: Option<usize>) -
 }
 
 // Whether a node stands in a case, in it directly or in a case of a choice that is nested in it.
-#[tactic(auto, unfolding(nm_rules::specs::Cases::cases_over))]
+#[tactic(auto, unfolding(nm_validate_rules::specs::Cases::cases_over))]
 fn is_in_case(schema: &Schema, case: usize, at: usize) -> bool
     ensures { result ≡ spec.is_in_case schema.now case at }
 {

@@ -2,16 +2,16 @@
 
 ghost use Rattle.std.specs.Prelude.{◌≡◌, ◌∷◌, ◌++◌, [], IfOk, length, suc, take};
 ghost use Rattle.nm_base.specs.Numbers.{is_among};
-ghost use Rattle.nm_rules.specs.Cases.{bare};
-ghost use Rattle.nm_rules.specs.Guards.{leads_to};
-ghost use Rattle.nm_rules.specs.Places as place;
-ghost use Rattle.nm_reads.specs.Candidates as spec;
+ghost use Rattle.nm_validate_rules.specs.Cases.{bare};
+ghost use Rattle.nm_validate_rules.specs.Guards.{leads_to};
+ghost use Rattle.nm_validate_rules.specs.Places as place;
+ghost use Rattle.nm_validate_rules.specs.Candidates as spec;
 
 use nm_base::NoMemory;
 use nm_path::node_of;
-use nm_tree::Schema;
+use nm_schema_tree::Schema;
 use nm_types::Path;
-use nm_validate::cases::bare;
+use nm_validate_places::cases::bare;
 use std::alloc::Global;
 
 /// The first steps of a path, so many or all that there are.

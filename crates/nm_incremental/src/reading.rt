@@ -2,25 +2,25 @@
 
 ghost use Rattle.std.specs.Prelude.{◌≡◌, ◌<◌, IfOk, length, slice_get, true};
 ghost use Rattle.nm_path.specs.Spelling as path_spec;
-ghost use Rattle.nm_rules.specs.Guards as guard;
-ghost use Rattle.nm_validate.specs.Tables.{AreOfCases, AreOfChoices};
-ghost use Rattle.nm_rule_at.specs.Members.{AreMembers};
-ghost use Rattle.nm_reads.specs.Reads as spec;
-ghost use Rattle.nm_reads.specs.Candidates.{has_candidates};
+ghost use Rattle.nm_validate_rules.specs.Guards as guard;
+ghost use Rattle.nm_validate_places.specs.Tables.{AreOfCases, AreOfChoices};
+ghost use Rattle.nm_incremental.specs.Members.{AreMembers};
+ghost use Rattle.nm_validate_rules.specs.Reads as spec;
+ghost use Rattle.nm_validate_rules.specs.Candidates.{has_candidates};
 ghost use Rattle.nm_incremental.specs.Parts as parts;
 
+use crate::Members;
+use crate::choices::is_choice_path;
 use crate::guarded::{allowed_reads, any_tells, beside_reads, holds_reads, stands_reads};
 use nm_base::NoMemory;
 use nm_config::is_under;
 use nm_path::node_of;
-use nm_rule_at::Members;
-use nm_rule_at::choices::is_choice_path;
-use nm_rules::Rule;
-use nm_tree::{ChoiceNode, Schema};
+use nm_schema_tree::{ChoiceNode, Schema};
 use nm_types::Path;
-use nm_validate::tables::nodes_in;
-use nm_validate::values::{is_whole, step_count};
-use nm_validate::{choice_count, choice_of, front};
+use nm_validate_places::tables::nodes_in;
+use nm_validate_places::values::{is_whole, step_count};
+use nm_validate_places::{choice_count, choice_of, front};
+use nm_validate_rules::Rule;
 use std::alloc::Global;
 
 // Whether the rule of mandatory leafs reads a row at a path.

@@ -3,27 +3,27 @@
 ghost use Rattle.std.specs.Prelude.{◌≡◌, ◌≤◌, ◌+◌, IfOk, length};
 ghost use Rattle.nm_path.specs.Sound.{IsSound};
 ghost use Rattle.nm_proto.specs.Content.{Checks};
-ghost use Rattle.nm_rules.specs.Rule.{all_rules};
-ghost use Rattle.nm_rules.specs.Standing.{StandsIn};
-ghost use Rattle.nm_rules.specs.Violation.{IsValid, violation};
-ghost use Rattle.nm_reads.specs.Reaches.{Covers};
-ghost use Rattle.nm_rule_at.specs.Members.{AreMembers};
-ghost use Rattle.nm_check.specs.Told.{violation_told};
+ghost use Rattle.nm_validate_rules.specs.Rule.{all_rules};
+ghost use Rattle.nm_validate_rules.specs.Standing.{StandsIn};
+ghost use Rattle.nm_validate_rules.specs.Violation.{IsValid, violation};
+ghost use Rattle.nm_validate_rules.specs.Reaches.{Covers};
+ghost use Rattle.nm_incremental.specs.Members.{AreMembers};
+ghost use Rattle.nm_validate.specs.Told.{violation_told};
 ghost use Rattle.nm_incremental.specs.Bound as spec;
 ghost use Rattle.nm_incremental.specs.Read as read;
 
 use crate::differing::differing;
 use crate::local::least_read;
 use crate::whole::{least_case, least_leafref, least_unique};
+use crate::{Members, members_of};
 use nm_base::{NoMemory, Steps};
-use nm_check::Violation;
 use nm_config::RowMap;
 use nm_path::write_path;
 use nm_proto::CheckFault;
-use nm_rule_at::{Members, members_of};
-use nm_rules::Rule;
-use nm_tree::Schema;
+use nm_schema_tree::Schema;
 use nm_types::Path;
+use nm_validate::Violation;
+use nm_validate_rules::Rule;
 use std::alloc::Global;
 use std::sync::ledger::Ledger;
 

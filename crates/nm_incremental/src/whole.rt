@@ -2,23 +2,23 @@
 
 ghost use Rattle.std.specs.Prelude.{◌≡◌, IfOk};
 ghost use Rattle.std.specs.List.{list_any};
-ghost use Rattle.nm_rules.specs.declared.rule.Rule.TheVariants as rule;
+ghost use Rattle.nm_validate_rules.specs.declared.rule.Rule.TheVariants as rule;
 ghost use Rattle.nm_path.specs.Spelling as path_spec;
-ghost use Rattle.nm_validate.specs.Tables.{AreOfCases};
-ghost use Rattle.nm_reads.specs.Concerns.{concerns};
+ghost use Rattle.nm_validate_places.specs.Tables.{AreOfCases};
+ghost use Rattle.nm_validate_rules.specs.Concerns.{concerns};
 ghost use Rattle.nm_incremental.specs.Whole as spec;
 
 use crate::concerned::{concerns_leafrefs, concerns_uniques};
 use crate::paths::{begin, front_count};
 use nm_base::NoMemory;
-use nm_check::least_other_case;
 use nm_config::RowMap;
 use nm_path::node_of;
-use nm_reached::least_unreached;
-use nm_tree::Schema;
+use nm_schema_tree::Schema;
 use nm_types::Path;
-use nm_unique::least_repeated_entry;
-use nm_validate::areas::group_rows;
+use nm_validate::least_other_case;
+use nm_validate_leafref::least_unreached;
+use nm_validate_places::areas::group_rows;
+use nm_validate_unique::least_repeated_entry;
 use std::alloc::Global;
 
 // Whether one of some rows concerns leafrefs.
@@ -60,7 +60,8 @@ pub fn least_leafref<M: RowMap>(
     differing: &[Path],
 ) -> Result<Option<Path>, NoMemory>
     requires { AreOfCases schema.now cases.now }
-    ensures { IfOk result (λ found. found ≡ spec.least_if (list_any (concerns schema.now rule.Leafref) differing.now) schema.now (M.rows next.now) rule.Leafref) }
+    ensures { IfOk result
+        (λ found. found ≡ spec.least_if (list_any (concerns schema.now rule.Leafref) differing.now) schema.now (M.rows next.now) rule.Leafref) }
 {
     if !any_leafrefs(alloc, schema, cases, differing)? {
         return Ok(None);

@@ -1,3 +1,5 @@
+//! Which calls are to fail, shared by the source and the sink in memory.
+
 ghost use Rattle.std.specs.Prelude.{◌≡◌, ◌↔◌, ◌≤◌, OnOk, OnErr, IsErr};
 ghost use Rattle.nm_io.specs.Memory.{called, faulted, Fails};
 

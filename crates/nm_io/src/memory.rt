@@ -1,3 +1,5 @@
+//! A source and a sink in memory whose calls fail as planned: what tests give in the place of a file.
+
 ghost use Rattle.std.specs.Prelude.{◌≡◌, ◌≤◌, ◌<◌, ◌+◌, ◌-◌, ◌++◌, ◌↔◌, [], length, take, drop, min, Some, IfOk, OnOk, OnErr, IsErr};
 ghost use Rattle.nm_io.specs.Memory.{first_calls, called, faulted, Fails, Refuses};
 

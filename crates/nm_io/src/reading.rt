@@ -1,3 +1,5 @@
+//! A source read to its end, within a limit: apart from `Source`, since it holds for each of them.
+
 ghost use Rattle.std.specs.Prelude.{◌≡◌, ◌≤◌, ◌<◌, List, ℕ, IsErr, length, IfOk, OnOk, IfSome, IsErrOf, vec_capacity, []};
 ghost use Rattle.std.specs.Io.KnownBytes.{IsAtEnd};
 ghost use Rattle.nm_base.specs.Count.{Rose};

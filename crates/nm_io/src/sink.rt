@@ -1,3 +1,5 @@
+//! What a sink of bytes promises, whatever stands behind it.
+
 ghost use Rattle.std.specs.Prelude.{◌≡◌, ◌≤◌, ◌<◌, List, Option, ℕ, length, take, IfOk, OnErr};
 ghost use Rattle.std.specs.Io.KnownBytes.{append_known};
 ghost use Rattle.nm_base.specs.Count.{Rose};

@@ -1,3 +1,5 @@
+//! Readers and writers of `std` as sources and sinks: what a program reads and writes.
+
 ghost use Rattle.std.specs.Prelude.{◌≡◌, ◌≤◌, ◌<◌, length, None, IfOk, is_ok, if◌then◌else◌};
 ghost use Rattle.std.specs.Io.KnownBytes.{ReadConsumes, WriteAppends};
 ghost use Rattle.nm_io.specs.Adapter.{fresh};

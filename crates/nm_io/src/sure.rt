@@ -1,3 +1,5 @@
+//! A source and a sink that never fail, for bytes that are in memory as a whole.
+
 ghost use Rattle.std.specs.Prelude.{◌≡◌, ◌≤◌, ◌<◌, List, ℕ, length, take, drop, min, Some, None, IfOk};
 
 use crate::sink::Sink;

@@ -1,3 +1,5 @@
+//! Bytes written to the last: apart from `Sink`, since it holds for each of them.
+
 ghost use Rattle.std.specs.Prelude.{◌≡◌, ◌≤◌, OnOk, OnErr};
 ghost use Rattle.std.specs.Io.KnownBytes.{append_known};
 ghost use Rattle.nm_base.specs.Count.{Rose};

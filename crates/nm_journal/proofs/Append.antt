@@ -4,7 +4,7 @@ use Rattle.std.proofs.lemmas.List.{take-append-le, drop_at}
 use Rattle.std.specs.Option.{IsSome, IfSome}
 use Rattle.std.specs.Result.{OnOk}
 use Rattle.std.proofs.lemmas.Bool.{false≢true}
-use Rattle.nm_disk.specs.Image.{with_piece, told_with_piece, LeavesOnly, IsTorn}
+use Rattle.nm_disk.specs.Image.{DiskState, with_piece, contents_with_piece, LeavesOnly, IsTorn}
 use Rattle.nm_proto.specs.declared.journal.Entry.{Entry}
 use Rattle.nm_journal.specs.Record.{record_of, entry_of, open_record}
 use Rattle.nm_journal.specs.Entries.{MayFollow}
@@ -22,43 +22,43 @@ within None entries holds = tt
 within (Some bytes) entries holds = omega (arith, (holds bytes refl).there)
 
 -- the first write, torn
-pub first_torn : (may_leave : List ℕ → Type 0) (entries : List Entry) (n : ℕ) → ((image : List ℕ) → may_leave image → EndsAtGate entries image)
-    → (image : List ℕ) → MayTear may_leave (16 * length entries + 1) n image → EndsAtGate entries image
-first_torn may_leave entries n holds image torn = stage_torn entries n torn.0 image (holds torn.0 torn.1) torn.2
+pub first_torn : (disk : DiskState) (entries : List Entry) (n : ℕ) → ((image : List ℕ) → disk.crash_images image → EndsAtGate entries image)
+    → (image : List ℕ) → MayTear disk (16 * length entries + 1) n image → EndsAtGate entries image
+first_torn disk entries n holds image torn = stage_torn entries n torn.0 image (holds torn.0 torn.1) torn.2
 
 -- the record is on the disk behind the closed gate
-pub record Staging (entries : List Entry) (entry : Entry) (told : Option (List ℕ)) (may_leave : List ℕ → Type 0) : Type 0 where
+pub record Staging (entries : List Entry) (entry : Entry) (disk : DiskState) : Type 0 where
   pub bytes : List ℕ
-  pub tells : told ≡ Some bytes
+  pub tells : disk.contents ≡ Some bytes
   pub staged : IsStaged entries entry bytes
-  pub only : LeavesOnly bytes may_leave
+  pub only : LeavesOnly bytes disk
 
-pub first_done : (before told : Option (List ℕ)) (may_leave : List ℕ → Type 0) (entries : List Entry) (entry : Entry) (block : List ℕ) → ((bytes : List ℕ) → before ≡ Some bytes → EndsAtGate entries bytes)
-    → block ≡ record_of entry ++ 0 ∷ [] → told ≡ told_with_piece before (16 * length entries + 1) block → IfSome told (λ bytes. LeavesOnly bytes may_leave) → IsSome before → Staging entries entry told may_leave
-first_done None told may_leave entries entry block holds is_block same only some = absurd (false≢true some)
-first_done (Some old) told may_leave entries entry block holds is_block same only some =
+pub first_done : (before : Option (List ℕ)) (disk : DiskState) (entries : List Entry) (entry : Entry) (block : List ℕ) → ((bytes : List ℕ) → before ≡ Some bytes → EndsAtGate entries bytes)
+    → block ≡ record_of entry ++ 0 ∷ [] → disk.contents ≡ contents_with_piece before (16 * length entries + 1) block → IfSome disk.contents (λ bytes. LeavesOnly bytes disk) → IsSome before → Staging entries entry disk
+first_done None disk entries entry block holds is_block same only some = absurd (false≢true some)
+first_done (Some old) disk entries entry block holds is_block same only some =
     let bytes = with_piece old (16 * length entries + 1) (record_of entry ++ 0 ∷ []) in
-    let tells : told ≡ Some bytes = same ∙ ap (λ b. Some (with_piece old (16 * length entries + 1) b)) is_block in
+    let tells : disk.contents ≡ Some bytes = same ∙ ap (λ b. Some (with_piece old (16 * length entries + 1) b)) is_block in
     record {
       bytes = bytes;
       tells = tells;
       staged = stage_done entries entry old (holds old refl);
-      only = subst (λ o. IfSome o (λ b. LeavesOnly b may_leave)) tells only;
+      only = subst (λ o. IfSome o (λ b. LeavesOnly b disk)) tells only;
     }
 
 -- the second write, torn
-pub second_torn : (entries : List Entry) (entry : Entry) (told : Option (List ℕ)) (may_leave : List ℕ → Type 0) → MayFollow entries entry → entry_of (record_of entry) ≡ Some entry → Staging entries entry told may_leave
-    → (image : List ℕ) → MayTear may_leave (16 * length entries) 1 image → ReadsWithOrWithout entries entry image
-second_torn entries entry told may_leave follows reads staging image torn =
+pub second_torn : (entries : List Entry) (entry : Entry) (disk : DiskState) → MayFollow entries entry → entry_of (record_of entry) ≡ Some entry → Staging entries entry disk
+    → (image : List ℕ) → MayTear disk (16 * length entries) 1 image → ReadsWithOrWithout entries entry image
+second_torn entries entry disk follows reads staging image torn =
     gate_torn entries entry follows reads staging.bytes image staging.staged (subst (λ old. IsTorn (16 * length entries) 1 old image) (staging.only torn.0 torn.1) torn.2)
 
 -- the second write, done
-pub second_done : (entries : List Entry) (entry : Entry) (told now : Option (List ℕ)) (may_leave leaves : List ℕ → Type 0) → MayFollow entries entry → entry_of (record_of entry) ≡ Some entry → Staging entries entry told may_leave
-    → now ≡ told_with_piece told (16 * length entries) (1 ∷ []) → IfSome now (λ bytes. LeavesOnly bytes leaves) → (image : List ℕ) → leaves image → EndsAtGate (entries ++ entry ∷ []) image
-second_done entries entry told now may_leave leaves follows reads staging same only image left =
+pub second_done : (entries : List Entry) (entry : Entry) (disk now : DiskState) → MayFollow entries entry → entry_of (record_of entry) ≡ Some entry → Staging entries entry disk
+    → now.contents ≡ contents_with_piece disk.contents (16 * length entries) (1 ∷ []) → IfSome now.contents (λ bytes. LeavesOnly bytes now) → (image : List ℕ) → now.crash_images image → EndsAtGate (entries ++ entry ∷ []) image
+second_done entries entry disk now follows reads staging same only image left =
     let bytes = with_piece staging.bytes (16 * length entries) (1 ∷ []) in
-    let tells : now ≡ Some bytes = same ∙ ap (λ o. told_with_piece o (16 * length entries) (1 ∷ [])) staging.tells in
-    let is : image ≡ bytes = subst (λ o. IfSome o (λ b. LeavesOnly b leaves)) tells only image left in
+    let tells : now.contents ≡ Some bytes = same ∙ ap (λ o. contents_with_piece o (16 * length entries) (1 ∷ [])) staging.tells in
+    let is : image ≡ bytes = subst (λ o. IfSome o (λ b. LeavesOnly b now)) tells only image left in
     subst (EndsAtGate (entries ++ entry ∷ [])) (sym is) (gate_done entries entry follows reads staging.bytes staging.staged)
 
 -- both writes together: an open gate, the record and a closed gate
@@ -75,14 +75,14 @@ both_pieces d block p le =
     ∙ sym (append_assoc (take p d) (1 ∷ block) rest) ∙ ap (λ n. (take p d ++ 1 ∷ block) ++ drop n d) place
 
 pub written_both : (told mid now : Option (List ℕ)) (entries : List Entry) (entry : Entry) (block : List ℕ) → block ≡ record_of entry ++ 0 ∷ [] → IfSome told (λ bytes. 16 * length entries + 1 ≤ length bytes)
-    → mid ≡ told_with_piece told (16 * length entries + 1) block → now ≡ told_with_piece mid (16 * length entries) (1 ∷ []) → now ≡ told_with_piece told (16 * length entries) (open_record entry)
-written_both None mid now entries entry block is_block fits first second = second ∙ ap (λ o. told_with_piece o (16 * length entries) (1 ∷ [])) first
+    → mid ≡ contents_with_piece told (16 * length entries + 1) block → now ≡ contents_with_piece mid (16 * length entries) (1 ∷ []) → now ≡ contents_with_piece told (16 * length entries) (open_record entry)
+written_both None mid now entries entry block is_block fits first second = second ∙ ap (λ o. contents_with_piece o (16 * length entries) (1 ∷ [])) first
 written_both (Some bytes) mid now entries entry block is_block fits first second =
-    second ∙ ap (λ o. told_with_piece o (16 * length entries) (1 ∷ [])) first
+    second ∙ ap (λ o. contents_with_piece o (16 * length entries) (1 ∷ [])) first
     ∙ ap (λ l. Some l) (both_pieces bytes block (16 * length entries) fits ∙ ap (λ b. with_piece bytes (16 * length entries) (1 ∷ b)) is_block)
 
 -- a record more
-pub has_length_push : (told now : Option (List ℕ)) (entries : List Entry) (entry : Entry) → now ≡ told_with_piece told (16 * length entries) (open_record entry) → HasLength told entries → HasLength now (entries ++ entry ∷ [])
+pub has_length_push : (told now : Option (List ℕ)) (entries : List Entry) (entry : Entry) → now ≡ contents_with_piece told (16 * length entries) (open_record entry) → HasLength told entries → HasLength now (entries ++ entry ∷ [])
 has_length_push None now entries entry same has = subst (λ o. HasLength o (entries ++ entry ∷ [])) (sym same) tt
 has_length_push (Some bytes) now entries entry same has = subst (λ o. HasLength o (entries ++ entry ∷ [])) (sym same) size
   where

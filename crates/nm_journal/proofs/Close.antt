@@ -3,7 +3,7 @@ use Rattle.std.proofs.Common.{◌≡◌, inl, inr, ⊎_elim, ℕ, zero, suc, Opt
 use Rattle.std.proofs.Math.Seq.{get_or-append_seam}
 use Rattle.std.proofs.lemmas.Bool.{cases_eq}
 use Rattle.std.proofs.lemmas.List.{drop_all}
-use Rattle.nm_disk.specs.Image.{with_piece, told_with_piece, IsTorn, IsPerhapsCut, LeavesOnly}
+use Rattle.nm_disk.specs.Image.{DiskState, with_piece, contents_with_piece, IsTorn, IsPerhapsCut, LeavesOnly}
 use Rattle.nm_disk.specs.ImageLaws.{torn_whole}
 use Rattle.nm_proto.specs.declared.journal.Entry.{Entry}
 use Rattle.nm_journal.specs.Fits.{EndsAtGate, ReadsAs, MayTear, closed_behind}
@@ -50,8 +50,8 @@ module _ (entries : List Entry) (bytes : List ℕ) (reads : ReadsAs entries byte
       short_reads image (torn.front ∙ take_less end (end + 1) bytes (omega arith)) (λ some. omega (arith, behind_cut some, torn.no_shorter)) (omega (arith, torn.no_longer, length-take (end + 1) bytes))
 
   -- the write of the closed gate, torn
-  pub gate_image : (may_leave : List ℕ → Type 0) → LeavesOnly cut_off may_leave → (image : List ℕ) → MayTear may_leave end 1 image → ReadsAs entries image
-  gate_image may_leave only image torn = torn_reads image (subst (λ old. IsTorn end 1 old image) (only torn.0 torn.1) torn.2)
+  pub gate_image : (disk : DiskState) → LeavesOnly cut_off disk → (image : List ℕ) → MayTear disk end 1 image → ReadsAs entries image
+  gate_image disk only image torn = torn_reads image (subst (λ old. IsTorn end 1 old image) (only torn.0 torn.1) torn.2)
 
   -- the write of the closed gate, done
   pub gate_closed : EndsAtGate entries (with_piece cut_off end (0 ∷ []))
@@ -74,5 +74,5 @@ module _ (entries : List Entry) (bytes : List ℕ) (reads : ReadsAs entries byte
   pub closed_size : length (closed_behind entries bytes) ≡ end + 1
   closed_size = omega (arith, length-append (take end bytes) (0 ∷ []), length-take end bytes, length-take (end + 1) bytes, end_within)
 
-  pub told_closed : (mid new : Option (List ℕ)) → mid ≡ Some cut_off → new ≡ told_with_piece mid end (0 ∷ []) → new ≡ Some (closed_behind entries bytes)
-  told_closed mid new cut written = written ∙ ap (λ o. told_with_piece o end (0 ∷ [])) cut ∙ ap (λ l. Some l) closed_bytes
+  pub told_closed : (mid new : Option (List ℕ)) → mid ≡ Some cut_off → new ≡ contents_with_piece mid end (0 ∷ []) → new ≡ Some (closed_behind entries bytes)
+  told_closed mid new cut written = written ∙ ap (λ o. contents_with_piece o end (0 ∷ [])) cut ∙ ap (λ l. Some l) closed_bytes

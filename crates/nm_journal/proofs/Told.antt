@@ -2,10 +2,10 @@
 use Rattle.std.proofs.Common.{◌≡◌, ℕ, List, Option, Some, None, refl, sym, subst, ◌∙◌}
 use Rattle.std.specs.Option.{IsSome, IfSome, is_some}
 use Rattle.std.proofs.lemmas.Bool.{false≢true}
-use Rattle.nm_disk.specs.Image.{told_with_piece}
+use Rattle.nm_disk.specs.Image.{contents_with_piece}
 use Rattle.nm_journal.specs.Fits.{OfImage}
 
-pub told_still : (before after : Option (List ℕ)) (at : ℕ) (piece : List ℕ) → after ≡ told_with_piece before at piece → IsSome before → IsSome after
+pub told_still : (before after : Option (List ℕ)) (at : ℕ) (piece : List ℕ) → after ≡ contents_with_piece before at piece → IsSome before → IsSome after
 told_still None after at piece same some = absurd (false≢true some)
 told_still (Some bytes) after at piece same some = subst IsSome (sym same) refl
 

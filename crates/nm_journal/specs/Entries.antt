@@ -79,7 +79,8 @@ has_record (Ended change kept) = is_change change
 abbrev pub comes_next : List Entry → Entry → Bool
 comes_next before (Started change devices timeout) = not (list_any (starts change) before)
 comes_next before (Decided change verdict) = list_any (starts_with change verdict) before && not (list_any (decides change) before)
-comes_next before (Ended change kept) = list_any (starts_over change kept.0) before && list_any (decides change) before && not (list_any (ends change) before) && (kept.0 == 0 || not (list_any (aborts change) before))
+comes_next before (Ended change kept) = list_any (starts_over change kept.0) before && list_any (decides change) before
+    && not (list_any (ends change) before) && (kept.0 == 0 || not (list_any (aborts change) before))
 
 -- an entry has a record and may come next
 abbrev pub may_follow : List Entry → Entry → Bool
@@ -132,7 +133,8 @@ or_damaged before (Some entry) go_on = go_on entry
 -- of an open record that has no entry, or one that may not come next
 abbrev pub entries_from : ℕ → List Entry → List ℕ → Result (List Entry) ℕ
 entries_from zero before bytes = Ok before
-entries_from (suc more) before bytes = if ends_here bytes then Ok before else or_damaged before (next_entry before bytes) (λ entry. entries_from more (before ++ entry ∷ []) (drop 16 bytes))
+entries_from (suc more) before bytes = if ends_here bytes then Ok before else or_damaged before (next_entry before bytes)
+    (λ entry. entries_from more (before ++ entry ∷ []) (drop 16 bytes))
 
 -- the entries that the bytes of a journal stand for, or the offset at which they are damaged
 abbrev pub entries_of : List ℕ → Result (List Entry) ℕ

@@ -1,6 +1,6 @@
 -- What a disk may hold of a journal (this project's own).
 use Rattle.std.specs.Prelude.{◌≡◌, ◌⊎◌, ℕ, ◌*◌, ◌+◌, ◌<◌, List, [], ◌∷◌, ◌++◌, length, take, Option, Some, None, IsSome, IfSome, Ok, Err, slice_index}
-use Rattle.nm_disk.specs.Image.{IsTorn, LeavesOnly}
+use Rattle.nm_disk.specs.Image.{DiskState, IsTorn, LeavesOnly}
 use Rattle.nm_proto.specs.declared.journal.Entry.{Entry}
 use Rattle.nm_journal.specs.Entries.{entries_of}
 
@@ -26,12 +26,12 @@ IsImageOf (Some entry) entries image = ReadsWithOrWithout entries entry image
 
 -- a journal fits each disk that doesn't tell its bytes, and one that tells them where each of its images holds the
 -- journal's entries with a closed gate after them, or those and perhaps the entry at which it stopped
-abbrev pub Fits : {D : Type 0} → (D → Option (List ℕ)) → (D → List ℕ → Type 0) → JournalState → D → Type 0
-Fits told may_leave journal disk = IsSome (told disk) → (image : List ℕ) → may_leave disk image → IsImageOf journal.failed journal.entries image
+abbrev pub Fits : JournalState → DiskState → Type 0
+Fits journal disk = IsSome disk.contents → (image : List ℕ) → disk.crash_images image → IsImageOf journal.failed journal.entries image
 
 -- an image that a write of n bytes may leave of those that a crash might have left before
-abbrev pub MayTear : (List ℕ → Type 0) → ℕ → ℕ → List ℕ → Type 0
-MayTear before at n image = (old : List ℕ) × before old × IsTorn at n old image
+abbrev pub MayTear : DiskState → ℕ → ℕ → List ℕ → Type 0
+MayTear before at n image = (old : List ℕ) × before.crash_images old × IsTorn at n old image
 
 -- bytes that read as these entries
 abbrev pub ReadsAs : List Entry → List ℕ → Type 0
@@ -39,14 +39,14 @@ ReadsAs entries bytes = entries_of bytes ≡ Ok entries
 
 -- what a crash leaves while a journal is reopened over these bytes: an image that was there, or one that reads as they do
 -- where they read as a list
-abbrev pub WasThereOrReadsAs : (List ℕ → Type 0) → List ℕ → List ℕ → Type 0
-WasThereOrReadsAs before bytes image = before image ⊎ ((entries : List Entry) × ReadsAs entries bytes × ReadsAs entries image)
+abbrev pub WasThereOrReadsAs : DiskState → List ℕ → List ℕ → Type 0
+WasThereOrReadsAs before bytes image = before.crash_images image ⊎ ((entries : List Entry) × ReadsAs entries bytes × ReadsAs entries image)
 
 -- what was read of a disk after a sync: so many bytes, which read as these entries, and a crash leaves no others
-pub record IsRead (entries : List Entry) (size : ℕ) (may_leave : List ℕ → Type 0) (bytes : List ℕ) : Type 0 where
+pub record IsRead (entries : List Entry) (size : ℕ) (disk : DiskState) (bytes : List ℕ) : Type 0 where
   pub size_is : size ≡ length bytes
   pub reads : ReadsAs entries bytes
-  pub only : LeavesOnly bytes may_leave
+  pub only : LeavesOnly bytes disk
 
 -- the records of so many entries as they stand in these bytes, and a closed gate behind them
 abbrev pub closed_behind : List Entry → List ℕ → List ℕ
@@ -54,12 +54,12 @@ closed_behind entries bytes = take (16 * length entries) bytes ++ 0 ∷ []
 
 -- where a disk tells its bytes, they are the records of as many entries and a gate behind them
 abbrev pub HasLength : Option (List ℕ) → List Entry → Type 0
-HasLength told entries = IfSome told (λ bytes. length bytes ≡ 16 * length entries + 1)
+HasLength contents entries = IfSome contents (λ bytes. length bytes ≡ 16 * length entries + 1)
 
 -- some bytes of which P holds, those that a disk tells where it tells them
-pub record OfImage (told : Option (List ℕ)) (P : List ℕ → Type 0) : Type 0 where
+pub record OfImage (contents : Option (List ℕ)) (P : List ℕ → Type 0) : Type 0 where
   pub image : List ℕ
-  pub stored : IfSome told (λ bytes. bytes ≡ image)
+  pub stored : IfSome contents (λ bytes. bytes ≡ image)
   pub holds : P image
 
 -- bytes that are damaged at an offset

@@ -46,7 +46,8 @@ fn may_decide(before: &[Entry], change: ChangeNo, verdict: &Verdict) -> bool
 }
 
 fn may_end(before: &[Entry], change: ChangeNo, kept: DeviceMask) -> bool
-    ensures { result ≡ (list_any (starts_over change kept.0) before.now && list_any (decides change) before.now && not (list_any (ends change) before.now) && (kept.0 == 0 || not (list_any (aborts change) before.now))) }
+    ensures { result ≡ (list_any (starts_over change kept.0) before.now && list_any (decides change) before.now
+        && not (list_any (ends change) before.now) && (kept.0 == 0 || not (list_any (aborts change) before.now))) }
 {
     is_started_over(before, change, kept)
         && is_decided(before, change)

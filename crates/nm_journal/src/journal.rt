@@ -1,7 +1,7 @@
 //! The journal's calls: open, append, and what it holds.
 ghost use Rattle.std.specs.Prelude.{◌≡◌, ◌≢◌, ◌⊎◌, ◌↔◌, ◌<◌, ◌≤◌, ◌*◌, ◌++◌, [], ◌∷◌, List, ℕ, Some, None, Ok, Err, length, OnOk, OnErr, IfOk, IfErr, IfSome, IsSome, is_some};
 ghost use Rattle.nm_base.specs.Count.{Rose};
-ghost use Rattle.nm_disk.specs.Image.{told_with_piece, LeavesOnly, AnyMoment};
+ghost use Rattle.nm_disk.specs.Image.{contents_with_piece, LeavesOnly, AnyMoment};
 ghost use Rattle.nm_disk.specs.Keeps.{KeepsDisk};
 ghost use Rattle.nm_journal.specs.Keeps.{KeepsJournal};
 ghost use Rattle.nm_journal.specs.Record.{open_record};
@@ -44,20 +44,23 @@ impl Journal {
     /// It takes the room of all its entries first. On a disk that holds bytes it writes nothing.
     pub fn fresh<D: Disk>(alloc: Global, disk: &mut D) -> Result<Journal, JournalFault>
         ensures value { IfOk result (λ journal. journal ≡ record { entries = []; failed = None }) }
-        ensures fits { IfOk result (λ journal. Fits D.told D.may_leave journal disk.new) }
-        ensures empty { OnOk result (IfSome (D.told disk.old) (λ bytes. bytes ≡ [])) }
-        ensures written { OnOk result (IsSome (D.told disk.old) → D.told disk.new ≡ Some (0 ∷ [])) }
-        ensures length { OnOk result (HasLength (D.told disk.new) []) }
+        ensures fits { IfOk result (λ journal. Fits journal (D.state disk.new)) }
+        ensures empty { OnOk result (IfSome (D.state disk.old).contents (λ bytes. bytes ≡ [])) }
+        ensures written { OnOk result (IsSome (D.state disk.old).contents → (D.state disk.new).contents ≡ Some (0 ∷ [])) }
+        ensures length { OnOk result (HasLength (D.state disk.new).contents []) }
 
-        ensures not_empty { (size : ℕ) → result ≡ Err (NotEmpty size) → (0 < size) × IfSome (D.told disk.old) (λ bytes. size ≡ length bytes) × (D.told disk.new ≡ D.told disk.old) }
-        ensures disk_fault { result ≡ Err DiskFault → Rose (D.faults disk.old) (D.faults disk.new) }
+        ensures not_empty { (size : ℕ) → result ≡ Err (NotEmpty size) → (0 < size) × IfSome (D.state disk.old).contents (λ bytes. size ≡ length bytes)
+            × ((D.state disk.new).contents ≡ (D.state disk.old).contents) }
+        ensures disk_fault { result ≡ Err DiskFault → Rose (D.state disk.old).faults (D.state disk.new).faults }
         ensures no_memory { result ≡ Err NoMemory → disk.new ≡ disk.old }
         ensures no_other { IfErr result (λ fault. ((fault ≡ DiskFault) ⊎ ((size : ℕ) × (fault ≡ NotEmpty size))) ⊎ (fault ≡ NoMemory)) }
 
         // A crash during the call leaves what was there, where there was something, and else an empty list.
-        ensures any_moment_full { IfSome (D.told disk.old) (λ bytes. bytes ≢ [] → AnyMoment D.moment D.might_have_left disk.old disk.new (D.may_leave disk.old)) }
-        ensures any_moment_empty { IsSome (D.told disk.old) → LeavesOnly [] (D.may_leave disk.old) → AnyMoment D.moment D.might_have_left disk.old disk.new (ReadsAs []) }
-        ensures keeps { KeepsDisk D.told D.faults disk.old disk.new }
+        ensures any_moment_full { IfSome (D.state disk.old).contents (λ bytes. bytes ≢ []
+            → AnyMoment (D.state disk.old) (D.state disk.new) (D.state disk.old).crash_images) }
+        ensures any_moment_empty { IsSome (D.state disk.old).contents → LeavesOnly [] (D.state disk.old)
+            → AnyMoment (D.state disk.old) (D.state disk.new) (ReadsAs []) }
+        ensures keeps { KeepsDisk (D.state disk.old) (D.state disk.new) }
     {
         let entries = Vec::with_capacity(alloc, MOST_ENTRIES)?;
         match begin(disk) {
@@ -77,21 +80,23 @@ impl Journal {
         disk: &mut D,
     ) -> Result<(Journal, Vec<Entry>), JournalFault>
         ensures value { IfOk result (λ opened. opened.0 ≡ record { entries = opened.1.items; failed = None }) }
-        ensures entries { IfOk result (λ opened. IfSome (D.told disk.old) (ReadsAs opened.1.items)) }
+        ensures entries { IfOk result (λ opened. IfSome (D.state disk.old).contents (ReadsAs opened.1.items)) }
         ensures in_order { IfOk result (λ opened. IsInOrder opened.1.items) }
-        ensures fits { IfOk result (λ opened. Fits D.told D.may_leave opened.0 disk.new) }
-        ensures written { IfOk result (λ opened. IfSome (D.told disk.old)
-            (λ bytes. D.told disk.new ≡ Some (closed_behind opened.1.items bytes))) }
-        ensures length { IfOk result (λ opened. HasLength (D.told disk.new) opened.1.items) }
+        ensures fits { IfOk result (λ opened. Fits opened.0 (D.state disk.new)) }
+        ensures written { IfOk result (λ opened. IfSome (D.state disk.old).contents
+            (λ bytes. (D.state disk.new).contents ≡ Some (closed_behind opened.1.items bytes))) }
+        ensures length { IfOk result (λ opened. HasLength (D.state disk.new).contents opened.1.items) }
 
-        ensures damaged { (offset : ℕ) → result ≡ Err (Damaged offset) → IfSome (D.told disk.old) (λ bytes. entries_of bytes ≡ Err offset) × (D.told disk.new ≡ D.told disk.old) }
-        ensures disk_fault { result ≡ Err DiskFault → Rose (D.faults disk.old) (D.faults disk.new) }
+        ensures damaged { (offset : ℕ) → result ≡ Err (Damaged offset) → IfSome (D.state disk.old).contents (λ bytes. entries_of bytes ≡ Err offset)
+            × ((D.state disk.new).contents ≡ (D.state disk.old).contents) }
+        ensures disk_fault { result ≡ Err DiskFault → Rose (D.state disk.old).faults (D.state disk.new).faults }
         ensures no_memory { result ≡ Err NoMemory → disk.new ≡ disk.old }
         ensures no_other { IfErr result (λ fault. ((fault ≡ DiskFault) ⊎ ((offset : ℕ) × (fault ≡ Damaged offset))) ⊎ (fault ≡ NoMemory)) }
 
         // A crash during the call leaves an image that was there, or one that reads as the same list.
-        ensures any_moment { IfSome (D.told disk.old) (λ bytes. AnyMoment D.moment D.might_have_left disk.old disk.new (WasThereOrReadsAs (D.may_leave disk.old) bytes)) }
-        ensures keeps { KeepsDisk D.told D.faults disk.old disk.new }
+        ensures any_moment { IfSome (D.state disk.old).contents
+            (λ bytes. AnyMoment (D.state disk.old) (D.state disk.new) (WasThereOrReadsAs (D.state disk.old) bytes)) }
+        ensures keeps { KeepsDisk (D.state disk.old) (D.state disk.new) }
     {
         let mut entries = Vec::with_capacity(alloc, MOST_ENTRIES)?;
         let mut copied = Vec::with_capacity(alloc, MOST_ENTRIES)?;
@@ -120,23 +125,23 @@ impl Journal {
     /// It takes no memory. After a disk fault the journal is stopped until it is opened again.
     pub fn append<D: Disk>(&mut self, disk: &mut D, entry: Entry) -> Result<(), JournalFault>
         requires may { MayAppend self.old.entries entry }
-        requires fits { Fits D.told D.may_leave self.old disk.old }
+        requires fits { Fits self.old (D.state disk.old) }
 
         ensures added { OnOk result (self.new ≡ record self.old { entries = self.old.entries ++ entry ∷ [] }) }
         ensures written { OnOk result
-            (D.told disk.new ≡ told_with_piece (D.told disk.old) (16 * length self.old.entries) (open_record entry)) }
-        ensures length { OnOk result (HasLength (D.told disk.old) self.old.entries → HasLength (D.told disk.new) self.new.entries) }
+            ((D.state disk.new).contents ≡ contents_with_piece (D.state disk.old).contents (16 * length self.old.entries) (open_record entry)) }
+        ensures length { OnOk result (HasLength (D.state disk.old).contents self.old.entries → HasLength (D.state disk.new).contents self.new.entries) }
 
         ensures stopped { (result ≡ Err Stopped) ↔ IsSome self.old.failed }
         ensures untouched { result ≡ Err Stopped → (self.new ≡ self.old) × (disk.new ≡ disk.old) }
         ensures fault { result ≡ Err DiskFault → self.new ≡ record self.old { failed = Some entry } }
-        ensures disk_fault { result ≡ Err DiskFault → Rose (D.faults disk.old) (D.faults disk.new) }
+        ensures disk_fault { result ≡ Err DiskFault → Rose (D.state disk.old).faults (D.state disk.new).faults }
         ensures no_other { IfErr result (λ fault. (fault ≡ Stopped) ⊎ (fault ≡ DiskFault)) }
 
         // A crash at any moment of the call leaves the entries from before it, with the new one or without.
-        ensures any_moment { self.old.failed ≡ None → IsSome (D.told disk.old)
-            → AnyMoment D.moment D.might_have_left disk.old disk.new (ReadsWithOrWithout self.old.entries entry) }
-        ensures keeps { KeepsJournal D.told D.faults D.may_leave self.new disk.old disk.new }
+        ensures any_moment { self.old.failed ≡ None → IsSome (D.state disk.old).contents
+            → AnyMoment (D.state disk.old) (D.state disk.new) (ReadsWithOrWithout self.old.entries entry) }
+        ensures keeps { KeepsJournal self.new (D.state disk.old) (D.state disk.new) }
     {
         if self.failed.is_some() {
             return Err(JournalFault::Stopped);
@@ -174,18 +179,18 @@ impl Journal {
 /// It takes the room of all entries first.
 pub fn read_disk<D: Disk>(alloc: Global, disk: &mut D) -> Result<Vec<Entry>, JournalFault>
     // The bytes that are read are those that the disk tells, where it tells them.
-    ensures entries { IfOk result (λ entries. OfImage (D.told disk.old) (ReadsAs entries.items)) }
+    ensures entries { IfOk result (λ entries. OfImage (D.state disk.old).contents (ReadsAs entries.items)) }
     ensures in_order { IfOk result (λ entries. IsInOrder entries.items) }
 
-    ensures damaged { (offset : ℕ) → result ≡ Err (Damaged offset) → OfImage (D.told disk.old) (IsDamagedAt offset) }
-    ensures disk_fault { result ≡ Err DiskFault → Rose (D.faults disk.old) (D.faults disk.new) }
+    ensures damaged { (offset : ℕ) → result ≡ Err (Damaged offset) → OfImage (D.state disk.old).contents (IsDamagedAt offset) }
+    ensures disk_fault { result ≡ Err DiskFault → Rose (D.state disk.old).faults (D.state disk.new).faults }
     ensures no_memory { result ≡ Err NoMemory → disk.new ≡ disk.old }
     ensures no_other { IfErr result (λ fault. ((fault ≡ DiskFault) ⊎ ((offset : ℕ) × (fault ≡ Damaged offset))) ⊎ (fault ≡ NoMemory)) }
 
     // Nothing is written: the bytes stay, and a crash leaves what it might have left before.
-    ensures same { D.told disk.new ≡ D.told disk.old }
-    ensures any_moment { IsSome (D.told disk.old) → AnyMoment D.moment D.might_have_left disk.old disk.new (D.may_leave disk.old) }
-    ensures count { D.faults disk.old ≤ D.faults disk.new }
+    ensures same { (D.state disk.new).contents ≡ (D.state disk.old).contents }
+    ensures any_moment { IsSome (D.state disk.old).contents → AnyMoment (D.state disk.old) (D.state disk.new) (D.state disk.old).crash_images }
+    ensures count { (D.state disk.old).faults ≤ (D.state disk.new).faults }
 {
     let mut entries = Vec::with_capacity(alloc, MOST_ENTRIES)?;
     let mut bytes = vec![in alloc; 0; MOST_BYTES]?;

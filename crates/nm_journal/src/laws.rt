@@ -14,11 +14,11 @@ use nm_proto::Entry;
 /// A crash between two calls leaves what was there: of a journal that isn't stopped its entries, and of a
 /// stopped one these with the entry at which it stopped, or without.
 pub fn a_crash_between_calls_leaves_the_entries<D: Disk>(journal: &Journal, disk: &D)
-    requires fits { Fits D.told D.may_leave journal.now disk.now }
-    requires told { IsSome (D.told disk.now) }
-    ensures running { journal.now.failed ≡ None → (image : List ℕ) → D.may_leave disk.now image → ReadsAs journal.now.entries image }
+    requires fits { Fits journal.now (D.state disk.now) }
+    requires told { IsSome (D.state disk.now).contents }
+    ensures running { journal.now.failed ≡ None → (image : List ℕ) → (D.state disk.now).crash_images image → ReadsAs journal.now.entries image }
     ensures stopped { (entry : Entry) → journal.now.failed ≡ Some entry
-        → (image : List ℕ) → D.may_leave disk.now image → ReadsWithOrWithout journal.now.entries entry image }
+        → (image : List ℕ) → (D.state disk.now).crash_images image → ReadsWithOrWithout journal.now.entries entry image }
 {}
 
 /// The record that is written of an entry stands for it.

@@ -8,7 +8,7 @@ use Rattle.serde_json.specs.Data.{Data}
 use Rattle.nm_types.specs.Path.{PathStep, path_cmp}
 use Rattle.nm_types.specs.PathLaws.{paths_total, path_cmp-IsAntisymmetric}
 use Rattle.nm_types.specs.declared.value.Value.{Value}
-use Rattle.nm_tree.specs.Nodes.{SchemaTree}
+use Rattle.nm_schema_tree.specs.Nodes.{SchemaTree}
 use Rattle.nm_config.specs.Rows.{Rows}
 use Rattle.nm_json.specs.declared.fault.JsonKind.TheVariants.{Repeated}
 use Rattle.nm_json.specs.declared.fault.JsonFault.TheVariants.{Bad}

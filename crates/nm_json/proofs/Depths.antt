@@ -9,8 +9,8 @@ use Rattle.serde_json.specs.Read.{max_depth}
 use Rattle.nm_types.specs.Path.{PathStep, Choice, whole, keys, entry}
 use Rattle.nm_types.specs.declared.value.Value.{Value}
 use Rattle.nm_types.specs.declared.value.Value.TheVariants.{Int, Decimal, Text, Name, Bits, Empty, Present, Bool as Flag}
-use Rattle.nm_tree.specs.declared.node.Node.{Node}
-use Rattle.nm_tree.specs.Nodes.{SchemaTree, keys_at}
+use Rattle.nm_schema_tree.specs.declared.node.Node.{Node}
+use Rattle.nm_schema_tree.specs.Nodes.{SchemaTree, keys_at}
 use Rattle.nm_path.specs.declared.place.Place.{Place}
 use Rattle.nm_path.specs.declared.place.Place.TheVariants.{Top}
 use Rattle.nm_path.specs.Spelling.{found_of, below, name_at}

@@ -6,8 +6,8 @@ use Rattle.std.specs.FinMap.{slice_cmp-IsAntisymmetric, nat_cmp-IsAntisymmetric}
 use Rattle.nm_types.specs.Path.{PathStep, Choice, whole, keys, entry}
 use Rattle.nm_types.specs.PathLaws.{step_cmp-IsAntisymmetric}
 use Rattle.nm_types.specs.ValueLaws.{then_parts}
-use Rattle.nm_tree.specs.declared.node.Node.{Node}
-use Rattle.nm_tree.specs.Nodes.{SchemaTree}
+use Rattle.nm_schema_tree.specs.declared.node.Node.{Node}
+use Rattle.nm_schema_tree.specs.Nodes.{SchemaTree}
 use Rattle.nm_path.specs.declared.place.Place.TheVariants.{Top}
 use Rattle.nm_path.specs.Form.{step_text, steps_text}
 use Rattle.nm_path.specs.Spelling.{found_of, below}

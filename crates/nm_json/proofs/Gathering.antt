@@ -1,7 +1,7 @@
 -- Findings that are noted one after another.
 use Rattle.std.proofs.Common.{◌≡◌, ℕ, ◌+◌, ◌<◌, ◌≤◌, List, [], ◌∷◌, ◌++◌, length, map, drop, get_or, Bool, true, false, ◌==◌, if◌then◌else◌, slice_get, Option, Some, None, Result, Ok, Err, String, string_bytes, refl, sym, ap, ◌∙◌, arith, drop-cons, append_assoc, suc}
 use Rattle.std.proofs.lemmas.Grind.{fold-append}
-use Rattle.std.proofs.lemmas.List.{drop_all, length-map}
+use Rattle.std.proofs.lemmas.List.{append-nil, drop_all, length-map}
 use Rattle.std.proofs.lemmas.Bool.Decides.{nat_tests}
 use Rattle.std.specs.declared.alloc.Global.{Global}
 use Rattle.serde_json.specs.Data.{Data, Members, object}
@@ -10,7 +10,7 @@ use Rattle.serde_json.specs.declared.value.Value.{Value}
 use Rattle.nm_types.specs.Path.{PathStep, keys}
 use Rattle.nm_types.specs.declared.value.Value.{Value as LeafValue}
 use Rattle.nm_types.specs.declared.value.Value.TheVariants.{Present}
-use Rattle.nm_tree.specs.Nodes.{SchemaTree, is_key}
+use Rattle.nm_schema_tree.specs.Nodes.{SchemaTree, is_key}
 use Rattle.nm_json.specs.declared.fault.Fault.{Fault}
 use Rattle.nm_json.specs.Noted.{Gathered, noted, gathered}
 use Rattle.nm_json.specs.Findings.{Finding, row, Spot, bare, step_below, Wanted, ignored, container, list_item, wanted, wanted_of, presence_found, entry_path, key_read, found, items_found, members_found, named_found, name_found, node_named, is_twice, values_of, faults_of}
@@ -154,6 +154,9 @@ entry_complete t s ks ms g complete =
     sym (gathered-cons (gathered g (faults_of rs)) (row path Present) inner) ∙ sym (gathered-append g (faults_of rs) (row path Present ∷ inner))
     ∙ ap (λ b. gathered g (faults_of rs ++ (if b then row path Present ∷ inner else []))) (sym complete)
 
+other_length : (a b : ℕ) → (a ≡ b → ⊥) → (a == b) ≡ false
+other_length a b e = grind (arith, nat_tests)
+
 same_length : (a b : ℕ) → a ≡ b → (a == b) ≡ true
 same_length a b e = grind (arith, nat_tests)
 
@@ -172,3 +175,15 @@ entry_whole t s ks d ms g one two at path vs is a v o l p w =
     ap (λ u. gathered u (members_found t path (Some s.number) ms ms)) second
     ∙ ap (λ q. gathered (noted (gathered g (faults_of rs)) (row (entry_path s rs) Present)) (members_found t q (Some s.number) ms ms)) there
     ∙ entry_complete t s ks ms g (same_length _ _ count) ∙ ap (λ e. gathered g (found t (list_item s ks) e)) (sym is)
+
+-- an entry that lacks a key has the faults of its keys alone
+pub entry_lacking : (t : SchemaTree) (s : Spot) (ks : List ℕ) (ms : Members) (g one : Gathered) (at : List PathStep) (vs : List LeafValue) → at ≡ bare s
+    → vs ≡ values_of (reads t at ms ks) → one ≡ gathered g (faults_of (reads t at ms ks)) → (length vs ≡ length ks → ⊥)
+    → one ≡ gathered g (found t (list_item s ks) (object ms))
+entry_lacking t s ks ms g one at vs a v o l =
+    let rs = reads t (bare s) ms ks in
+    let rest = row (entry_path s rs) Present ∷ members_found t (entry_path s rs) (Some s.number) ms ms in
+    let values : vs ≡ values_of rs = v ∙ ap (λ q. values_of (reads t q ms ks)) a in
+    let first : one ≡ gathered g (faults_of rs) = o ∙ ap (λ q. gathered g (faults_of (reads t q ms ks))) a in
+    let count : (length (values_of rs) ≡ length rs → ⊥) = λ (e : length (values_of rs) ≡ length rs). l (ap length values ∙ e ∙ length-map ks (key_read t (bare s) ms)) in
+    first ∙ ap (gathered g) (sym (append-nil (faults_of rs))) ∙ ap (λ b. gathered g (faults_of rs ++ (if b then rest else []))) (sym (other_length _ _ count))

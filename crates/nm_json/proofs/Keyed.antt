@@ -14,7 +14,7 @@ use Rattle.nm_types.specs.Spells.{IsOnce}
 use Rattle.nm_types.specs.Path.{PathStep, keys}
 use Rattle.nm_types.specs.declared.value.Value.{Value}
 use Rattle.nm_types.specs.declared.value.Value.TheVariants.{Int, Decimal, Text, Name, Bits, Empty, Present, Bool as Flag}
-use Rattle.nm_tree.specs.Nodes.{SchemaTree, first_named, is_key, type_of, type_at, type_in}
+use Rattle.nm_schema_tree.specs.Nodes.{SchemaTree, first_named, is_key, type_of, type_at, type_in}
 use Rattle.nm_path.specs.Spelling.{is_module, name_at, name_in}
 use Rattle.nm_path.specs.Sound.{IsSound, HasLow as HasSoundLow}
 use Rattle.nm_json.specs.declared.fault.Fault.{Fault}

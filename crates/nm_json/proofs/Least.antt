@@ -1,24 +1,22 @@
 -- The least of faults.
-use Rattle.std.proofs.Common.{◌≡◌, ℕ, ◌≤◌, List, [], ◌∷◌, fold, nat_lt, Bool, true, false, if◌then◌else◌, Option, Some, None, is_some, Result, Ok, Err, Ordering, Less, Equal, Greater, refl, sym, ap, subst, ◌∙◌, arith, ◌↔◌, ◌⊎◌, inl, inr}
+use Rattle.std.proofs.Common.{◌≡◌, ℕ, ◌≤◌, List, [], ◌∷◌, fold, nat_lt, Bool, true, false, if◌then◌else◌, Option, Some, None, Result, Ok, Err, Ordering, Less, Equal, Greater, refl, sym, ap, subst, ◌∙◌, arith, ◌↔◌, ◌⊎◌, inl, inr}
 use Rattle.std.proofs.lemmas.Bool.Decides.{nat_tests}
 use Rattle.std.proofs.lemmas.Cmp.{on_total, then_total, nat_cmp_total, lists_total, tied_itself}
 use Rattle.std.specs.Cmp.{IsTotalOrder}
 use Rattle.std.specs.List.{AllByRecursion}
 use Rattle.std.specs.Ordering.{is_lt, ordering_reverse}
-use Rattle.std.specs.FinMap.{insert, get, empty, len}
+use Rattle.std.specs.FinMap.{empty, len}
 use Rattle.serde_json.specs.Data.{Data}
-use Rattle.nm_types.specs.Path.{PathStep}
 use Rattle.nm_types.specs.PathLaws.{steps_total}
-use Rattle.nm_tree.specs.Nodes.{SchemaTree}
+use Rattle.nm_schema_tree.specs.Nodes.{SchemaTree}
 use Rattle.nm_config.specs.Rows.{Rows}
 use Rattle.nm_json.specs.declared.fault.JsonKind.{JsonKind}
-use Rattle.nm_json.specs.declared.fault.JsonKind.TheVariants.{Repeated}
 use Rattle.nm_json.specs.declared.fault.JsonFault.{JsonFault}
 use Rattle.nm_json.specs.declared.fault.JsonFault.TheVariants.{Bad, TooManyRows}
 use Rattle.nm_json.specs.declared.fault.Fault.{Fault}
 use Rattle.nm_json.specs.Places.{fault_cmp, place_steps, kind_rank, lesser, place_text}
-use Rattle.nm_json.specs.Findings.{Finding, row, bad, fault_at, whole_found}
-use Rattle.nm_json.specs.Whole.{rows_of, if_repeated, faults_found, least_of, answered, config_read, row_limit}
+use Rattle.nm_json.specs.Findings.{whole_found}
+use Rattle.nm_json.specs.Whole.{rows_of, least_of, answered, config_read, row_limit}
 use Rattle.nm_json.specs.Laws.{all_faults, IsAmong, IsUpto, IsLeast, HasLeast, HasRows}
 
 -- ---- the order of faults

@@ -9,12 +9,12 @@ use Rattle.std.proofs.lemmas.Slice.Eq.{bytes_eq-Decides}
 use Rattle.std.specs.List.{list_any, position_from, position_or_len, before_first, after_first, AllByRecursion}
 use Rattle.std.specs.Str.{bytes_eq}
 use Rattle.nm_types.specs.Path.{PathStep, Choice}
-use Rattle.nm_tree.specs.declared.node.Node.{Node}
-use Rattle.nm_tree.specs.declared.node.NodeKind.{NodeKind}
-use Rattle.nm_tree.specs.declared.node.NodeKind.TheVariants.{Container, Leaf, LeafList, List as ListOf}
+use Rattle.nm_schema_tree.specs.declared.node.Node.{Node}
+use Rattle.nm_schema_tree.specs.declared.node.NodeKind.{NodeKind}
+use Rattle.nm_schema_tree.specs.declared.node.NodeKind.TheVariants.{Container, Leaf, LeafList, List as ListOf}
 use Rattle.nm_base.specs.Numbers.{is_among}
-use Rattle.nm_tree.specs.Nodes.{SchemaTree, same_parent, is_named, is_top, first_named, first_top, keys_of, keys_in, keys_at, parent_in, parent_of, is_key}
-use Rattle.nm_tree.proofs.Positions.{first_passes}
+use Rattle.nm_schema_tree.specs.Nodes.{SchemaTree, same_parent, is_named, is_top, first_named, first_top, keys_of, keys_in, keys_at, parent_in, parent_of, is_key}
+use Rattle.nm_schema_tree.proofs.Positions.{first_passes}
 use Rattle.nm_path.specs.declared.place.Place.{Place}
 use Rattle.nm_path.specs.declared.place.Place.TheVariants.{Top, Within, Nowhere}
 use Rattle.nm_path.specs.Form.{is_start, is_name, are_names, is_identifier}

@@ -1,5 +1,5 @@
 -- What noting findings one after another gives, and what is answered of that.
-use Rattle.std.proofs.Common.{◌≡◌, ℕ, ◌+◌, ◌≤◌, List, [], ◌∷◌, ◌++◌, length, suc, fold, Bool, true, false, cond, if◌then◌else◌, Option, Some, None, is_some, refl, sym, ap, ◌∙◌, arith, append_assoc}
+use Rattle.std.proofs.Common.{◌≡◌, ℕ, ◌+◌, ◌≤◌, List, [], ◌∷◌, ◌++◌, length, suc, fold, Bool, true, false, if◌then◌else◌, Option, None, is_some, refl, sym, ap, ◌∙◌, arith, append_assoc}
 use Rattle.std.proofs.lemmas.Grind.{fold-append}
 use Rattle.std.proofs.lemmas.List.{append-nil}
 use Rattle.std.specs.FinMap.{insert, get, empty, len, len-insert, len-empty}
@@ -7,15 +7,15 @@ use Rattle.serde_json.specs.Data.{Data}
 use Rattle.nm_types.specs.Path.{PathStep, path_cmp}
 use Rattle.nm_types.specs.PathLaws.{paths_total}
 use Rattle.nm_types.specs.declared.value.Value.{Value}
-use Rattle.nm_tree.specs.Nodes.{SchemaTree}
+use Rattle.nm_schema_tree.specs.Nodes.{SchemaTree}
 use Rattle.nm_config.specs.Rows.{Rows, with_entries}
 use Rattle.nm_json.specs.declared.fault.JsonKind.TheVariants.{Repeated}
 use Rattle.nm_json.specs.declared.fault.Fault.{Fault}
 use Rattle.nm_json.specs.Places.{lesser}
 use Rattle.nm_json.specs.Findings.{Finding, row, bad, fault_at, whole_found}
 use Rattle.nm_json.specs.Noted.{Gathered, noted, nothing, gathered, with_row, repeated}
-use Rattle.nm_json.specs.Whole.{rows_of, if_repeated, faults_found, least_of, answered, config_read}
-use Rattle.nm_json.proofs.Shuffled.{Shuffled, as_before, behind, further, equals, later, back}
+use Rattle.nm_json.specs.Whole.{rows_of, if_repeated, faults_found, answered, config_read}
+use Rattle.nm_json.proofs.Shuffled.{Shuffled, as_before, behind, further, later, back}
 use Rattle.nm_json.proofs.AnyOrder.{tied_at, same_answer}
 
 abbrev pub Row : Type 0

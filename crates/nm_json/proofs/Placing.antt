@@ -10,10 +10,10 @@ use Rattle.nm_types.specs.Spells.{IsOnce}
 use Rattle.nm_types.specs.Path.{PathStep, Choice, whole, keys, entry}
 use Rattle.nm_types.specs.declared.value.Value.{Value}
 use Rattle.nm_types.specs.declared.value.Value.TheVariants.{Present}
-use Rattle.nm_tree.specs.declared.node.Node.{Node}
-use Rattle.nm_tree.specs.declared.node.NodeKind.{NodeKind}
-use Rattle.nm_tree.specs.declared.node.NodeKind.TheVariants.{Container, Leaf, LeafList, List as ListOf}
-use Rattle.nm_tree.specs.Nodes.{SchemaTree, is_key, type_in, type_of, type_at, keys_in, keys_of, keys_at}
+use Rattle.nm_schema_tree.specs.declared.node.Node.{Node}
+use Rattle.nm_schema_tree.specs.declared.node.NodeKind.{NodeKind}
+use Rattle.nm_schema_tree.specs.declared.node.NodeKind.TheVariants.{Container, Leaf, LeafList, List as ListOf}
+use Rattle.nm_schema_tree.specs.Nodes.{SchemaTree, is_key, type_in, type_of, type_at, keys_in, keys_of, keys_at}
 use Rattle.nm_path.specs.declared.place.Place.{Place}
 use Rattle.nm_path.specs.declared.place.Place.TheVariants.{Top, Within, Nowhere}
 use Rattle.nm_path.specs.Spelling.{found_of, below, name_at}

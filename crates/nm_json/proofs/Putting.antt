@@ -10,8 +10,8 @@ use Rattle.serde_json.specs.View.{view, items_view}
 use Rattle.serde_json.specs.declared.value.Value.{Value}
 use Rattle.nm_types.specs.Path.{PathStep, keys}
 use Rattle.nm_types.specs.declared.value.Value.{Value as LeafValue}
-use Rattle.nm_tree.specs.declared.node.Node.{Node}
-use Rattle.nm_tree.specs.Nodes.{SchemaTree}
+use Rattle.nm_schema_tree.specs.declared.node.Node.{Node}
+use Rattle.nm_schema_tree.specs.Nodes.{SchemaTree}
 use Rattle.nm_path.specs.declared.place.Place.{Place}
 use Rattle.nm_path.specs.Spelling.{found_of, below}
 use Rattle.nm_json.specs.Writing.{append, in_last, object_after, items_in, step_data, put_steps, member_name}
@@ -42,13 +42,13 @@ in_last_push f (u ∷ []) v = refl
 in_last_push f (u ∷ w ∷ vs) v = ap (item (view u)) (in_last_push f (w ∷ vs) v)
 
 -- the entries of a list once a row is put into the last of them
-pub entries_after : (nodes : List Node) (at : Option ℕ) (ks : List LeafValue) (ss : List PathStep) (v : LeafValue) (before : Option Data) (f : Members → Members) (all old now : List Value) (last part : Value)
-    → (length ss == 0) ≡ false → items_view all ≡ items_in before → all ≡ old ++ last ∷ [] → view part ≡ object_after f (Some (view last)) → now ≡ old ++ part ∷ []
-    → array (items_view now) ≡ step_data nodes at (keys ks) ss v before f
-entries_after nodes at ks [] v before f all old now last part some is split into push = absurd cc
-entries_after nodes at ks (s ∷ ss) v before f all old now last part some is split into push =
-    ap (λ us. array (items_view us)) push ∙ ap array (items_push old part) ∙ ap (λ d. array (append (items_view old) d)) into
-    ∙ ap array (sym (in_last_push f old last)) ∙ ap (λ us. array (in_last f (items_view us))) (sym split) ∙ ap (λ ds. array (in_last f ds)) is
+pub entries_after : (nodes : List Node) (at : Option ℕ) (ks : List LeafValue) (ss : List PathStep) (v : LeafValue) (before : Option Data) (f : Members → Members) (all old : List Value) (last part : Value)
+    → (length ss == 0) ≡ false → items_view all ≡ items_in before → all ≡ old ++ last ∷ [] → view part ≡ object_after f (Some (view last))
+    → array (append (items_view old) (view part)) ≡ step_data nodes at (keys ks) ss v before f
+entries_after nodes at ks [] v before f all old last part some is split into = absurd cc
+entries_after nodes at ks (s ∷ ss) v before f all old last part some is split into =
+    ap (λ d. array (append (items_view old) d)) into ∙ ap array (sym (in_last_push f old last))
+    ∙ ap (λ us. array (in_last f (items_view us))) (sym split) ∙ ap (λ ds. array (in_last f ds)) is
 
 -- the members of an object once a row is put there, by the steps of the code
 pub put_whole : (t : SchemaTree) (place : Place) (s : PathStep) (ss steps : List PathStep) (v : LeafValue) (ms mid : Members) (name : List ℕ) (at : Option ℕ) (before : Option Data) (part : Data)

@@ -11,8 +11,8 @@ use Rattle.nm_types.specs.LeafType.{Kind, integer, decimal, boolean, string, enu
 use Rattle.nm_types.specs.Path.{PathStep}
 use Rattle.nm_types.specs.declared.value.Value.{Value}
 use Rattle.nm_types.specs.declared.value.Value.TheVariants.{Present}
-use Rattle.nm_tree.specs.declared.node.Node.{Node}
-use Rattle.nm_tree.specs.Nodes.{SchemaTree, type_of}
+use Rattle.nm_schema_tree.specs.declared.node.Node.{Node}
+use Rattle.nm_schema_tree.specs.Nodes.{SchemaTree, type_of}
 use Rattle.nm_json.specs.declared.fault.JsonKind.{JsonKind}
 use Rattle.nm_json.specs.declared.fault.Fault.{Fault}
 use Rattle.nm_json.specs.Values.{null_value, empty_value, is_narrow, number_value, text_value, value_of_kind}

@@ -18,8 +18,8 @@ use Rattle.nm_types.specs.Path.{PathStep, at_top, printed_cmp, step_cmp, path_cm
 use Rattle.nm_types.specs.PathLaws.{steps_total, paths_total, step_cmp-IsAntisymmetric, path_cmp-IsAntisymmetric, path_cmp-cons, same_step_decides}
 use Rattle.nm_types.specs.declared.value.Value.{Value}
 use Rattle.nm_types.proofs.OrderLaws.{path_cmp-prefix}
-use Rattle.nm_tree.specs.declared.node.Node.{Node}
-use Rattle.nm_tree.specs.Nodes.{SchemaTree}
+use Rattle.nm_schema_tree.specs.declared.node.Node.{Node}
+use Rattle.nm_schema_tree.specs.Nodes.{SchemaTree}
 use Rattle.nm_path.specs.declared.place.Place.{Place}
 use Rattle.nm_path.specs.declared.place.Place.TheVariants.{Top}
 use Rattle.nm_path.specs.Spelling.{found_of, below, node_from, node_of}

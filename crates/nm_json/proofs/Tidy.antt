@@ -9,7 +9,7 @@ use Rattle.std.specs.Ordering.{match_ordering, ordering_reverse}
 use Rattle.serde_json.specs.Data.{Data, null, boolean, number, string, array, object, Items, no_items, item, Members, no_members, member, put}
 use Rattle.serde_json.specs.Find.{get_member}
 use Rattle.nm_types.specs.Path.{PathStep}
-use Rattle.nm_tree.specs.Nodes.{SchemaTree}
+use Rattle.nm_schema_tree.specs.Nodes.{SchemaTree}
 use Rattle.nm_json.specs.Findings.{Finding, is_colon, has_colon, is_twice, named_found, node_named, wanted, found, members_found}
 use Rattle.nm_json.proofs.Shuffled as lists
 use Rattle.nm_json.proofs.Shuffled.{Shuffled}

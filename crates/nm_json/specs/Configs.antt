@@ -5,10 +5,10 @@ use Rattle.nm_types.specs.LeafType.{TypeOfLeaf}
 use Rattle.nm_types.specs.Path.{PathStep, Choice, whole, keys, entry}
 use Rattle.nm_types.specs.declared.value.Value.{Value}
 use Rattle.nm_types.specs.declared.value.Value.TheVariants.{Present}
-use Rattle.nm_tree.specs.declared.node.Node.{Node}
-use Rattle.nm_tree.specs.declared.node.NodeKind.{NodeKind}
-use Rattle.nm_tree.specs.declared.node.NodeKind.TheVariants.{Container, Leaf, LeafList, List as ListOf}
-use Rattle.nm_tree.specs.Nodes.{SchemaTree, type_at, is_key}
+use Rattle.nm_schema_tree.specs.declared.node.Node.{Node}
+use Rattle.nm_schema_tree.specs.declared.node.NodeKind.{NodeKind}
+use Rattle.nm_schema_tree.specs.declared.node.NodeKind.TheVariants.{Container, Leaf, LeafList, List as ListOf}
+use Rattle.nm_schema_tree.specs.Nodes.{SchemaTree, type_at, is_key}
 use Rattle.nm_path.specs.declared.place.Place.{Place}
 use Rattle.nm_path.specs.declared.place.Place.TheVariants.{Top, Within}
 use Rattle.nm_path.specs.Spelling.{found_of, node_of}
@@ -53,7 +53,8 @@ pub record LeadsTo (nodes : List Node) (place : Place) (s : PathStep) (at : ℕ)
 abbrev pub IsRow : List Node → Place → List PathStep → Value → Type 0
 IsRow nodes place [] v = ⊥
 IsRow nodes place (s ∷ []) v = (at : ℕ) × (node : Node) × LeadsTo nodes place s at node × EndsAt nodes at node.kind s.chosen v
-IsRow nodes place (s ∷ r ∷ ss) v = (at : ℕ) × (node : Node) × LeadsTo nodes place s at node × GoesOn nodes node.kind s.chosen × IsRow nodes (Within at) (r ∷ ss) v
+IsRow nodes place (s ∷ r ∷ ss) v =
+    (at : ℕ) × (node : Node) × LeadsTo nodes place s at node × GoesOn nodes node.kind s.chosen × IsRow nodes (Within at) (r ∷ ss) v
 
 -- ---- configurations
 
@@ -74,8 +75,10 @@ abbrev pub is_own_at : List Node → Option ℕ → Bool
 is_own_at nodes None = false
 is_own_at nodes (Some at) = is_own_in (slice_get nodes at)
 
--- these rows are a configuration of a schema: each is a row of it, each list entry and container with presence that a row is below is a row too, and they are at most 20,000 (this project's own)
+-- these rows are a configuration of a schema: each is a row of it, each list entry and container with presence that a row is
+-- below is a row too, and they are at most 20,000 (this project's own)
 pub record IsConfigOf (t : SchemaTree) (rows : Rows) : Type 0 where
   pub each : (path : List PathStep) (v : Value) → get rows path ≡ Some v → IsRow t.nodes Top path v
-  pub above : (path : List PathStep) (s : PathStep) (more : List PathStep) (v : Value) → get rows (path ++ s ∷ more) ≡ Some v → is_own_at t.nodes (node_of t path) ≡ true → is_some (get rows path) ≡ true
+  pub above : (path : List PathStep) (s : PathStep) (more : List PathStep) (v : Value) → get rows (path ++ s ∷ more) ≡ Some v
+      → is_own_at t.nodes (node_of t path) ≡ true → is_some (get rows path) ≡ true
   pub few : len rows ≤ row_limit

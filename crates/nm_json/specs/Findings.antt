@@ -7,10 +7,10 @@ use Rattle.nm_types.specs.LeafType.{TypeOfLeaf}
 use Rattle.nm_types.specs.Path.{PathStep, Choice, whole, keys, entry}
 use Rattle.nm_types.specs.declared.value.Value.{Value}
 use Rattle.nm_types.specs.declared.value.Value.TheVariants.{Present}
-use Rattle.nm_tree.specs.declared.node.Node.{Node}
-use Rattle.nm_tree.specs.declared.node.NodeKind.{NodeKind}
-use Rattle.nm_tree.specs.declared.node.NodeKind.TheVariants.{Container, Leaf, LeafList, List as ListOf}
-use Rattle.nm_tree.specs.Nodes.{SchemaTree, first_named, first_top, is_key, type_of}
+use Rattle.nm_schema_tree.specs.declared.node.Node.{Node}
+use Rattle.nm_schema_tree.specs.declared.node.NodeKind.{NodeKind}
+use Rattle.nm_schema_tree.specs.declared.node.NodeKind.TheVariants.{Container, Leaf, LeafList, List as ListOf}
+use Rattle.nm_schema_tree.specs.Nodes.{SchemaTree, first_named, first_top, is_key, type_of}
 use Rattle.nm_path.specs.Spelling.{is_module}
 use Rattle.nm_json.specs.declared.fault.JsonKind.{JsonKind}
 use Rattle.nm_json.specs.declared.fault.JsonKind.TheVariants.{Unknown, BadForm, MissingKey, Repeated}
@@ -162,7 +162,8 @@ abbrev pub presence_found : Spot → Bool → List Finding
 presence_found s false = []
 presence_found s true = row (bare s) Present ∷ []
 
--- what a JSON value is looked at for: as the value of a container, of which it says whether it has presence, of a leaf or leaf-list of a type, or of a list with keys; as an item of the array of one of the two; or not at all
+-- what a JSON value is looked at for: as the value of a container, of which it says whether it has presence, of a leaf or
+-- leaf-list of a type, or of a list with keys; as an item of the array of one of the two; or not at all
 pub data Wanted : Type 0 where
   ignored : Wanted
   container : Spot → Bool → Wanted

@@ -9,7 +9,7 @@ use Rattle.nm_types.specs.Limits.{MeetsLimits}
 use Rattle.nm_types.specs.Canonical.{IsHeld}
 use Rattle.nm_types.specs.Spells.{SpellsValue, HasDistinctNames}
 use Rattle.nm_types.specs.declared.value.Value.{Value}
-use Rattle.nm_tree.specs.Nodes.{SchemaTree}
+use Rattle.nm_schema_tree.specs.Nodes.{SchemaTree}
 use Rattle.nm_config.specs.Rows.{Rows}
 use Rattle.nm_json.specs.declared.fault.JsonKind.{JsonKind}
 use Rattle.nm_json.specs.declared.fault.Fault.{Fault}

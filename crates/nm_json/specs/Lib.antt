@@ -1,3 +1,4 @@
+-- Rows in JSON: `Findings` has what a value holds by a schema, `Whole` what is made of it, `Writing` the way back.
 pub mod Values
 pub mod Places
 pub mod Findings

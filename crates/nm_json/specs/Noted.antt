@@ -1,13 +1,15 @@
 -- Findings that are noted one after another.
-use Rattle.std.specs.Prelude.{List, [], ◌∷◌, ◌++◌, fold, Option, None, is_some, if◌then◌else◌}
+use Rattle.std.specs.Prelude.{◌≡◌, ℕ, List, [], ◌∷◌, ◌++◌, fold, Option, Some, None, is_some, if◌then◌else◌}
 use Rattle.std.specs.FinMap.{insert, get}
 use Rattle.nm_types.specs.Path.{PathStep}
 use Rattle.nm_types.specs.declared.value.Value.{Value}
+use Rattle.serde_json.specs.Data.{Members}
+use Rattle.nm_schema_tree.specs.Nodes.{SchemaTree}
 use Rattle.nm_config.specs.Rows.{Rows}
 use Rattle.nm_json.specs.declared.fault.JsonKind.TheVariants.{Repeated}
 use Rattle.nm_json.specs.declared.fault.Fault.{Fault}
 use Rattle.nm_json.specs.Places.{lesser}
-use Rattle.nm_json.specs.Findings.{Finding, row, bad, fault_at}
+use Rattle.nm_json.specs.Findings.{Finding, row, bad, fault_at, members_found}
 use Rattle.nm_json.specs.Whole.{if_repeated}
 
 -- the rows that were found, in their order, and the least of the faults that were
@@ -36,3 +38,8 @@ with_row rows least path = if is_some (get rows path) then lesser least (fault_a
 abbrev pub repeated : Rows → List (List PathStep × Value) → List Fault
 repeated rows [] = []
 repeated rows (r ∷ rs) = if_repeated (is_some (get rows r.0)) r.0 (repeated (insert rows r.0 r.1) rs)
+
+-- the whole is reached once the members of an object are gone through at a path, if there is one, and else it is reached
+abbrev pub GoesOn : SchemaTree → Option ℕ → Members → Gathered → Option (List PathStep) → Gathered → Type 0
+GoesOn t within ms g None all = g ≡ all
+GoesOn t within ms g (Some path) all = gathered g (members_found t path within ms ms) ≡ all

@@ -4,7 +4,7 @@ use Rattle.std.specs.Ordering.{on, then_cmp, nat_cmp, is_lt}
 use Rattle.std.specs.Cmp.Lexicographic.{slice_cmp}
 use Rattle.std.specs.declared.cmp.Ordering.{Ordering}
 use Rattle.nm_types.specs.Path.{PathStep, whole, step_cmp}
-use Rattle.nm_tree.specs.Nodes.{SchemaTree}
+use Rattle.nm_schema_tree.specs.Nodes.{SchemaTree}
 use Rattle.nm_path.specs.Written.{path_text}
 use Rattle.nm_json.specs.declared.fault.JsonKind.{JsonKind}
 use Rattle.nm_json.specs.declared.fault.JsonKind.TheVariants.{Unknown, BadForm, BadValue, MissingKey, Repeated}

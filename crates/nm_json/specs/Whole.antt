@@ -4,7 +4,7 @@ use Rattle.std.specs.FinMap.{insert, get, empty, len}
 use Rattle.std.specs.Str.{is_utf8}
 use Rattle.serde_json.specs.Data.{Data}
 use Rattle.serde_json.specs.Read.{read}
-use Rattle.nm_tree.specs.Nodes.{SchemaTree}
+use Rattle.nm_schema_tree.specs.Nodes.{SchemaTree}
 use Rattle.nm_json.specs.declared.fault.JsonFault.{JsonFault}
 use Rattle.nm_json.specs.declared.fault.JsonFault.TheVariants.{NotJson, Bad, TooManyRows, NoMemory}
 use Rattle.nm_types.specs.Path.{PathStep}

@@ -8,8 +8,8 @@ use Rattle.nm_types.specs.Canonical.{canonical}
 use Rattle.nm_types.specs.Path.{PathStep, Choice, whole, keys, entry}
 use Rattle.nm_types.specs.declared.value.Value.{Value}
 use Rattle.nm_types.specs.declared.value.Value.TheVariants.{Int, Decimal, Text, Name, Bits, Empty, Present, Bool as Flag}
-use Rattle.nm_tree.specs.declared.node.Node.{Node}
-use Rattle.nm_tree.specs.Nodes.{SchemaTree, keys_at, type_at}
+use Rattle.nm_schema_tree.specs.declared.node.Node.{Node}
+use Rattle.nm_schema_tree.specs.Nodes.{SchemaTree, keys_at, type_at}
 use Rattle.nm_path.specs.declared.place.Place.{Place}
 use Rattle.nm_path.specs.declared.place.Place.TheVariants.{Top, Within, Nowhere}
 use Rattle.nm_path.specs.Spelling.{found_of, below, name_at}
@@ -111,7 +111,8 @@ abbrev pub put_steps : SchemaTree → Place → List PathStep → Value → Memb
 put_steps t place [] v ms = ms
 put_steps t place (s ∷ ss) v ms =
     put (member_name place s)
-    (step_data t.nodes (found_of t.nodes place s.«module» s.name) s.chosen ss v (get_member (member_name place s) ms) (put_steps t (below (found_of t.nodes place s.«module» s.name)) ss v))
+    (step_data t.nodes (found_of t.nodes place s.«module» s.name) s.chosen ss v (get_member (member_name place s) ms)
+    (put_steps t (below (found_of t.nodes place s.«module» s.name)) ss v))
     ms
 
 -- the members of the whole once a row is put there

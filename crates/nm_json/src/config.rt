@@ -17,7 +17,7 @@ use crate::walk::{note_at, read_members};
 use nm_base::{Label, NoMemory};
 use nm_config::Config;
 use nm_path::write_path;
-use nm_tree::Schema;
+use nm_schema_tree::Schema;
 use nm_types::{Path, Value};
 use serde_json::Value as Json;
 use std::alloc::Global;
@@ -78,8 +78,13 @@ fn gather(alloc: Global, schema: &Schema, whole: &Json) -> Result<Gathered, NoMe
     ensures { IfOk result (λ gathered. gathered ≡ noted.gathered noted.nothing (whole_found schema.now (view whole.now))) }
 {
     let mut gathered = Gathered::new(alloc);
-    read_whole(alloc, schema, &mut gathered, whole)?;
-    Ok(gathered)
+    match read_whole(alloc, schema, &mut gathered, whole) {
+        Ok(()) => Ok(gathered),
+        Err(error) => {
+            drop(gathered);
+            Err(error)
+        }
+    }
 }
 
 // The configuration of some rows, and the least fault with those that are repeated.
@@ -124,8 +129,17 @@ fn row_by_row(alloc: Global, schema: &Schema, value: &Json) -> Result<Config, Js
     ensures { spec.Gives result (spec.config_read schema.now (view value.now)) }
 {
     let Gathered { rows, mut least } = gather(alloc, schema, value)?;
-    let config = put_rows(alloc, &mut least, rows)?;
-    answer(alloc, schema, &least, config)
+    match put_rows(alloc, &mut least, rows) {
+        Ok(config) => {
+            let answered = answer(alloc, schema, &least, config);
+            drop(least);
+            answered
+        }
+        Err(error) => {
+            drop(least);
+            Err(JsonFault::from(error))
+        }
+    }
 }
 
 /// The configuration that a JSON value holds by a schema, or the least of its faults (RFC 7951 sections 4 to 6).
@@ -138,10 +152,20 @@ pub fn config_of(alloc: Global, schema: &Schema, value: &Json) -> Result<Config,
 {
     let Gathered { rows, least } = gather(alloc, schema, value)?;
     let count = rows.len();
-    let config = Config::of_rows(alloc, rows)?;
+    let config = match Config::of_rows(alloc, rows) {
+        Ok(config) => config,
+        Err(error) => {
+            drop(least);
+            return Err(JsonFault::from(error));
+        }
+    };
     if config.len() == count {
-        return answer(alloc, schema, &least, config);
+        let answered = answer(alloc, schema, &least, config);
+        drop(least);
+        return answered;
     }
+    drop(config);
+    drop(least);
     // A row is repeated, which is seldom: the rows are gathered again and looked at one by one.
     row_by_row(alloc, schema, value)
 }
@@ -153,7 +177,11 @@ pub fn read_config(alloc: Global, schema: &Schema, text: &[u8]) -> Result<Config
     ensures configuration { IfOk result (λ rows. HaveHeldBounds schema.now.nodes → IsConfigOf schema.now rows) }
 {
     match Json::from_slice(alloc, text) {
-        Ok(value) => config_of(alloc, schema, &value),
+        Ok(value) => {
+            let read = config_of(alloc, schema, &value);
+            drop(value);
+            read
+        }
         Err(error) if error.is_memory() => Err(JsonFault::NoMemory),
         Err(_) => Err(JsonFault::NotJson),
     }

@@ -1,10 +1,11 @@
 //! The rows and the least fault that were found so far.
 
-ghost use Rattle.std.specs.Prelude.{◌≡◌, ◌∷◌, ◌++◌, IfOk, OnOk, string_bytes};
+ghost use Rattle.std.specs.Prelude.{◌≡◌, ◌∷◌, ◌++◌, IfOk, OnOk, Some, string_bytes};
 ghost use Rattle.std.specs.FinMap.{insert};
 ghost use Rattle.nm_json.specs.Noted as spec;
-ghost use Rattle.nm_json.specs.Places.{fault_cmp, kind_rank, lesser, printed, printed_at_top, place_steps};
+ghost use Rattle.nm_json.specs.Places.{fault_cmp, kind_rank, lesser, name_steps, printed, printed_at_top, place_steps};
 ghost use Rattle.nm_json.specs.Findings.{row, bad, fault_at};
+ghost use Rattle.nm_json.specs.declared.fault.JsonKind.TheVariants as kinds;
 
 use crate::fault::{Fault, JsonKind, Place};
 use nm_base::{Label, NoMemory};
@@ -13,6 +14,7 @@ use nm_types::{Chosen, Path, Step, Value};
 use std::alloc::Global;
 use std::cmp::Ordering;
 use std::marker::Model;
+use std::mem;
 
 /// The rows in the order in which they were found, and the least of the faults but for repeated rows.
 #[derive(Drop)]
@@ -75,6 +77,18 @@ fn printed(alloc: Global, steps: &[Step]) -> Result<Vec<Step>, NoMemory>
     Ok(all)
 }
 
+// Puts a name that stands below a path behind its steps.
+fn push_name(alloc: Global, all: &mut Vec<Step>, name: &Label) -> Result<(), NoMemory>
+    ensures { OnOk result (all.new.items ≡ all.old.items ++ name_steps (Some name.now)) }
+{
+    all.push(Step {
+        module: Label::new(alloc, "")?,
+        name: name.copy()?,
+        chosen: Chosen::Whole,
+    })?;
+    Ok(())
+}
+
 /// The steps of a place as they are printed: their order is that of faults.
 pub fn place_steps(alloc: Global, place: &Place) -> Result<Vec<Step>, NoMemory>
     ensures { IfOk result (λ all. all.items ≡ place_steps place.now) }
@@ -83,12 +97,13 @@ pub fn place_steps(alloc: Global, place: &Place) -> Result<Vec<Step>, NoMemory>
     let Some(name) = &place.below else {
         return Ok(all);
     };
-    all.push(Step {
-        module: Label::new(alloc, "")?,
-        name: name.copy()?,
-        chosen: Chosen::Whole,
-    })?;
-    Ok(all)
+    match push_name(alloc, &mut all, name) {
+        Ok(()) => Ok(all),
+        Err(error) => {
+            drop(all);
+            Err(error)
+        }
+    }
 }
 
 fn rank(kind: JsonKind) -> u8
@@ -109,9 +124,18 @@ fn order(alloc: Global, one: &Fault, other: &Fault) -> Result<Ordering, NoMemory
     ensures { IfOk result (λ order. order ≡ fault_cmp one.now other.now) }
 {
     let ours = place_steps(alloc, &one.place)?;
-    let theirs = place_steps(alloc, &other.place)?;
-    let places = ours.as_slice().cmp(theirs.as_slice());
-    Ok(places.then(rank(one.kind).cmp(&rank(other.kind))))
+    match place_steps(alloc, &other.place) {
+        Ok(theirs) => {
+            let places = ours.as_slice().cmp(theirs.as_slice());
+            drop(theirs);
+            drop(ours);
+            Ok(places.then(rank(one.kind).cmp(&rank(other.kind))))
+        }
+        Err(error) => {
+            drop(ours);
+            Err(error)
+        }
+    }
 }
 
 // The least of a fault and those that were found.
@@ -119,13 +143,23 @@ fn note_lesser(alloc: Global, least: &mut Option<Fault>, fault: Fault) -> Result
     ensures { OnOk result (least.new ≡ lesser least.old fault) }
 {
     let Some(before) = least else {
-        *least = Some(fault);
+        drop(mem::replace(least, Some(fault)));
         return Ok(());
     };
-    if order(alloc, &fault, before)?.is_lt() {
-        *least = Some(fault);
+    match order(alloc, &fault, before) {
+        Ok(compared) => {
+            if compared.is_lt() {
+                drop(mem::replace(least, Some(fault)));
+                return Ok(());
+            }
+            drop(fault);
+            Ok(())
+        }
+        Err(error) => {
+            drop(fault);
+            Err(error)
+        }
     }
-    Ok(())
 }
 
 impl Gathered {
@@ -155,6 +189,21 @@ impl Gathered {
     }
 }
 
+// Notes that a row with a path was there.
+fn note_repeated(alloc: Global, least: &mut Option<Fault>, path: Path) -> Result<(), NoMemory>
+    ensures { OnOk result (least.new ≡ lesser least.old (fault_at path kinds.Repeated)) }
+{
+    let place = Place { path, below: None };
+    note_lesser(
+        alloc,
+        least,
+        Fault {
+            kind: JsonKind::Repeated,
+            place,
+        },
+    )
+}
+
 /// A row more in a configuration, which is a fault where there is one with its path.
 pub fn put_row(
     alloc: Global,
@@ -166,19 +215,26 @@ pub fn put_row(
     ensures rows { OnOk result (config.new ≡ insert config.old path value) }
     ensures least { OnOk result (least.new ≡ spec.with_row config.old least.old path) }
 {
-    let place = Place {
-        path: path.copy(alloc)?,
-        below: None,
+    let own = match path.copy(alloc) {
+        Ok(own) => own,
+        Err(error) => {
+            drop(path);
+            drop(value);
+            return Err(error);
+        }
     };
-    if config.put(path, value)?.is_none() {
+    let before = match config.put(path, value) {
+        Ok(before) => before,
+        Err(error) => {
+            drop(own);
+            return Err(error);
+        }
+    };
+    if before.is_none() {
+        drop(before);
+        drop(own);
         return Ok(());
     }
-    note_lesser(
-        alloc,
-        least,
-        Fault {
-            kind: JsonKind::Repeated,
-            place,
-        },
-    )
+    drop(before);
+    note_repeated(alloc, least, own)
 }

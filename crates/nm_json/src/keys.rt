@@ -4,7 +4,7 @@ ghost use Rattle.std.specs.Prelude.{◌≡◌, [], ◌∷◌, ◌++◌, Option, 
 ghost use Rattle.serde_json.specs.View.{view, members_view};
 ghost use Rattle.serde_json.specs.Data.{Data};
 ghost use Rattle.serde_json.specs.Find.{get_member};
-ghost use Rattle.nm_tree.specs.Nodes.{type_of};
+ghost use Rattle.nm_schema_tree.specs.Nodes.{type_of};
 ghost use Rattle.nm_json.specs.Values.{IsValue};
 ghost use Rattle.nm_json.specs.Noted.{gathered as all_noted};
 ghost use Rattle.nm_json.specs.Findings as spec;
@@ -16,7 +16,7 @@ use crate::leafs::leaf_value;
 use crate::names::{may_have_long, member};
 use crate::spot::{Spot, step_below};
 use nm_base::{Label, NoMemory};
-use nm_tree::{Node, Schema};
+use nm_schema_tree::{Node, Schema};
 use nm_types::{Chosen, Path, Value};
 use serde_json::{Map, Value as Json};
 use std::alloc::Global;
@@ -38,7 +38,8 @@ fn key_value(
     short: Option<&Json>,
     long: Option<&Json>,
 ) -> Result<Value, Refusal>
-    ensures { IsValue result (spec.key_value (type_of node.now.kind) (option_map (λ part. view part.now) short.entry) (option_map (λ part. view part.now) long.entry)) }
+    ensures { IsValue result
+        (spec.key_value (type_of node.now.kind) (option_map (λ part. view part.now) short.entry) (option_map (λ part. view part.now) long.entry)) }
 {
     match short {
         None => match long {
@@ -137,8 +138,10 @@ fn keep_key(
     key: usize,
     values: &mut Vec<Value>,
 ) -> Result<(), NoMemory>
-    ensures values { OnOk result (values.new.items ≡ values.old.items ++ spec.values_of (spec.key_read schema.now (spec.bare (spot_of list.now)) (members_view members.now.entries) key ∷ [])) }
-    ensures faults { OnOk result (gathered.new ≡ all_noted gathered.old (spec.faults_of (spec.key_read schema.now (spec.bare (spot_of list.now)) (members_view members.now.entries) key ∷ []))) }
+    ensures values { OnOk result (values.new.items
+        ≡ values.old.items ++ spec.values_of (spec.key_read schema.now (spec.bare (spot_of list.now)) (members_view members.now.entries) key ∷ [])) }
+    ensures faults { OnOk result (gathered.new ≡ all_noted gathered.old
+        (spec.faults_of (spec.key_read schema.now (spec.bare (spot_of list.now)) (members_view members.now.entries) key ∷ []))) }
 {
     match read_key(alloc, schema, list, members, key) {
         Ok(value) => {
@@ -159,12 +162,20 @@ pub fn read_keys(
     members: &Map<String, Json>,
     keys: &[usize],
 ) -> Result<Vec<Value>, NoMemory>
-    ensures values { IfOk result (λ values. values.items ≡ spec.values_of (map (spec.key_read schema.now (spec.bare (spot_of list.now)) (members_view members.now.entries)) keys.now)) }
-    ensures faults { OnOk result (gathered.new ≡ all_noted gathered.old (spec.faults_of (map (spec.key_read schema.now (spec.bare (spot_of list.now)) (members_view members.now.entries)) keys.now))) }
+    ensures values { IfOk result (λ values. values.items
+        ≡ spec.values_of (map (spec.key_read schema.now (spec.bare (spot_of list.now)) (members_view members.now.entries)) keys.now)) }
+    ensures faults { OnOk result (gathered.new ≡ all_noted gathered.old
+        (spec.faults_of (map (spec.key_read schema.now (spec.bare (spot_of list.now)) (members_view members.now.entries)) keys.now))) }
 {
     let mut values = Vec::with_capacity(alloc, keys.len())?;
     for key in keys {
-        keep_key(alloc, schema, gathered, list, members, *key, &mut values)?;
+        match keep_key(alloc, schema, gathered, list, members, *key, &mut values) {
+            Ok(()) => {}
+            Err(error) => {
+                drop(values);
+                return Err(error);
+            }
+        }
     }
     Ok(values)
 }

@@ -7,7 +7,7 @@ ghost use Rattle.serde_json.specs.Read.{max_depth};
 ghost use Rattle.nm_types.specs.LeafType.{TypeOfLeaf};
 ghost use Rattle.nm_types.specs.Path.{PathStep};
 ghost use Rattle.nm_types.specs.declared.value.Value.{Value};
-ghost use Rattle.nm_tree.specs.Nodes.{SchemaTree};
+ghost use Rattle.nm_schema_tree.specs.Nodes.{SchemaTree};
 ghost use Rattle.nm_path.specs.Sound.{IsSound, HaveHeldBounds};
 ghost use Rattle.nm_config.specs.Rows.{Rows};
 ghost use Rattle.nm_json.specs.declared.fault.JsonKind.{JsonKind as Kind};
@@ -20,7 +20,8 @@ ghost use Rattle.nm_json.specs.Laws as spec;
 
 /// A fault that is answered is the least of all faults of the value.
 pub fn least_fault()
-    ensures { (t : SchemaTree) (d : Data) (kind : Kind) (text : List ℕ) → config_read t d ≡ Err (Bad kind text) → spec.HasLeast t (spec.all_faults t d) kind text }
+    ensures { (t : SchemaTree) (d : Data) (kind : Kind) (text : List ℕ) → config_read t d ≡ Err (Bad kind text)
+        → spec.HasLeast t (spec.all_faults t d) kind text }
 {}
 
 /// A configuration is answered exactly where there is no fault: that of all rows, which are at most 20,000.
@@ -55,5 +56,6 @@ pub fn read_again()
 
 /// Where no path has more than 62 steps, the JSON value that is written nests at most 127 deep.
 pub fn shallow_values()
-    ensures { (t : SchemaTree) (rows : Rows) → ((path : List PathStep) (v : Value) → get rows path ≡ Some v → length path ≤ 62) → depth (config_data t rows) ≤ max_depth }
+    ensures { (t : SchemaTree) (rows : Rows) → ((path : List PathStep) (v : Value) → get rows path ≡ Some v → length path ≤ 62)
+        → depth (config_data t rows) ≤ max_depth }
 {}

@@ -7,7 +7,7 @@ ghost use Rattle.serde_json.specs.Find.{get_member};
 ghost use Rattle.nm_path.specs.Spelling.{is_module};
 ghost use Rattle.nm_json.specs.Findings as spec;
 
-use nm_tree::Schema;
+use nm_schema_tree::Schema;
 use serde_json::{Map, Value as Json};
 
 /// Whether a node has a module.

@@ -5,7 +5,7 @@ ghost use Rattle.serde_json.specs.View.{view, items_view, members_view};
 ghost use Rattle.serde_json.specs.Data.{null, array, object, no_members, put as with_member};
 ghost use Rattle.serde_json.specs.Find.{get_member};
 ghost use Rattle.nm_types.specs.Path.{whole, keys as keys_chosen};
-ghost use Rattle.nm_tree.specs.Nodes.{keys_at};
+ghost use Rattle.nm_schema_tree.specs.Nodes.{keys_at};
 ghost use Rattle.nm_path.specs.Spelling.{found_of as found_at, below as place_below, name_at};
 ghost use Rattle.nm_json.specs.Writing as spec;
 
@@ -14,7 +14,7 @@ use crate::names::is_owner;
 use crate::spelled::{narrow_at, value_data};
 use nm_base::{Label, NoMemory};
 use nm_path::place::Place;
-use nm_tree::{NodeKind, Schema};
+use nm_schema_tree::{NodeKind, Schema};
 use nm_types::{Chosen, Step, Value};
 use serde_json::{Map, Value as Json};
 use std::alloc::Global;
@@ -72,9 +72,20 @@ fn put_member(
 ) -> Result<(), NoMemory>
     ensures { OnOk result (members_view members.new.entries ≡ with_member name.now (view part) (members_view members.old.entries)) }
 {
-    let key = String::from_str(alloc, name)?;
-    members.insert(key, part)?;
-    Ok(())
+    let key = match String::from_str(alloc, name) {
+        Ok(key) => key,
+        Err(_) => {
+            drop(part);
+            return Err(NoMemory);
+        }
+    };
+    match members.insert(key, part) {
+        Ok(before) => {
+            drop(before);
+            Ok(())
+        }
+        Err(error) => Err(NoMemory::from(error)),
+    }
 }
 
 // Takes the value of a member, in whose place a null is left.
@@ -166,13 +177,26 @@ fn put_keys(
     Ok(())
 }
 
+// An array of items with one more at their end.
+fn array_with(items: Vec<Json>, part: Json) -> Result<Json, NoMemory>
+    ensures { IfOk result (λ all. view all ≡ array (spec.append (items_view items.items) (view part))) }
+{
+    let mut all = items;
+    match all.push(part) {
+        Ok(()) => Ok(Json::Array(all)),
+        Err(failed) => {
+            drop(all);
+            Err(NoMemory::from(failed))
+        }
+    }
+}
+
 // An item more at the end of an array.
 fn with_item(alloc: Global, before: Option<Json>, part: Json) -> Result<Json, NoMemory>
     ensures { IfOk result (λ all. view all ≡ array (spec.append (spec.items_in (option_map view before)) (view part))) }
 {
-    let mut items = items_in(alloc, before);
-    items.push(part)?;
-    Ok(Json::Array(items))
+    let items = items_in(alloc, before);
+    array_with(items, part)
 }
 
 // The object of an entry with its keys.
@@ -185,8 +209,53 @@ fn entry_object(
     ensures { IfOk result (λ part. view part ≡ object (spec.key_members schema.now.nodes (keys_at schema.now.nodes at) values.now no_members)) }
 {
     let mut members = Map::new(alloc);
-    put_keys(alloc, schema, keys_of(schema, at), values, &mut members)?;
-    Ok(Json::Object(members))
+    match put_keys(alloc, schema, keys_of(schema, at), values, &mut members) {
+        Ok(()) => Ok(Json::Object(members)),
+        Err(fault) => {
+            drop(members);
+            Err(fault)
+        }
+    }
+}
+
+// The entries of a list once there is one more.
+fn with_entry(
+    alloc: Global,
+    schema: &Schema,
+    at: Option<usize>,
+    values: &[Value],
+    before: Option<Json>,
+) -> Result<Json, NoMemory>
+    ensures { IfOk result (λ all. view all ≡ array (spec.append (spec.items_in (option_map view before))
+        (object (spec.key_members schema.now.nodes (keys_at schema.now.nodes at) values.now no_members)))) }
+{
+    match entry_object(alloc, schema, at, values) {
+        Ok(part) => with_item(alloc, before, part),
+        Err(fault) => {
+            drop(before);
+            Err(fault)
+        }
+    }
+}
+
+// The values of a leaf-list once there is one more.
+fn with_value(
+    alloc: Global,
+    schema: &Schema,
+    at: Option<usize>,
+    value: &Value,
+    before: Option<Json>,
+) -> Result<Json, NoMemory>
+    ensures { IfOk result (λ all. view all ≡ array (spec.append (spec.items_in (option_map view before))
+        (spec.value_data (spec.narrow_at schema.now.nodes at) value.now))) }
+{
+    match value_data(alloc, narrow_at(schema, at), value) {
+        Ok(part) => with_item(alloc, before, part),
+        Err(fault) => {
+            drop(before);
+            Err(fault)
+        }
+    }
 }
 
 /// Puts a row into an object, at the steps that are left of its path.
@@ -207,9 +276,23 @@ pub fn put_steps(
     let label = member_name(alloc, place, step)?;
     let name = label.as_str();
     let at = node_of(schema, place, step);
-    let before = take_member(alloc, members, name)?;
-    let part = step_data(alloc, schema, at, step, rest, value, before)?;
-    put_member(alloc, members, name, part)
+    let before = match take_member(alloc, members, name) {
+        Ok(before) => before,
+        Err(fault) => {
+            drop(label);
+            return Err(fault);
+        }
+    };
+    let part = match step_data(alloc, schema, at, step, rest, value, before) {
+        Ok(part) => part,
+        Err(fault) => {
+            drop(label);
+            return Err(fault);
+        }
+    };
+    let put = put_member(alloc, members, name, part);
+    drop(label);
+    put
 }
 
 // The JSON value of a step once a row is put there.
@@ -229,10 +312,7 @@ fn step_data(
     match &step.chosen {
         Chosen::Whole => whole_data(alloc, schema, at, rest, value, before),
         Chosen::Keys(values) => keys_data(alloc, schema, at, values, rest, value, before),
-        Chosen::Entry(chosen_value) => {
-            let part = value_data(alloc, narrow_at(schema, at), chosen_value)?;
-            with_item(alloc, before, part)
-        }
+        Chosen::Entry(chosen_value) => with_value(alloc, schema, at, chosen_value, before),
     }
 }
 
@@ -250,6 +330,7 @@ fn whole_data(
         (spec.put_steps schema.now (place_below at) rest.now value.now)) }
 {
     if rest.is_empty() {
+        drop(before);
         return value_data(alloc, narrow_at(schema, at), value);
     }
     object_after(alloc, schema, at, rest, value, before)
@@ -270,16 +351,19 @@ fn keys_data(
         (spec.put_steps schema.now (place_below at) rest.now value.now)) }
 {
     if rest.is_empty() {
-        let part = entry_object(alloc, schema, at, values)?;
-        return with_item(alloc, before, part);
+        return with_entry(alloc, schema, at, values, before);
     }
     let mut items = items_in(alloc, before);
     let Some(last) = items.pop() else {
         return Ok(Json::Array(items));
     };
-    let part = object_after(alloc, schema, at, rest, value, Some(last))?;
-    items.push(part)?;
-    Ok(Json::Array(items))
+    match object_after(alloc, schema, at, rest, value, Some(last)) {
+        Ok(part) => array_with(items, part),
+        Err(fault) => {
+            drop(items);
+            Err(fault)
+        }
+    }
 }
 
 // An object once a row is put into it.
@@ -295,6 +379,11 @@ fn object_after(
     ensures { IfOk result (λ part. view part ≡ spec.object_after (spec.put_steps schema.now (place_below at) rest.now value.now) (option_map view before)) }
 {
     let mut inner = members_in(alloc, before);
-    put_steps(alloc, schema, below(at), rest, value, &mut inner)?;
-    Ok(Json::Object(inner))
+    match put_steps(alloc, schema, below(at), rest, value, &mut inner) {
+        Ok(()) => Ok(Json::Object(inner)),
+        Err(fault) => {
+            drop(inner);
+            Err(fault)
+        }
+    }
 }

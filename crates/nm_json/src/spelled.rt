@@ -8,7 +8,7 @@ ghost use Rattle.nm_json.specs.Writing as spec;
 
 use crate::leafs::is_narrow;
 use nm_base::{Label, NoMemory};
-use nm_tree::Schema;
+use nm_schema_tree::Schema;
 use nm_types::{LeafType, TypeKind, Value, write_value};
 use serde_json::{Map, Value as Json};
 use std::alloc::Global;

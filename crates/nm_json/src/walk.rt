@@ -2,11 +2,13 @@
 
 ghost use Rattle.std.specs.Prelude.{◌≡◌, ◌∷◌, [], ◌++◌, Some, None, IfOk, OnOk, map, length};
 ghost use Rattle.serde_json.specs.View.{view, items_view, members_view};
+ghost use Rattle.serde_json.specs.Data.{object};
 ghost use Rattle.nm_types.specs.Chosen.{choice_of};
 ghost use Rattle.nm_types.specs.Path.{whole, keys as keys_chosen, entry};
-ghost use Rattle.nm_tree.specs.Nodes.{type_of};
-ghost use Rattle.nm_tree.specs.declared.node.NodeKind.TheVariants as kind;
-ghost use Rattle.nm_json.specs.Noted.{noted, gathered as all_noted};
+ghost use Rattle.nm_types.specs.declared.value.Value.TheVariants.{Present};
+ghost use Rattle.nm_schema_tree.specs.Nodes.{type_of};
+ghost use Rattle.nm_schema_tree.specs.declared.node.NodeKind.TheVariants as kind;
+ghost use Rattle.nm_json.specs.Noted.{noted, gathered as all_noted, GoesOn};
 ghost use Rattle.nm_json.specs.Findings as spec;
 ghost use Rattle.nm_json.specs.Spots.{spot_of};
 ghost use Rattle.nm_json.specs.Values.{leaf_value as value_of_leaf};
@@ -18,7 +20,7 @@ use crate::leafs::leaf_value;
 use crate::names::{is_twice, node_named};
 use crate::spot::{Spot, step_below};
 use nm_base::{Label, NoMemory};
-use nm_tree::{Node, NodeKind, Schema};
+use nm_schema_tree::{Node, NodeKind, Schema};
 use nm_types::{Chosen, LeafType, Path, Value};
 use serde_json::{Map, Value as Json};
 use std::alloc::Global;
@@ -83,15 +85,44 @@ fn read_leaf(
     leaf_type: &LeafType,
     part: &Json,
 ) -> Result<(), NoMemory>
-    ensures { OnOk result (gathered.new ≡ all_noted gathered.old (spec.leaf_found (spec.bare (spot_of spot.now)) (value_of_leaf leaf_type.now (view part.now)))) }
+    ensures { OnOk result
+        (gathered.new ≡ all_noted gathered.old (spec.leaf_found (spec.bare (spot_of spot.now)) (value_of_leaf leaf_type.now (view part.now)))) }
 {
     match leaf_value(alloc, leaf_type, part) {
-        Ok(value) => {
-            let path = step_below(alloc, spot.above, spot.node, Chosen::Whole)?;
-            gathered.note_row(path, value)
-        }
+        Ok(value) => match step_below(alloc, spot.above, spot.node, Chosen::Whole) {
+            Ok(path) => gathered.note_row(path, value),
+            Err(fault) => {
+                drop(value);
+                Err(fault)
+            }
+        },
         Err(Refusal::Bad(kind)) => note_bare(alloc, gathered, spot, kind),
         Err(Refusal::NoMemory) => Err(NoMemory),
+    }
+}
+
+// The path of an item of a leaf-list.
+fn item_path(alloc: Global, spot: &Spot, value: &Value) -> Result<Path, NoMemory>
+    ensures { IfOk result (λ path. path ≡ spec.step_below spot.now.above.now spot.now.node.now (entry value.now)) }
+{
+    step_below(alloc, spot.above, spot.node, Chosen::Entry(value.copy()?))
+}
+
+// Notes the row of an item of a leaf-list.
+fn note_item(
+    alloc: Global,
+    gathered: &mut Gathered,
+    spot: &Spot,
+    value: Value,
+) -> Result<(), NoMemory>
+    ensures { OnOk result (gathered.new ≡ noted gathered.old (spec.row (spec.step_below spot.now.above.now spot.now.node.now (entry value)) value)) }
+{
+    match item_path(alloc, spot, &value) {
+        Ok(path) => gathered.note_row(path, value),
+        Err(fault) => {
+            drop(value);
+            Err(fault)
+        }
     }
 }
 
@@ -107,11 +138,7 @@ fn read_item(
     ensures { OnOk result (gathered.new ≡ all_noted gathered.old (spec.value_found (spot_of spot.now) (value_of_leaf leaf_type.now (view part.now)))) }
 {
     match leaf_value(alloc, leaf_type, part) {
-        Ok(value) => {
-            let chosen = Chosen::Entry(value.copy()?);
-            let path = step_below(alloc, spot.above, spot.node, chosen)?;
-            gathered.note_row(path, value)
-        }
+        Ok(value) => note_item(alloc, gathered, spot, value),
         Err(Refusal::Bad(kind)) => note_bare(alloc, gathered, spot, kind),
         Err(Refusal::NoMemory) => Err(NoMemory),
     }
@@ -126,7 +153,8 @@ fn read_items(
     leaf_type: &LeafType,
     items: &[Json],
 ) -> Result<(), NoMemory>
-    ensures { OnOk result (gathered.new ≡ all_noted gathered.old (spec.items_found schema.now (spec.leaf_item (spot_of spot.now) leaf_type.now) (items_view items.now))) }
+    ensures { OnOk result (gathered.new
+        ≡ all_noted gathered.old (spec.items_found schema.now (spec.leaf_item (spot_of spot.now) leaf_type.now) (items_view items.now))) }
 {
     for item in items {
         read_item(alloc, gathered, spot, leaf_type, item)?;
@@ -210,6 +238,40 @@ fn note_presence(
     gathered.note_row(path, Value::Present)
 }
 
+// Notes the row of an entry.
+fn note_own_row(alloc: Global, gathered: &mut Gathered, path: &Path) -> Result<(), NoMemory>
+    ensures { OnOk result (gathered.new ≡ noted gathered.old (spec.row path.now Present)) }
+{
+    gathered.note_row(path.copy(alloc)?, Value::Present)
+}
+
+// Notes the faults of an entry's keys, and its row where each key has a value. Then its members are left, at the path.
+fn note_entry(
+    alloc: Global,
+    schema: &Schema,
+    gathered: &mut Gathered,
+    spot: &Spot,
+    members: &Map<String, Json>,
+    keys: &[usize],
+) -> Result<Option<Path>, NoMemory>
+    ensures { IfOk result (λ path. GoesOn schema.now (Some spot.now.number) (members_view members.now.entries) gathered.new path
+        (all_noted gathered.old (spec.found schema.now (spec.list_item (spot_of spot.now) keys.now) (object (members_view members.now.entries))))) }
+{
+    let values = read_keys(alloc, schema, gathered, spot, members, keys)?;
+    if values.len() != keys.len() {
+        drop(values);
+        return Ok(None);
+    }
+    let path = step_below(alloc, spot.above, spot.node, Chosen::Keys(values))?;
+    match note_own_row(alloc, gathered, &path) {
+        Ok(()) => Ok(Some(path)),
+        Err(fault) => {
+            drop(path);
+            Err(fault)
+        }
+    }
+}
+
 /// The members of an object, of a node or at the top.
 #[cycle(walk)]
 pub fn read_members(
@@ -220,7 +282,8 @@ pub fn read_members(
     within: Option<usize>,
     all: &Map<String, Json>,
 ) -> Result<(), NoMemory>
-    ensures { OnOk result (gathered.new ≡ all_noted gathered.old (spec.members_found schema.now above.now within (members_view all.now.entries) (members_view all.now.entries))) }
+    ensures { OnOk result (gathered.new
+        ≡ all_noted gathered.old (spec.members_found schema.now above.now within (members_view all.now.entries) (members_view all.now.entries))) }
 {
     for (name, part) in all {
         let name = name.as_str();
@@ -272,7 +335,8 @@ fn read_node(
     spot: &Spot,
     part: &Json,
 ) -> Result<(), NoMemory>
-    ensures { OnOk result (gathered.new ≡ all_noted gathered.old (spec.found schema.now (spec.wanted_as (spot_of spot.now) spot.now.node.now.kind) (view part.now))) }
+    ensures { OnOk result
+        (gathered.new ≡ all_noted gathered.old (spec.found schema.now (spec.wanted_as (spot_of spot.now) spot.now.node.now.kind) (view part.now))) }
 {
     match &spot.node.kind {
         NodeKind::Container { presence } => {
@@ -306,7 +370,9 @@ fn read_container(
         Json::Object(members) => {
             note_presence(alloc, gathered, spot, presence)?;
             let path = step_below(alloc, spot.above, spot.node, Chosen::Whole)?;
-            read_members(alloc, schema, gathered, &path, Some(spot.number), members)
+            let read = read_members(alloc, schema, gathered, &path, Some(spot.number), members);
+            drop(path);
+            read
         }
         _ => note_misfit(alloc, gathered, spot),
     }
@@ -340,7 +406,8 @@ fn read_entries(
     keys: &[usize],
     items: &[Json],
 ) -> Result<(), NoMemory>
-    ensures { OnOk result (gathered.new ≡ all_noted gathered.old (spec.items_found schema.now (spec.list_item (spot_of spot.now) keys.now) (items_view items.now))) }
+    ensures { OnOk result
+        (gathered.new ≡ all_noted gathered.old (spec.items_found schema.now (spec.list_item (spot_of spot.now) keys.now) (items_view items.now))) }
 {
     for item in items {
         read_entry(alloc, schema, gathered, spot, keys, item)?;
@@ -361,15 +428,14 @@ fn read_entry(
     ensures { OnOk result (gathered.new ≡ all_noted gathered.old (spec.found schema.now (spec.list_item (spot_of spot.now) keys.now) (view part.now))) }
 {
     match part {
-        Json::Object(members) => {
-            let values = read_keys(alloc, schema, gathered, spot, members, keys)?;
-            if values.len() != keys.len() {
-                return Ok(());
+        Json::Object(members) => match note_entry(alloc, schema, gathered, spot, members, keys)? {
+            None => Ok(()),
+            Some(path) => {
+                let read = read_members(alloc, schema, gathered, &path, Some(spot.number), members);
+                drop(path);
+                read
             }
-            let path = step_below(alloc, spot.above, spot.node, Chosen::Keys(values))?;
-            gathered.note_row(path.copy(alloc)?, Value::Present)?;
-            read_members(alloc, schema, gathered, &path, Some(spot.number), members)
-        }
+        },
         _ => note_misfit(alloc, gathered, spot),
     }
 }

@@ -14,7 +14,7 @@ use crate::put::put_steps;
 use nm_base::NoMemory;
 use nm_config::Config;
 use nm_path::place::Place;
-use nm_tree::Schema;
+use nm_schema_tree::Schema;
 use nm_types::{Path, Value};
 use serde_json::{Map, Value as Json};
 use std::alloc::Global;
@@ -40,7 +40,13 @@ fn whole_value(alloc: Global, schema: &Schema, config: &Config) -> Result<Json, 
 {
     let mut members = Map::new(alloc);
     for (path, value) in config.iter() {
-        put_row(alloc, schema, path, value, &mut members)?;
+        match put_row(alloc, schema, path, value, &mut members) {
+            Ok(()) => {}
+            Err(error) => {
+                drop(members);
+                return Err(error);
+            }
+        }
     }
     Ok(Json::Object(members))
 }
@@ -49,7 +55,8 @@ fn whole_value(alloc: Global, schema: &Schema, config: &Config) -> Result<Json, 
 /// in path order. Where the rows are a configuration of the schema, it is read as that configuration.
 pub fn config_value(alloc: Global, schema: &Schema, config: &Config) -> Result<Json, NoMemory>
     ensures value { IfOk result (λ whole. view whole ≡ spec.config_data schema.now config.now) }
-    ensures same_config { IfOk result (λ whole. IsSound schema.now.nodes → IsConfigOf schema.now config.now → config_read schema.now (view whole) ≡ Ok config.now) }
+    ensures same_config { IfOk result
+        (λ whole. IsSound schema.now.nodes → IsConfigOf schema.now config.now → config_read schema.now (view whole) ≡ Ok config.now) }
 {
     whole_value(alloc, schema, config)
 }
@@ -58,8 +65,10 @@ pub fn config_value(alloc: Global, schema: &Schema, config: &Config) -> Result<J
 /// that configuration if arrays and objects are nested at most 127 deep.
 pub fn write_config(alloc: Global, schema: &Schema, config: &Config) -> Result<String, NoMemory>
     ensures text { IfOk result (λ text. string_bytes text ≡ compact_text (spec.config_data schema.now config.now)) }
-    ensures reads_back { IfOk result (λ text. depth (spec.config_data schema.now config.now) ≤ max_depth → read (string_bytes text) ≡ Some (spec.config_data schema.now config.now)) }
-    ensures same_config { IfOk result (λ text. IsSound schema.now.nodes → IsConfigOf schema.now config.now → depth (spec.config_data schema.now config.now) ≤ max_depth
+    ensures reads_back { IfOk result (λ text. depth (spec.config_data schema.now config.now) ≤ max_depth
+        → read (string_bytes text) ≡ Some (spec.config_data schema.now config.now)) }
+    ensures same_config { IfOk result (λ text. IsSound schema.now.nodes → IsConfigOf schema.now config.now
+        → depth (spec.config_data schema.now config.now) ≤ max_depth
         → text_read schema.now (string_bytes text) ≡ Ok config.now) }
 {
     let whole = config_value(alloc, schema, config)?;

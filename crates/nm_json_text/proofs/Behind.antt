@@ -10,7 +10,7 @@ use Rattle.serde_json.specs.Data.{Data, Members, no_members, member, put}
 use Rattle.serde_json.specs.Find.{get_member}
 use Rattle.serde_json.specs.Written.{members_outline}
 use Rattle.nm_types.specs.declared.value.Value.{Value}
-use Rattle.nm_tree.specs.declared.node.Node.{Node}
+use Rattle.nm_schema_tree.specs.declared.node.Node.{Node}
 use Rattle.nm_path.specs.Spelling.{name_at}
 use Rattle.nm_json.specs.Writing.{value_data, narrow_at, key_members}
 use Rattle.nm_json_text.specs.Passing.{tokens_of, front, join, held, taken, left_over, ascends, is_before_all, Below, Above}

@@ -9,7 +9,7 @@ use Rattle.serde_json.specs.Data.{array, no_items, Members, no_members}
 use Rattle.serde_json.specs.Written.{members_outline}
 use Rattle.nm_types.specs.Path.{PathStep, keys}
 use Rattle.nm_types.specs.declared.value.Value.{Value}
-use Rattle.nm_tree.specs.Nodes.{SchemaTree, keys_at}
+use Rattle.nm_schema_tree.specs.Nodes.{SchemaTree, keys_at}
 use Rattle.nm_path.specs.declared.place.Place.{Place}
 use Rattle.nm_path.specs.Spelling.{found_of, below}
 use Rattle.nm_json.specs.Writing.{key_members, member_name}

@@ -10,7 +10,7 @@ use Rattle.serde_json.specs.Data.{Data, object, array, Items, no_items, item, Me
 use Rattle.serde_json.specs.Written.{items_outline}
 use Rattle.nm_types.specs.Path.{PathStep, Choice, whole, keys, entry}
 use Rattle.nm_types.specs.declared.value.Value.{Value}
-use Rattle.nm_tree.specs.Nodes.{SchemaTree}
+use Rattle.nm_schema_tree.specs.Nodes.{SchemaTree}
 use Rattle.nm_path.specs.Spelling.{below}
 use Rattle.nm_json.specs.Writing.{append, in_last, object_after, put_steps}
 use Rattle.nm_json_text.specs.Passing.{Rest, rest_at, rests, front_length, members_of, goes_below, is_below, behind_first, inner_rests, chosen_after, items_after, tokens_of, items_front, WritesItem}

@@ -4,7 +4,7 @@ use Rattle.json.specs.Token.{Token, end_object}
 use Rattle.json.specs.Tree.{members_tokens}
 use Rattle.serde_json.specs.Data.{Members, no_members, member}
 use Rattle.serde_json.specs.Written.{members_outline}
-use Rattle.nm_tree.specs.Nodes.{SchemaTree}
+use Rattle.nm_schema_tree.specs.Nodes.{SchemaTree}
 use Rattle.nm_path.specs.declared.place.Place.{Place}
 use Rattle.nm_json_text.specs.Passing.{Rest, members_of, group_data, tokens_of, front, join, is_later, Below, Above}
 use Rattle.nm_json_text.proofs.Behind.{join_assoc, below_join, below_later, front_join, with_end}

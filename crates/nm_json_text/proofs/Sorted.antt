@@ -5,7 +5,7 @@ use Rattle.std.specs.List.{insert}
 use Rattle.std.specs.Ordering.{is_lt, match_ordering}
 use Rattle.serde_json.specs.Data.{Data, member, put}
 use Rattle.nm_types.specs.declared.value.Value.{Value}
-use Rattle.nm_tree.specs.declared.node.Node.{Node}
+use Rattle.nm_schema_tree.specs.declared.node.Node.{Node}
 use Rattle.nm_path.specs.Spelling.{name_at}
 use Rattle.nm_json.specs.Writing.{value_data, narrow_at}
 use Rattle.nm_json_text.specs.Passing.{held, front_keys, is_before_key}

@@ -7,7 +7,7 @@ use Rattle.json.specs.Tree.{members_tokens}
 use Rattle.serde_json.proofs.Texts.{print-outline}
 use Rattle.serde_json.specs.Data.{object, Members, no_members}
 use Rattle.serde_json.specs.Written.{members_outline, compact_text}
-use Rattle.nm_tree.specs.Nodes.{SchemaTree}
+use Rattle.nm_schema_tree.specs.Nodes.{SchemaTree}
 use Rattle.nm_path.specs.declared.place.Place.TheVariants.{Top}
 use Rattle.nm_types.specs.PathLaws.{paths_total, path_cmp-IsAntisymmetric}
 use Rattle.nm_config.specs.Rows.{Rows, with_entries}

@@ -1,1 +1,2 @@
+-- What one pass over rows writes.
 pub mod Passing

@@ -10,14 +10,15 @@ use Rattle.serde_json.specs.Data.{Data, null, object, Items, no_items, item, Mem
 use Rattle.serde_json.specs.Written.{outline}
 use Rattle.nm_types.specs.Path.{PathStep, Choice, whole, keys, entry}
 use Rattle.nm_types.specs.declared.value.Value.{Value}
-use Rattle.nm_tree.specs.declared.node.Node.{Node}
-use Rattle.nm_tree.specs.Nodes.{SchemaTree, keys_at}
+use Rattle.nm_schema_tree.specs.declared.node.Node.{Node}
+use Rattle.nm_schema_tree.specs.Nodes.{SchemaTree, keys_at}
 use Rattle.nm_path.specs.declared.place.Place.{Place}
 use Rattle.nm_path.specs.Spelling.{found_of, below, name_at}
 use Rattle.nm_json.specs.Writing.{value_data, narrow_at, key_members, append, in_last, step_data, put_steps}
 
 -- ---- tokens
 
+-- the tokens of a JSON value
 abbrev pub tokens_of : Data → List Token
 tokens_of d = json_tokens (outline d)
 
@@ -37,6 +38,7 @@ items_front (item d ds) = tokens_of d ++ items_front ds
 abbrev pub Rest : Type 0
 Rest = List PathStep × Value
 
+-- what is left of a row without the first d steps
 abbrev pub rest_at : ℕ → Rest → Rest
 rest_at d r = (drop d r.0, r.1)
 
@@ -50,6 +52,7 @@ abbrev pub front_length : (Rest → Bool) → List Rest → ℕ
 front_length test [] = 0
 front_length test (r ∷ rs) = cond (test r) (suc (front_length test rs)) 0
 
+-- the members of an object once the rest of a row is put into it
 abbrev pub put_rest : SchemaTree → Place → Members → Rest → Members
 put_rest t place ms r = put_steps t place r.0 r.1 ms
 
@@ -60,11 +63,13 @@ members_of t place ms (r ∷ rs) = members_of t place (put_rest t place ms r) rs
 
 -- ---- rows of one node
 
+-- a step chooses no entry
 abbrev pub is_whole : Choice → Bool
 is_whole whole = true
 is_whole (keys vs) = false
 is_whole (entry v) = false
 
+-- no step is left
 abbrev pub is_end : List PathStep → Bool
 is_end [] = true
 is_end (s ∷ ss) = false
@@ -78,9 +83,11 @@ abbrev pub leads_alike : PathStep → List PathStep → Bool
 leads_alike s [] = false
 leads_alike s (u ∷ us) = bytes_eq u.name s.name && (bytes_eq u.«module» s.«module» && goes_alike s.chosen u.chosen us)
 
+-- a row leads to or below the node of a step
 abbrev pub is_alike : PathStep → Rest → Bool
 is_alike s r = leads_alike s r.0
 
+-- each of the rows leads to or below the node of the first step
 abbrev pub alike_to : List PathStep → List Rest → Bool
 alike_to [] rs = false
 alike_to (s ∷ ss) rs = list_all (is_alike s) rs
@@ -108,10 +115,12 @@ group_data t place (r ∷ rs) = data_of t place (after t place None r.0 r.1) rs
 
 -- ---- containers
 
+-- the steps behind the first one
 abbrev pub behind_first : List PathStep → List PathStep
 behind_first [] = []
 behind_first (s ∷ ss) = ss
 
+-- the rows without their first steps
 abbrev pub inner_rests : List Rest → List Rest
 inner_rests [] = []
 inner_rests (r ∷ rs) = (behind_first r.0, r.1) ∷ inner_rests rs
@@ -120,6 +129,7 @@ inner_rests (r ∷ rs) = (behind_first r.0, r.1) ∷ inner_rests rs
 abbrev pub object_of : SchemaTree → Option ℕ → Members → List Rest → Data
 object_of t at ms rs = object (members_of t (below at) ms (inner_rests rs))
 
+-- the JSON value of a node with its own value: that value where nothing leads below, and else an object into which all is put
 abbrev pub leaf_or_object : SchemaTree → Option ℕ → List PathStep → Value → List Rest → Data
 leaf_or_object t at (s ∷ []) v [] = value_data (narrow_at t.nodes at) v
 leaf_or_object t at ss v rs = object_of t at no_members ((ss, v) ∷ rs)
@@ -131,6 +141,7 @@ whole_data t at (r ∷ rs) = leaf_or_object t at r.0 r.1 rs
 
 -- ---- lists
 
+-- what is chosen is an entry of a list by its keys, and steps lead on below it
 abbrev pub goes_below : Choice → List PathStep → Bool
 goes_below whole ss = false
 goes_below (keys vs) ss = not (is_end ss)
@@ -141,6 +152,7 @@ abbrev pub leads_below : List PathStep → Bool
 leads_below [] = false
 leads_below (s ∷ ss) = goes_below s.chosen ss
 
+-- what is left of a row leads below an entry of a list
 abbrev pub is_below : Rest → Bool
 is_below r = leads_below r.0
 
@@ -151,10 +163,12 @@ chosen_after t at ds (entry w) ss v = append ds (value_data (narrow_at t.nodes a
 chosen_after t at ds (keys ks) [] v = append ds (object (key_members t.nodes (keys_at t.nodes at) ks no_members))
 chosen_after t at ds (keys ks) (s ∷ ss) v = in_last (put_steps t (below at) (s ∷ ss) v) ds
 
+-- the items of an array once a row with its steps is put there
 abbrev pub item_after : SchemaTree → Option ℕ → Items → List PathStep → Value → Items
 item_after t at ds [] v = ds
 item_after t at ds (s ∷ ss) v = chosen_after t at ds s.chosen ss v
 
+-- the items of an array once rows are put there, one after another
 abbrev pub items_after : SchemaTree → Option ℕ → Items → List Rest → Items
 items_after t at ds [] = ds
 items_after t at ds (r ∷ rs) = items_after t at (item_after t at ds r.0 r.1) rs
@@ -188,6 +202,7 @@ held nodes [] vs = no_members
 held nodes (k ∷ ks) [] = no_members
 held nodes (k ∷ ks) (v ∷ vs) = member (name_at nodes k) (value_data (narrow_at nodes (Some k)) v) (held nodes ks vs)
 
+-- the tokens of one key of an entry: its name and its value
 abbrev pub key_tokens : List Node → ℕ → Value → List Token
 key_tokens nodes k v = Token.key (name_at nodes k) ∷ tokens_of (value_data (narrow_at nodes (Some k)) v)
 
@@ -211,7 +226,8 @@ abbrev pub taken : List Node → List ℕ → List ℕ → List Value → Member
 taken nodes name [] vs = no_members
 taken nodes name (k ∷ ks) [] = no_members
 taken nodes name (k ∷ ks) (v ∷ vs) =
-    cond (is_lt (slice_cmp nat_cmp (name_at nodes k) name)) (member (name_at nodes k) (value_data (narrow_at nodes (Some k)) v) (taken nodes name ks vs)) no_members
+    cond (is_lt (slice_cmp nat_cmp (name_at nodes k) name))
+    (member (name_at nodes k) (value_data (narrow_at nodes (Some k)) v) (taken nodes name ks vs)) no_members
 
 -- the members that are the keys behind those
 abbrev pub left_over : List Node → List ℕ → List ℕ → List Value → Members

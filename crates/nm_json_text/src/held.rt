@@ -12,7 +12,7 @@ use crate::text::Text;
 use crate::values::write_value;
 use nm_base::Label;
 use nm_path::place::Place;
-use nm_tree::Schema;
+use nm_schema_tree::Schema;
 use nm_types::{Step, Value};
 use std::alloc::Global;
 

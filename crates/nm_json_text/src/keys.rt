@@ -8,7 +8,7 @@ ghost use Rattle.nm_json_text.specs.Passing as spec;
 
 use crate::nodes::name_of;
 use crate::stop::Stop;
-use nm_tree::Schema;
+use nm_schema_tree::Schema;
 use nm_types::Value;
 use std::alloc::Global;
 
@@ -50,7 +50,8 @@ fn is_before_at(schema: &Schema, name: &str, keys: &[usize], place: usize) -> bo
 fn put_key(schema: &Schema, sorted: &mut SortedKeys, key: usize, value: Value) -> Result<(), Stop>
     requires { length sorted.old.keys.items ≡ length sorted.old.values.items }
     ensures members { OnOk result (spec.held schema.now.nodes sorted.new.keys.items sorted.new.values.items
-        ≡ put (name_at schema.now.nodes key) (value_data (narrow_at schema.now.nodes (Some key)) value) (spec.held schema.now.nodes sorted.old.keys.items sorted.old.values.items)) }
+        ≡ put (name_at schema.now.nodes key) (value_data (narrow_at schema.now.nodes (Some key)) value)
+        (spec.held schema.now.nodes sorted.old.keys.items sorted.old.values.items)) }
     ensures even { OnOk result (length sorted.new.keys.items ≡ length sorted.new.values.items) }
 {
     let name = name_of(schema, key);
@@ -70,7 +71,8 @@ pub fn sorted_keys(
     keys: &[usize],
     values: &[Value],
 ) -> Result<SortedKeys, Stop>
-    ensures { IfOk result (λ sorted. spec.held schema.now.nodes sorted.keys.items sorted.values.items ≡ key_members schema.now.nodes keys.now values.now no_members) }
+    ensures { IfOk result
+        (λ sorted. spec.held schema.now.nodes sorted.keys.items sorted.values.items ≡ key_members schema.now.nodes keys.now values.now no_members) }
 {
     let mut sorted = SortedKeys {
         keys: Vec::new(alloc),

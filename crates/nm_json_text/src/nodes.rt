@@ -2,7 +2,7 @@
 
 ghost use Rattle.std.specs.Prelude.{◌≡◌, Some, IfOk};
 ghost use Rattle.nm_path.specs.Spelling.{found_of as found_at, below as place_below, name_at};
-ghost use Rattle.nm_tree.specs.Nodes.{keys_at};
+ghost use Rattle.nm_schema_tree.specs.Nodes.{keys_at};
 ghost use Rattle.nm_json.specs.Writing as spec;
 
 use nm_base::{Label, NoMemory};
@@ -10,7 +10,7 @@ use nm_json::gathered::with_module;
 use nm_json::leafs::is_narrow;
 use nm_json::names::is_owner;
 use nm_path::place::Place;
-use nm_tree::Schema;
+use nm_schema_tree::Schema;
 use nm_types::{LeafType, Step, TypeKind};
 use std::alloc::Global;
 

@@ -6,7 +6,7 @@ ghost use Rattle.std.specs.Map.Iter.{deref_pair};
 ghost use Rattle.json.specs.Tree.{members_tokens};
 ghost use Rattle.serde_json.specs.Data.{array, no_items, no_members};
 ghost use Rattle.serde_json.specs.Written.{members_outline};
-ghost use Rattle.nm_tree.specs.Nodes.{keys_at};
+ghost use Rattle.nm_schema_tree.specs.Nodes.{keys_at};
 ghost use Rattle.nm_json.specs.Writing.{key_members};
 ghost use Rattle.nm_json_text.specs.Passing as spec;
 
@@ -19,7 +19,7 @@ use crate::text::Text;
 use crate::values::write_value;
 use nm_base::Label;
 use nm_path::place::Place;
-use nm_tree::Schema;
+use nm_schema_tree::Schema;
 use nm_types::{Chosen, Path, Value};
 
 /// The members of an object and its end: of these keys, and of rows by their steps behind so many. At most so many levels
@@ -36,7 +36,8 @@ pub fn write_members<'r>(
     values: &[Value],
 ) -> Result<(), Stop>
     ensures { OnOk result (out.new ≡ out.old
-        ++ members_tokens (members_outline (spec.members_of schema.now place (spec.held schema.now.nodes keys.now values.now) (spec.rests depth (each deref_pair rows.now))))) }
+        ++ members_tokens (members_outline
+        (spec.members_of schema.now place (spec.held schema.now.nodes keys.now values.now) (spec.rests depth (each deref_pair rows.now))))) }
 {
     let Some(levels) = levels.checked_sub(1) else {
         return Err(Stop::OutOfOrder);
@@ -154,7 +155,8 @@ fn write_items<'r>(
     levels: usize,
     group: &[(&'r Path, &'r Value)],
 ) -> Result<(), Stop>
-    ensures { OnOk result (out.new ≡ out.old ++ spec.tokens_of (array (spec.items_after schema.now at no_items (spec.rests depth (each deref_pair group.now))))) }
+    ensures { OnOk result
+        (out.new ≡ out.old ++ spec.tokens_of (array (spec.items_after schema.now at no_items (spec.rests depth (each deref_pair group.now))))) }
 {
     out.begin_array()?;
     let mut done = 0usize;
@@ -212,7 +214,9 @@ fn write_entry<'r>(
     inner: &[(&'r Path, &'r Value)],
 ) -> Result<(), Stop>
     ensures { OnOk result (out.new ≡ out.old
-        ++ spec.tokens_of (spec.object_of schema.now at (key_members schema.now.nodes (keys_at schema.now.nodes at) values.now no_members) (spec.rests depth (each deref_pair inner.now)))) }
+        ++ spec.tokens_of (spec.object_of schema.now at
+        (key_members schema.now.nodes (keys_at schema.now.nodes at) values.now no_members)
+        (spec.rests depth (each deref_pair inner.now)))) }
 {
     let keys = keys_of(schema, at);
     if ascends(schema, keys) {

@@ -1,3 +1,5 @@
+//! Why writing ends before the last row: no memory, or rows that are in no order.
+
 use nm_base::NoMemory;
 use std::alloc::{AllocError, AllocFailed};
 

@@ -15,7 +15,7 @@ use nm_base::NoMemory;
 use nm_config::{Config, RowMap};
 use nm_json::write_config;
 use nm_path::place::Place;
-use nm_tree::Schema;
+use nm_schema_tree::Schema;
 use nm_types::{Path, Value};
 use std::alloc::Global;
 

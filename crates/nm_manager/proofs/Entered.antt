@@ -1,4 +1,4 @@
--- What is true of every ledger is true of one whose journal took an entry.
+-- What is true of every journal_queues is true of one whose journal took an entry.
 use Rattle.std.proofs.Common.{◌≡◌, Bool, false, List, [], ◌∷◌, ◌++◌, Option, None, sym, ap, ◌∙◌, subst}
 use Rattle.nm_proto.specs.declared.journal.Entry.{Entry}
 use Rattle.nm_journal.specs.Fits.{JournalState}

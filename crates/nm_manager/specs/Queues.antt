@@ -11,21 +11,22 @@ use Rattle.nm_journal.specs.Fits.{JournalState}
 use Rattle.nm_recovery.specs.Recovery.{is_ended_in}
 
 -- the journal, and whether the manager has failed
-pub record LedgerState : Type 0 where
+pub record JournalQueuesState : Type 0 where
   pub entries : List Entry
   pub failed : Option Entry
   pub has_failed : Bool
 
-abbrev pub journal_of : LedgerState → JournalState
-journal_of ledger = record { entries = ledger.entries; failed = ledger.failed }
+abbrev pub journal_of : JournalQueuesState → JournalState
+journal_of journal_queues = record { entries = journal_queues.entries; failed = journal_queues.failed }
 
 -- an entry comes into the journal, where it may come next
-abbrev pub entered : LedgerState → Entry → LedgerState
-entered ledger entry = if may_follow ledger.entries entry then record ledger { entries = ledger.entries ++ entry ∷ [] } else ledger
+abbrev pub entered : JournalQueuesState → Entry → JournalQueuesState
+entered journal_queues entry = if may_follow journal_queues.entries entry
+    then record journal_queues { entries = journal_queues.entries ++ entry ∷ [] } else journal_queues
 
 -- the disk failed at an entry
-abbrev pub failed_at : LedgerState → Entry → LedgerState
-failed_at ledger entry = record ledger { failed = Some entry; has_failed = true }
+abbrev pub failed_at : JournalQueuesState → Entry → JournalQueuesState
+failed_at journal_queues entry = record journal_queues { failed = Some entry; has_failed = true }
 
 -- ---- who is ready
 

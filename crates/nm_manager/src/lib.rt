@@ -6,8 +6,8 @@
 #![tactic(auto)]
 
 pub mod action;
+mod journal_queues;
 pub mod laws;
-mod ledger;
 pub mod manager;
 mod request;
 mod slot;

@@ -15,7 +15,7 @@ ghost use Rattle.nm_proto.specs.declared.journal.Entry.TheVariants.{Decided, End
 ghost use Rattle.nm_manager.specs.declared.action.TurnFault.TheVariants as fault;
 
 use crate::action::{Action, TurnFault};
-use crate::ledger::Ledger;
+use crate::journal_queues::JournalQueues;
 use crate::slot::Slot;
 use nm_base::{ChangeNo, DeviceMask, DeviceNo, NoMemory, SessionId};
 use nm_decider::NextAction;
@@ -34,7 +34,7 @@ pub struct Manager {
     // Change set c and what is kept of it stand at place c - 1.
     plans: Listed<ChangePlan>,
     slots: Vec<Slot>,
-    ledger: Ledger,
+    journal_queues: JournalQueues,
 }
 
 impl Model for Manager {
@@ -47,9 +47,9 @@ impl Model for Manager {
 
     ghost view = { λ m. record {
       plans = m.plans;
-      failed = m.ledger.failed;
-      has_failed = m.ledger.has_failed;
-      state = record { entries = m.ledger.entries; slots = m.slots.items };
+      failed = m.journal_queues.failed;
+      has_failed = m.journal_queues.has_failed;
+      state = record { entries = m.journal_queues.entries; slots = m.slots.items };
     } };
 
     ghost invariant = { λ m. (length m.slots.items ≡ length m.plans) × All IsWellFormed m.plans × (length m.plans ≤ 64) };
@@ -74,7 +74,7 @@ impl Manager {
             alloc,
             plans: changes,
             slots,
-            ledger: Ledger::new(journal),
+            journal_queues: JournalQueues::new(journal),
         })
     }
 
@@ -83,15 +83,16 @@ impl Manager {
     pub fn submit<D: Disk>(&mut self, disk: &mut D, change: ChangeNo) -> Result<Action, TurnFault>
         requires given { change ≤ length self.old.plans }
         requires going { self.old.has_failed ≡ false }
-        requires fits { Fits D.told D.may_leave (journal_of self.old) disk.old }
+        requires fits { Fits (journal_of self.old) (D.state disk.old) }
         ensures stepped { IfOk result (λ action. record { action = action; state = self.new.state } ≡ submitted self.old.plans self.old.state change) }
         ensures others { OnOk result (self.new ≡ with_state self.old self.new.state) }
         ensures fault { IfErr result (λ why. why ≡ fault.DiskFault) }
-        ensures disk_fault { OnErr result (Rose (D.faults disk.old) (D.faults disk.new)) }
+        ensures disk_fault { OnErr result (Rose (D.state disk.old).faults (D.state disk.new).faults) }
         ensures failed { OnErr result (FailsAt (start_at self.old.plans change) self.old self.new) }
-        ensures keeps { KeepsJournal D.told D.faults D.may_leave (journal_of self.new) disk.old disk.new }
+        ensures keeps { KeepsJournal (journal_of self.new) (D.state disk.old) (D.state disk.new) }
         // A crash at any moment of the call leaves the entries from before it, with the new one or without.
-        ensures any_moment { IsSome (D.told disk.old) → AnyMoment D.moment D.might_have_left disk.old disk.new (MayRead self.old.state.entries (start_at self.old.plans change)) }
+        ensures any_moment { IsSome (D.state disk.old).contents
+            → AnyMoment (D.state disk.old) (D.state disk.new) (MayRead self.old.state.entries (start_at self.old.plans change)) }
     {
         let plan = &self.plans.as_slice()[place_of(change)];
         let entry = Entry::Started {
@@ -99,7 +100,7 @@ impl Manager {
             devices: plan.devices(),
             timeout: Some(plan.timeout),
         };
-        if self.ledger.enter(disk, entry)? {
+        if self.journal_queues.enter(disk, entry)? {
             Ok(Action::Started)
         } else {
             Ok(Action::Idle)
@@ -118,18 +119,19 @@ impl Manager {
     pub fn turn<D: Disk>(&mut self, disk: &mut D, change: ChangeNo) -> Result<Action, TurnFault>
         requires given { change ≤ length self.old.plans }
         requires going { self.old.has_failed ≡ false }
-        requires fits { Fits D.told D.may_leave (journal_of self.old) disk.old }
+        requires fits { Fits (journal_of self.old) (D.state disk.old) }
         ensures stepped { IfOk result (λ action. record { action = action; state = self.new.state } ≡ turned self.old.plans self.old.state change) }
         ensures others { OnOk result (self.new ≡ with_state self.old self.new.state) }
-        ensures keeps { KeepsJournal D.told D.faults D.may_leave (journal_of self.new) disk.old disk.new }
+        ensures keeps { KeepsJournal (journal_of self.new) (D.state disk.old) (D.state disk.new) }
         ensures no_memory { result ≡ Err fault.NoMemory → (self.new ≡ self.old) × (disk.new ≡ disk.old) }
-        ensures disk_fault { result ≡ Err fault.DiskFault → Rose (D.faults disk.old) (D.faults disk.new) }
+        ensures disk_fault { result ≡ Err fault.DiskFault → Rose (D.state disk.old).faults (D.state disk.new).faults }
         ensures failed { result ≡ Err fault.DiskFault → FailsAt (entry_turned self.old.state change) self.old self.new }
         // A crash at any moment of the call leaves the entries from before it, with the new one or without.
-        ensures any_moment { IsSome (D.told disk.old) → AnyMoment D.moment D.might_have_left disk.old disk.new (MayRead self.old.state.entries (entry_turned self.old.state change)) }
+        ensures any_moment { IsSome (D.state disk.old).contents
+            → AnyMoment (D.state disk.old) (D.state disk.new) (MayRead self.old.state.entries (entry_turned self.old.state change)) }
         ensures no_other { IfErr result (λ why. (why ≡ fault.NoMemory) ⊎ (why ≡ fault.DiskFault)) }
     {
-        if !self.ledger.is_ready(change) {
+        if !self.journal_queues.is_ready(change) {
             return Ok(Action::Idle);
         }
         let action = self.slots[place_of(change)].course().next_action();
@@ -146,14 +148,15 @@ impl Manager {
         requires given { change ≤ length self.old.plans }
         requires going { self.old.has_failed ≡ false }
         requires whole { self.old.failed ≡ None }
-        requires fits { Fits D.told D.may_leave (journal_of self.old) disk.old }
+        requires fits { Fits (journal_of self.old) (D.state disk.old) }
         ensures stepped { IfOk result (λ done. record { action = done; state = self.new.state } ≡ acts self.old.plans self.old.state change action.now) }
         ensures others { OnOk result (self.new ≡ with_state self.old self.new.state) }
-        ensures keeps { KeepsJournal D.told D.faults D.may_leave (journal_of self.new) disk.old disk.new }
+        ensures keeps { KeepsJournal (journal_of self.new) (D.state disk.old) (D.state disk.new) }
         ensures no_memory { result ≡ Err fault.NoMemory → (self.new ≡ self.old) × (disk.new ≡ disk.old) }
-        ensures disk_fault { result ≡ Err fault.DiskFault → Rose (D.faults disk.old) (D.faults disk.new) }
+        ensures disk_fault { result ≡ Err fault.DiskFault → Rose (D.state disk.old).faults (D.state disk.new).faults }
         ensures failed { result ≡ Err fault.DiskFault → FailsAt (entry_of change action.now) self.old self.new }
-        ensures any_moment { IsSome (D.told disk.old) → AnyMoment D.moment D.might_have_left disk.old disk.new (MayRead self.old.state.entries (entry_of change action.now)) }
+        ensures any_moment { IsSome (D.state disk.old).contents
+            → AnyMoment (D.state disk.old) (D.state disk.new) (MayRead self.old.state.entries (entry_of change action.now)) }
         ensures no_other { IfErr result (λ why. (why ≡ fault.NoMemory) ⊎ (why ≡ fault.DiskFault)) }
     {
         match action {
@@ -170,12 +173,19 @@ impl Manager {
     // Asks this of a device.
     fn send(&mut self, change: ChangeNo, device: DeviceNo, ask: Ask) -> Result<Action, NoMemory>
         requires given { change ≤ length self.old.plans }
-        ensures stepped { IfOk result (λ action. record { action = action; state = self.new.state } ≡ sent_by self.old.state change (slice_get self.old.plans (change - 1)) (slot_at self.old.state change) device ask) }
+        ensures stepped { IfOk result (λ action. record { action = action; state = self.new.state }
+            ≡ sent_by self.old.state change (slice_get self.old.plans (change - 1)) (slot_at self.old.state change) device ask) }
         ensures others { OnOk result (self.new ≡ with_state self.old self.new.state) }
         ensures unchanged { OnErr result (self.new ≡ self.old) }
     {
         let plan = &self.plans.as_slice()[place_of(change)];
-        self.slots[place_of(change)].send(self.alloc, plan, self.ledger.entries(), device, ask)
+        self.slots[place_of(change)].send(
+            self.alloc,
+            plan,
+            self.journal_queues.entries(),
+            device,
+            ask,
+        )
     }
 
     // The verdict comes into the journal, and then to the course.
@@ -187,17 +197,19 @@ impl Manager {
     ) -> Result<Action, TurnFault>
         requires given { change ≤ length self.old.plans }
         requires going { self.old.has_failed ≡ false }
-        requires fits { Fits D.told D.may_leave (journal_of self.old) disk.old }
-        ensures stepped { IfOk result (λ action. record { action = action; state = self.new.state } ≡ decided_by self.old.state change verdict (slot_at self.old.state change)) }
+        requires fits { Fits (journal_of self.old) (D.state disk.old) }
+        ensures stepped { IfOk result (λ action. record { action = action; state = self.new.state }
+            ≡ decided_by self.old.state change verdict (slot_at self.old.state change)) }
         ensures others { OnOk result (self.new ≡ with_state self.old self.new.state) }
         ensures failed { OnErr result (self.new ≡ failed_at self.old (Decided change verdict)) }
-        ensures any_moment { IsSome (D.told disk.old) → AnyMoment D.moment D.might_have_left disk.old disk.new (ReadsWithOrWithout self.old.state.entries (Decided change verdict)) }
+        ensures any_moment { IsSome (D.state disk.old).contents
+            → AnyMoment (D.state disk.old) (D.state disk.new) (ReadsWithOrWithout self.old.state.entries (Decided change verdict)) }
         ensures fault { IfErr result (λ why. why ≡ fault.DiskFault) }
-        ensures disk_fault { OnErr result (Rose (D.faults disk.old) (D.faults disk.new)) }
-        ensures keeps { KeepsJournal D.told D.faults D.may_leave (journal_of self.new) disk.old disk.new }
+        ensures disk_fault { OnErr result (Rose (D.state disk.old).faults (D.state disk.new).faults) }
+        ensures keeps { KeepsJournal (journal_of self.new) (D.state disk.old) (D.state disk.new) }
     {
         let entry = Entry::Decided { change, verdict };
-        if !self.ledger.enter(disk, entry)? {
+        if !self.journal_queues.enter(disk, entry)? {
             return Ok(Action::Idle);
         }
         self.slots[place_of(change)].decide(verdict);
@@ -212,16 +224,20 @@ impl Manager {
         kept: DeviceMask,
     ) -> Result<Action, TurnFault>
         requires going { self.old.has_failed ≡ false }
-        requires fits { Fits D.told D.may_leave (journal_of self.old) disk.old }
+        requires fits { Fits (journal_of self.old) (D.state disk.old) }
         ensures stepped { IfOk result (λ action. record { action = action; state = self.new.state } ≡ finishes self.old.state (Ended change kept)) }
         ensures others { OnOk result (self.new ≡ with_state self.old self.new.state) }
         ensures failed { OnErr result (self.new ≡ failed_at self.old (Ended change kept)) }
-        ensures any_moment { IsSome (D.told disk.old) → AnyMoment D.moment D.might_have_left disk.old disk.new (ReadsWithOrWithout self.old.state.entries (Ended change kept)) }
+        ensures any_moment { IsSome (D.state disk.old).contents
+            → AnyMoment (D.state disk.old) (D.state disk.new) (ReadsWithOrWithout self.old.state.entries (Ended change kept)) }
         ensures fault { IfErr result (λ why. why ≡ fault.DiskFault) }
-        ensures disk_fault { OnErr result (Rose (D.faults disk.old) (D.faults disk.new)) }
-        ensures keeps { KeepsJournal D.told D.faults D.may_leave (journal_of self.new) disk.old disk.new }
+        ensures disk_fault { OnErr result (Rose (D.state disk.old).faults (D.state disk.new).faults) }
+        ensures keeps { KeepsJournal (journal_of self.new) (D.state disk.old) (D.state disk.new) }
     {
-        if !self.ledger.enter(disk, Entry::Ended { change, kept })? {
+        if !self
+            .journal_queues
+            .enter(disk, Entry::Ended { change, kept })?
+        {
             return Ok(Action::Idle);
         }
         Ok(Action::Ended)
@@ -256,7 +272,7 @@ impl Manager {
         ensures entries { self.new.state.entries ≡ self.old.state.entries }
         ensures others { self.new ≡ with_state self.old self.new.state }
     {
-        let entries = self.ledger.entries();
+        let entries = self.journal_queues.entries();
         if !is_started(entries, change) || is_ended_in(entries, change) {
             return Action::Idle;
         }
@@ -275,11 +291,11 @@ impl Manager {
         ensures others { OnOk result (self.new ≡ with_state self.old self.new.state) }
         ensures unchanged { OnErr result (self.new ≡ self.old) }
     {
-        if !self.ledger.is_ready(change) {
+        if !self.journal_queues.is_ready(change) {
             return Ok(Action::Idle);
         }
         let plan = &self.plans.as_slice()[place_of(change)];
-        self.slots[place_of(change)].renew(self.alloc, plan, self.ledger.entries(), device)
+        self.slots[place_of(change)].renew(self.alloc, plan, self.journal_queues.entries(), device)
     }
 }
 
@@ -300,7 +316,7 @@ impl Manager {
     pub fn is_ready(&self, change: ChangeNo) -> bool
         ensures { result ≡ is_ready_in self.now.state.entries change }
     {
-        self.ledger.is_ready(change)
+        self.journal_queues.is_ready(change)
     }
 
     /// The request that asks this of a device for a change set, and None where there is none.
@@ -315,7 +331,7 @@ impl Manager {
     {
         let plan = &self.plans.as_slice()[place_of(change)];
         let slot = &self.slots[place_of(change)];
-        slot.request_to(self.alloc, plan, self.ledger.entries(), device, ask)
+        slot.request_to(self.alloc, plan, self.journal_queues.entries(), device, ask)
     }
 
     /// The request that the next turn of a change set sends, and None where it sends none.
@@ -323,7 +339,7 @@ impl Manager {
         requires given { change ≤ length self.now.plans }
         ensures { IfOk result (λ request. request ≡ request_next self.now.plans self.now.state change) }
     {
-        if !self.ledger.is_ready(change) {
+        if !self.journal_queues.is_ready(change) {
             return Ok(None);
         }
         let action = self.slots[place_of(change)].course().next_action();
@@ -361,22 +377,23 @@ impl Manager {
     /// Where it can't, the manager has failed until it can, and nothing else has changed. It takes the room for the entries first.
     pub fn recover<D: Disk>(&mut self, disk: &mut D) -> Result<(), TurnFault>
         ensures recovered { OnOk result (self.new ≡ recovered self.old self.new.state.entries) }
-        ensures read { OnOk result (IfSome (D.told disk.old) (ReadsAs self.new.state.entries)) }
+        ensures read { OnOk result (IfSome (D.state disk.old).contents (ReadsAs self.new.state.entries)) }
         ensures given { OnOk result (position (is_strange self.old.plans) self.new.state.entries ≡ None) }
-        ensures fits { OnOk result (Fits D.told D.may_leave (journal_of self.new) disk.new) }
+        ensures fits { OnOk result (Fits (journal_of self.new) (D.state disk.new)) }
         ensures failed { OnErr result (self.new ≡ record self.old { has_failed = true }) }
         ensures damaged { (offset : ℕ) → result ≡ Err (fault.Damaged offset)
-            → IfSome (D.told disk.old) (IsDamagedAt offset) ⊎ IsStrangeAt self.old.plans (D.told disk.old) offset }
-        ensures disk_fault { result ≡ Err fault.DiskFault → Rose (D.faults disk.old) (D.faults disk.new) }
+            → IfSome (D.state disk.old).contents (IsDamagedAt offset) ⊎ IsStrangeAt self.old.plans (D.state disk.old).contents offset }
+        ensures disk_fault { result ≡ Err fault.DiskFault → Rose (D.state disk.old).faults (D.state disk.new).faults }
         ensures no_memory { result ≡ Err fault.NoMemory → disk.new ≡ disk.old }
         // A crash during the call leaves an image that was there, or one that reads as the same list.
-        ensures any_moment { IfSome (D.told disk.old) (λ bytes. AnyMoment D.moment D.might_have_left disk.old disk.new (WasThereOrReadsAs (D.may_leave disk.old) bytes)) }
-        ensures keeps { KeepsDisk D.told D.faults disk.old disk.new }
+        ensures any_moment { IfSome (D.state disk.old).contents
+            (λ bytes. AnyMoment (D.state disk.old) (D.state disk.new) (WasThereOrReadsAs (D.state disk.old) bytes)) }
+        ensures keeps { KeepsDisk (D.state disk.old) (D.state disk.new) }
     {
         match Journal::reopen(self.alloc, disk) {
             Ok((journal, _)) => self.start_anew(journal),
             Err(fault) => {
-                self.ledger.fail();
+                self.journal_queues.fail();
                 Err(fault_of(&fault))
             }
         }
@@ -388,16 +405,17 @@ impl Manager {
         ensures recovered { OnOk result (self.new ≡ recovered self.old journal.entries) }
         ensures given { OnOk result (position (is_strange self.old.plans) journal.entries ≡ None) }
         ensures failed { OnErr result (self.new ≡ record self.old { has_failed = true }) }
-        ensures damaged { IfErr result (λ why. (place : ℕ) × (position (is_strange self.old.plans) journal.entries ≡ Some place) × (why ≡ fault.Damaged (16 * place))) }
+        ensures damaged { IfErr result (λ why. (place : ℕ) × (position (is_strange self.old.plans) journal.entries ≡ Some place)
+            × (why ≡ fault.Damaged (16 * place))) }
     {
         if let Some(place) = first_strange(self.plans.as_slice(), journal.entries()) {
-            self.ledger.fail();
+            self.journal_queues.fail();
             return Err(TurnFault::Damaged {
                 offset: 16 * place as u64,
             });
         }
         all_anew(&mut self.slots, self.plans.as_slice(), journal.entries());
-        self.ledger = Ledger::reopened(journal);
+        self.journal_queues = JournalQueues::reopened(journal);
         Ok(())
     }
 }
@@ -480,14 +498,14 @@ impl Manager {
         ensures value { result.now ≡ self.now.state.entries }
         ensures whole { self.now.has_failed ≡ false → self.now.failed ≡ None }
     {
-        self.ledger.entries()
+        self.journal_queues.entries()
     }
 
     /// Whether the manager has failed: its journal takes no more.
     pub fn has_failed(&self) -> bool
         ensures { result ≡ self.now.has_failed }
     {
-        self.ledger.has_failed()
+        self.journal_queues.has_failed()
     }
 
     // The links to a device.

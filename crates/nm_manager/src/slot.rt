@@ -299,7 +299,8 @@ fn send_on(
     device: DeviceNo,
     ask: Ask,
 ) -> Result<Action, NoMemory>
-    ensures sent { IfOk result (λ action. record { action = action; course = course.new; side = side.new } ≡ sends_pair plan.now entries.now course.old side.old device ask) }
+    ensures sent { IfOk result (λ action. record { action = action; course = course.new; side = side.new }
+        ≡ sends_pair plan.now entries.now course.old side.old device ask) }
     ensures course_unchanged { OnErr result (course.new ≡ course.old) }
     ensures side_unchanged { OnErr result (side.new ≡ side.old) }
 {
@@ -325,7 +326,8 @@ fn renew_on(
     side: &mut Side,
     device: DeviceNo,
 ) -> Result<Action, NoMemory>
-    ensures sent { IfOk result (λ action. record { action = action; course = course.new; side = side.new } ≡ renews_pair plan.now entries.now course.old side.old device) }
+    ensures sent { IfOk result (λ action. record { action = action; course = course.new; side = side.new }
+        ≡ renews_pair plan.now entries.now course.old side.old device) }
     ensures course_unchanged { OnErr result (course.new ≡ course.old) }
     ensures side_unchanged { OnErr result (side.new ≡ side.old) }
 {

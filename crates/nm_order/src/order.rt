@@ -1,3 +1,5 @@
+//! The change sets in the order in which they were submitted, and what happens to them there.
+
 ghost use Rattle.std.specs.Prelude.{◌≡◌, ◌≢◌, ◌≤◌, ◌<◌, ◌↔◌, ◌++◌, [], ◌∷◌, ℕ, List, true, false, IsSome, IsNone, IfSome, IfNone, length, take, drop};
 ghost use Rattle.nm_base.specs.Mask.{AddsToMask};
 

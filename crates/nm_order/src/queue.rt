@@ -1,3 +1,5 @@
+//! Which change sets are ready, by the queues of their devices: the unfinished one that was submitted first always is.
+
 ghost use Rattle.std.specs.Prelude.{◌≡◌, ◌++◌, ◌∷◌, ℕ, List, true, false};
 ghost use Rattle.std.specs.List.{list_all, list_any};
 ghost use Rattle.nm_order.specs.Queue.{heads_all, waits_for, share_device, is_done, OrderState, is_ready, ready_tickets, are_apart};
@@ -38,7 +40,8 @@ fn share_device(one: DeviceMask, other: DeviceMask) -> bool
 
 /// The unfinished change set that was submitted first is ready, and two that are ready share no device.
 pub fn queues_move_on()
-    ensures first { (finished taken : ℕ) (before later : List ATicket) (ticket : ATicket) → list_all (is_done finished) before ≡ true → is_done finished ticket ≡ false
+    ensures first { (finished taken : ℕ) (before later : List ATicket) (ticket : ATicket)
+        → list_all (is_done finished) before ≡ true → is_done finished ticket ≡ false
         → is_ready (record { tickets = before ++ ticket ∷ later; finished = finished; taken = taken }) ticket.change ≡ true }
     ensures apart { (order : OrderState) → are_apart (ready_tickets order) ≡ true }
 {}

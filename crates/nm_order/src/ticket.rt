@@ -1,3 +1,5 @@
+//! A change set as the queues see it: its number and its devices, and nothing of what it changes.
+
 use nm_base::{ChangeNo, DeviceMask};
 
 /// A change set that was submitted, and its devices.

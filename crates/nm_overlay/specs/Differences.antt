@@ -12,6 +12,7 @@ pub record Overlaid : Type 0 where
   pub base : Rows
   pub rows : Rows
 
+-- how a proof tells overlaid configurations apart: by what lies below and what is seen
 abbrev pub coded_overlaid : Coded Rows → Coded Overlaid
 coded_overlaid c = code_by (Rows × Rows) (coded× c c) (λ o. (o.base, o.rows)) (λ p. record { base = p.0; rows = p.1 }) (λ _. refl)
 

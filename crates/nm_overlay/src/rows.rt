@@ -242,7 +242,8 @@ fn list_turn<'a>(
 ) -> Result<&'a [(Path, Option<Value>)], NoMemory>
     ensures rest { IfOk result (λ rest. rest.now ≡ behind_row path.now (drop (front (is_before path.now) pairs.now) pairs.now)) }
     ensures items { OnOk result (each deref_pair all.new.items
-        ≡ (each deref_pair all.old.items ++ rows_before path.now pairs.now) ++ row_with path.now value.now (drop (front (is_before path.now) pairs.now) pairs.now)) }
+        ≡ (each deref_pair all.old.items ++ rows_before path.now pairs.now)
+        ++ row_with path.now value.now (drop (front (is_before path.now) pairs.now) pairs.now)) }
 {
     let rest = list_before(all, path, pairs)?;
     list_row(all, path, value, rest)

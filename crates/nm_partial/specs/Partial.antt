@@ -38,6 +38,7 @@ module _ {Node : Type 0} where
   abbrev pub no_partials : PartialState Node
   no_partials = record { locks = []; last = 0 }
 
+  -- the id of the next partial lock (RFC 5717 section 2.1.3). None where as many are held as may be, or the greatest id was given
   abbrev pub next_id : PartialState Node → Option ℕ
   next_id partials = id_after (length partials.locks) partials.last
 

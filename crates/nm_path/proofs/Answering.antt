@@ -3,7 +3,7 @@ use Rattle.std.proofs.Common.{◌≡◌, ℕ, List, Option, Some, None, Result, 
 use Rattle.std.specs.Prelude.{IfOk, IsErrOf}
 use Rattle.std.proofs.lemmas.Bool.{cases_Bool}
 use Rattle.nm_types.specs.Path.{PathStep}
-use Rattle.nm_tree.specs.Nodes.{SchemaTree}
+use Rattle.nm_schema_tree.specs.Nodes.{SchemaTree}
 use Rattle.nm_path.specs.declared.fault.PathFault.{PathFault}
 use Rattle.nm_path.specs.declared.fault.PathFault.TheVariants.{Unknown, BadText, NoMemory}
 use Rattle.nm_path.specs.declared.place.Place.TheVariants.{Top}

@@ -7,7 +7,7 @@ use Rattle.nm_path.specs.declared.fault.PathFault.TheVariants.{Unknown, BadText,
 use Rattle.nm_path.specs.declared.form.Predicate.{Predicate}
 use Rattle.nm_types.specs.declared.value.Value.{Value}
 use Rattle.nm_types.specs.Path.{PathStep}
-use Rattle.nm_tree.specs.declared.node.Node.{Node}
+use Rattle.nm_schema_tree.specs.declared.node.Node.{Node}
 use Rattle.nm_path.specs.declared.place.Place.{Place}
 use Rattle.nm_path.specs.declared.place.Place.TheVariants.{Within}
 use Rattle.nm_path.specs.Form.{WrittenStep}

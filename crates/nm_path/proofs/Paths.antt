@@ -14,11 +14,11 @@ use Rattle.nm_types.specs.Path.{Choice, whole, keys, entry, PathStep}
 use Rattle.nm_types.proofs.Integers.{reading_some}
 use Rattle.nm_types.proofs.Readings.{spelled-complete, limits-complete}
 use Rattle.nm_types.proofs.Answers.{found_law}
-use Rattle.nm_tree.specs.declared.node.Node.{Node}
-use Rattle.nm_tree.specs.declared.node.NodeKind.{NodeKind}
-use Rattle.nm_tree.specs.declared.node.NodeKind.TheVariants as kind
-use Rattle.nm_tree.specs.Nodes.{type_at, first_named, first_top, module_in, module_at}
-use Rattle.nm_tree.proofs.Finding.{top_module}
+use Rattle.nm_schema_tree.specs.declared.node.Node.{Node}
+use Rattle.nm_schema_tree.specs.declared.node.NodeKind.{NodeKind}
+use Rattle.nm_schema_tree.specs.declared.node.NodeKind.TheVariants as kind
+use Rattle.nm_schema_tree.specs.Nodes.{type_at, first_named, first_top, module_in, module_at}
+use Rattle.nm_schema_tree.proofs.Finding.{top_module}
 use Rattle.nm_path.specs.declared.place.Place.{Place}
 use Rattle.nm_path.specs.declared.place.Place.TheVariants.{Top, Within, Nowhere}
 use Rattle.nm_path.specs.declared.form.Predicate.{Predicate}

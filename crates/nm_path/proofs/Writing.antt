@@ -12,11 +12,11 @@ use Rattle.nm_types.specs.Canonical.{IsHeld}
 use Rattle.nm_types.specs.Spells.{IsOnce}
 use Rattle.nm_types.specs.Path.{Choice, whole, keys, entry, PathStep}
 use Rattle.nm_types.proofs.Written.{canonical-spells}
-use Rattle.nm_tree.specs.declared.node.Node.{Node}
-use Rattle.nm_tree.specs.declared.node.NodeKind.{NodeKind}
-use Rattle.nm_tree.specs.declared.node.NodeKind.TheVariants as kind
-use Rattle.nm_tree.specs.Nodes.{SchemaTree, same_parent, is_named, is_top, first_named, first_top, type_in, keys_of}
-use Rattle.nm_tree.proofs.Positions.{first_passes}
+use Rattle.nm_schema_tree.specs.declared.node.Node.{Node}
+use Rattle.nm_schema_tree.specs.declared.node.NodeKind.{NodeKind}
+use Rattle.nm_schema_tree.specs.declared.node.NodeKind.TheVariants as kind
+use Rattle.nm_schema_tree.specs.Nodes.{SchemaTree, same_parent, is_named, is_top, first_named, first_top, type_in, keys_of}
+use Rattle.nm_schema_tree.proofs.Positions.{first_passes}
 use Rattle.nm_path.specs.declared.place.Place.{Place}
 use Rattle.nm_path.specs.declared.place.Place.TheVariants.{Top, Within, Nowhere}
 use Rattle.nm_path.specs.declared.form.Predicate.{Predicate}

@@ -28,6 +28,7 @@ quoted Double value = 34 ∷ (value ++ 34 ∷ [])
 abbrev pub predicate_text : Predicate → List ℕ
 predicate_text p = 91 ∷ (p.key ++ 61 ∷ (quoted p.quote p.value ++ 93 ∷ []))
 
+-- predicates, one after another
 abbrev pub predicates_text : List Predicate → List ℕ
 predicates_text ps = flat_map predicate_text ps
 
@@ -40,6 +41,7 @@ owner_text (Some owner) = owner ++ 58 ∷ []
 abbrev pub step_text : WrittenStep → List ℕ
 step_text s = 47 ∷ (owner_text s.owner ++ s.name ++ predicates_text s.predicates)
 
+-- steps, one after another
 abbrev pub steps_text : List WrittenStep → List ℕ
 steps_text steps = flat_map step_text steps
 
@@ -53,6 +55,7 @@ is_start b = (nat_le 97 b && nat_le b 122) || (nat_le 65 b && nat_le b 90) || b 
 unfoldable pub is_name : ℕ → Bool
 is_name b = is_start b || (nat_le 48 b && nat_le b 57) || b == 45 || b == 46
 
+-- each byte may go on an identifier (RFC 7950 section 6.2)
 abbrev pub are_names : List ℕ → Bool
 are_names bytes = list_all (λ b. is_name b) bytes
 
@@ -61,6 +64,7 @@ abbrev pub is_identifier : List ℕ → Bool
 is_identifier [] = false
 is_identifier (b ∷ bytes) = is_start b && are_names bytes
 
+-- a value has a double quote in it, so that it can't be written between double quotes
 abbrev pub has_double : List ℕ → Bool
 has_double value = list_any (λ b. b == 34) value
 
@@ -74,6 +78,7 @@ pub record IsPredicate (p : Predicate) : Type 0 where
   pub key : (p.key ≡ codes ".") ⊎ (is_identifier p.key ≡ true)
   pub value : CanStand p.quote p.value
 
+-- a module that is written in a step is an identifier; it may be left out
 abbrev pub IsOwner : Option (List ℕ) → Type 0
 IsOwner None = ⊤
 IsOwner (Some owner) = is_identifier owner ≡ true

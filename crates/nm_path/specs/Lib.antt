@@ -1,3 +1,4 @@
+-- Which paths there are and how they are spelled, then how a text is read and written.
 pub mod Spelling
 pub mod Form
 pub mod Written

@@ -6,10 +6,10 @@ use Rattle.nm_types.specs.declared.value.Value.{Value}
 use Rattle.nm_types.specs.LeafType.{TypeOfLeaf}
 use Rattle.nm_types.specs.Reading.{reading}
 use Rattle.nm_types.specs.Path.{Choice, whole, keys, entry, PathStep}
-use Rattle.nm_tree.specs.declared.node.Node.{Node}
-use Rattle.nm_tree.specs.declared.node.NodeKind.{NodeKind}
-use Rattle.nm_tree.specs.declared.node.NodeKind.TheVariants as kind
-use Rattle.nm_tree.specs.Nodes.{SchemaTree, type_at}
+use Rattle.nm_schema_tree.specs.declared.node.Node.{Node}
+use Rattle.nm_schema_tree.specs.declared.node.NodeKind.{NodeKind}
+use Rattle.nm_schema_tree.specs.declared.node.NodeKind.TheVariants as kind
+use Rattle.nm_schema_tree.specs.Nodes.{SchemaTree, type_at}
 use Rattle.nm_path.specs.declared.fault.PathFault.{PathFault}
 use Rattle.nm_path.specs.declared.fault.PathFault.TheVariants.{Unknown, BadText, NoMemory}
 use Rattle.nm_path.specs.declared.place.Place.{Place}
@@ -32,6 +32,7 @@ Fails Unknown read = ⊥
 Fails BadText read = read ≡ None
 Fails NoMemory read = ⊤
 
+-- an answer is the value that reading gives, seen by view, or it fails as reading does
 abbrev pub Gives : {X Y : Type 0} → (X → Y) → Result X PathFault → Option Y → Type 0
 Gives view (Ok x) read = read ≡ Some (view x)
 Gives view (Err e) read = Fails e read
@@ -48,6 +49,7 @@ unfoldable pub after : List ℕ → ℕ → Option (List ℕ)
 after [] k = None
 after (b ∷ text) k = if b == k then Some text else None
 
+-- a byte that ends an identifier
 abbrev pub is_end : ℕ → Bool
 is_end b = not (is_name b)
 
@@ -63,6 +65,7 @@ identifier_at text = if is_identifier (take (name_len text) text) then Some (tak
 abbrev pub with_front : {X : Type 0} → List X → Option (List X × List ℕ) → Option (List X × List ℕ)
 with_front front read = read >>= λ x. Some (front ++ x.0, x.1)
 
+-- items that were read, behind those before them
 abbrev pub all_with_front : {X : Type 0} → List X → Option (List X) → Option (List X)
 all_with_front front read = read >>= λ x. Some (front ++ x)
 
@@ -73,6 +76,7 @@ single_at true [] = Some ([], [])
 single_at false (b ∷ text) = if b == 39 then single_at true text else with_front (b ∷ []) (single_at false text)
 single_at true (b ∷ text) = if b == 39 then with_front (39 ∷ []) (single_at false text) else Some ([], b ∷ text)
 
+-- the byte `"`
 abbrev pub is_double : ℕ → Bool
 is_double b = b == 34
 
@@ -80,6 +84,7 @@ is_double b = b == 34
 unfoldable pub double_at : List ℕ → Option (List ℕ × List ℕ)
 double_at text = if has_double text then Some (before_first is_double text, after_first is_double text) else None
 
+-- a value behind the single quote that stands first, or behind the double quote; nothing where neither stands there
 abbrev pub quoted_by : Option (List ℕ) → Option (List ℕ) → Option (Quote × List ℕ × List ℕ)
 quoted_by (Some text) other = single_at false text >>= λ x. Some (Single, x.0, x.1)
 quoted_by None (Some text) = double_at text >>= λ x. Some (Double, x.0, x.1)
@@ -89,6 +94,7 @@ quoted_by None None = None
 unfoldable pub quoted_at : List ℕ → Option (Quote × List ℕ × List ℕ)
 quoted_at text = quoted_by (after text 39) (after text 34)
 
+-- what a predicate names: the entry itself where `.` stands first, else a key
 abbrev pub key_by : Option (List ℕ) → Option (List ℕ × List ℕ) → Option (List ℕ × List ℕ)
 key_by (Some text) name = Some (codes ".", text)
 key_by None name = name
@@ -120,6 +126,7 @@ named_at owner name text = predicates_at (length text) text >>= λ ps. Some (rec
 abbrev pub owned_at : List ℕ → List ℕ → Option (WrittenStep × List ℕ)
 owned_at owner text = identifier_at text >>= λ name. named_at (Some owner) name.0 name.1
 
+-- the rest of a step whose first word is its module where a colon follows it, and else its name
 abbrev pub owned_by : List ℕ → List ℕ → Option (List ℕ) → Option (WrittenStep × List ℕ)
 owned_by first text None = named_at None first text
 owned_by first text (Some more) = owned_at first more
@@ -143,6 +150,7 @@ steps_of text = steps_at (length text) text >>= λ steps. if is_from_top steps t
 
 -- ---- the path
 
+-- the value that a predicate's text spells for a type, where both are there and it spells one
 abbrev pub value_by : Option TypeOfLeaf → Option Predicate → Option Value
 value_by None p = None
 value_by (Some t) None = None
@@ -176,6 +184,7 @@ chosen_of nodes at (kind.LeafList t r e) ps = entry_chosen nodes at ps
 chosen_of nodes at (kind.Container p) ps = whole_chosen ps
 chosen_of nodes at (kind.Leaf t d m r) ps = whole_chosen ps
 
+-- a step of a path as it is written, at the node that it leads to
 abbrev pub step_by : List Node → ℕ → WrittenStep → Option Node → Option PathStep
 step_by nodes at w None = None
 step_by nodes at w (Some n) = chosen_of nodes at n.kind w.predicates >>= λ c. Some (record { «module» = n.«module»; name = w.name; chosen = c })
@@ -189,6 +198,7 @@ unfoldable pub path_from : List Node → Place → List WrittenStep → Option (
 path_from nodes place [] = Some []
 path_from nodes place (w ∷ ws) = next_of nodes place w >>= λ x. all_with_front (x.1 ∷ []) (path_from nodes (Within x.0) ws)
 
+-- a text that gives no path is bad
 abbrev pub path_or_bad : Option (List PathStep) → Result (List PathStep) PathFault
 path_or_bad None = Err BadText
 path_or_bad (Some path) = Ok path

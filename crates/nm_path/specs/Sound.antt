@@ -4,11 +4,11 @@ use Rattle.std.specs.Int.{w128}
 use Rattle.std.specs.List.{IsDistinct}
 use Rattle.nm_types.specs.LeafType.{Kind, integer, TypeOfLeaf}
 use Rattle.nm_types.specs.Spells.{HasDistinctNames}
-use Rattle.nm_tree.specs.declared.node.Node.{Node}
-use Rattle.nm_tree.specs.declared.node.NodeKind.{NodeKind}
-use Rattle.nm_tree.specs.declared.node.NodeKind.TheVariants as kind
-use Rattle.nm_tree.specs.Nodes.{type_at, keys_of}
-use Rattle.nm_tree.specs.Levels.{IsTree}
+use Rattle.nm_schema_tree.specs.declared.node.Node.{Node}
+use Rattle.nm_schema_tree.specs.declared.node.NodeKind.{NodeKind}
+use Rattle.nm_schema_tree.specs.declared.node.NodeKind.TheVariants as kind
+use Rattle.nm_schema_tree.specs.Nodes.{type_at, keys_of}
+use Rattle.nm_schema_tree.specs.Levels.{IsTree}
 use Rattle.nm_path.specs.Written.{IsWellNamed}
 
 -- ---- names
@@ -31,6 +31,7 @@ is_holder (kind.Container p) = true
 is_holder (kind.List ks u e) = true
 is_holder _ = false
 
+-- a leaf, which is no leaf-list
 abbrev pub is_leaf : NodeKind → Bool
 is_leaf (kind.Leaf t d m r) = true
 is_leaf _ = false
@@ -60,6 +61,7 @@ pub record AreKeys (nodes : List Node) (i : ℕ) (keys : List ℕ) : Type 0 wher
   pub leafs : (k : ℕ) → Contains keys k → IsLeafIn nodes i k
   pub once : IsDistinct eqb keys
 
+-- a list has its keys; other nodes need none
 abbrev pub HasKeys : List Node → ℕ → NodeKind → Type 0
 HasKeys nodes i (kind.List keys u e) = AreKeys nodes i keys
 HasKeys nodes i _ = ⊤
@@ -84,6 +86,7 @@ abbrev pub HasHeldBounds : Kind → Type 0
 HasHeldBounds (integer low high) = FitsSigned w128 low × FitsSigned w128 high
 HasHeldBounds _ = ⊤
 
+-- the bounds of each leaf's and leaf-list's integer type are numbers that a `Value` holds (this project's own)
 abbrev pub HaveHeldBounds : List Node → Type 0
 HaveHeldBounds nodes = (i : ℕ) (t : TypeOfLeaf) → type_at nodes i ≡ Some t → HasHeldBounds t.kind
 

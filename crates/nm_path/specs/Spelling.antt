@@ -7,10 +7,10 @@ use Rattle.nm_types.specs.LeafType.{TypeOfLeaf}
 use Rattle.nm_types.specs.Spells.{SpellsValue}
 use Rattle.nm_types.specs.Limits.{MeetsLimits}
 use Rattle.nm_types.specs.Path.{Choice, whole, keys, entry, PathStep}
-use Rattle.nm_tree.specs.declared.node.Node.{Node}
-use Rattle.nm_tree.specs.declared.node.NodeKind.{NodeKind}
-use Rattle.nm_tree.specs.declared.node.NodeKind.TheVariants as kind
-use Rattle.nm_tree.specs.Nodes.{SchemaTree, first_top, first_named, type_at}
+use Rattle.nm_schema_tree.specs.declared.node.Node.{Node}
+use Rattle.nm_schema_tree.specs.declared.node.NodeKind.{NodeKind}
+use Rattle.nm_schema_tree.specs.declared.node.NodeKind.TheVariants as kind
+use Rattle.nm_schema_tree.specs.Nodes.{SchemaTree, first_top, first_named, type_at}
 use Rattle.nm_path.specs.declared.place.Place.{Place}
 use Rattle.nm_path.specs.declared.place.Place.TheVariants.{Top, Within, Nowhere}
 use Rattle.nm_path.specs.declared.form.Predicate.{Predicate}
@@ -18,10 +18,12 @@ use Rattle.nm_path.specs.Form.{WrittenStep, HasForm}
 
 -- ---- the nodes that names lead to
 
+-- a node is of the module with this name
 abbrev pub is_module : List ℕ → Option Node → Bool
 is_module owner None = false
 is_module owner (Some n) = bytes_eq n.«module» owner
 
+-- a node, if it is of the module with this name
 abbrev pub if_of : List Node → List ℕ → Option ℕ → Option ℕ
 if_of nodes owner None = None
 if_of nodes owner (Some at) = if is_module owner (slice_get nodes at) then Some at else None
@@ -63,6 +65,7 @@ node_of tree path = node_from tree.nodes Top None path
 unfoldable pub predicate_of : List Predicate → List ℕ → Option Predicate
 predicate_of ps key = find (λ p. bytes_eq p.key key) ps
 
+-- the name of a node
 abbrev pub name_in : Option Node → List ℕ
 name_in None = []
 name_in (Some n) = n.name
@@ -161,6 +164,7 @@ pub record IsStep (nodes : List Node) (bare : Bool) (place : Place) (s : PathSte
   pub there : slice_get nodes at ≡ Some node
   pub chosen : IsChoice nodes bare at node.kind s.chosen
 
+-- no step follows
 abbrev pub is_last : List PathStep → Bool
 is_last [] = true
 is_last (s ∷ ss) = false
@@ -170,6 +174,7 @@ abbrev pub AreSteps : List Node → Bool → Place → List PathStep → Type 0
 AreSteps nodes bare place [] = ⊤
 AreSteps nodes bare place (s ∷ ss) = (at : ℕ) × IsStep nodes (bare && is_last ss) place s at × AreSteps nodes bare (Within at) ss
 
+-- a path has at least one step
 abbrev pub HasSteps : List PathStep → Type 0
 HasSteps [] = ⊥
 HasSteps (s ∷ ss) = ⊤

@@ -5,8 +5,8 @@ use Rattle.nm_types.specs.Canonical.{canonical, IsHeld}
 use Rattle.nm_types.specs.LeafType.{TypeOfLeaf}
 use Rattle.nm_types.specs.Spells.{HasDistinctNames, IsOnce}
 use Rattle.nm_types.specs.Path.{Choice, whole, keys, entry, PathStep}
-use Rattle.nm_tree.specs.declared.node.Node.{Node}
-use Rattle.nm_tree.specs.Nodes.{SchemaTree, keys_at, keys_of, type_at}
+use Rattle.nm_schema_tree.specs.declared.node.Node.{Node}
+use Rattle.nm_schema_tree.specs.Nodes.{SchemaTree, keys_at, keys_of, type_at}
 use Rattle.nm_path.specs.declared.place.Place.{Place}
 use Rattle.nm_path.specs.declared.place.Place.TheVariants.{Top, Within, Nowhere}
 use Rattle.nm_path.specs.declared.form.Quote.TheVariants.{Single}
@@ -36,6 +36,7 @@ written_owner Top owner = Some owner
 written_owner (Within i) owner = None
 written_owner Nowhere owner = None
 
+-- a step as it is written: with its module at the top, and with predicates in the order of the keys
 abbrev pub written_step : List Node → Place → Option ℕ → PathStep → WrittenStep
 written_step nodes place at s = record { owner = written_owner place s.«module»; name = s.name; predicates = written_choice nodes at s.chosen }
 
@@ -43,13 +44,15 @@ written_step nodes place at s = record { owner = written_owner place s.«module�
 -- schema, it and those below are written as they are, without the keys of entries, since no names are known for them.
 abbrev pub written : List Node → Place → List PathStep → List WrittenStep
 written nodes place [] = []
-written nodes place (s ∷ ss) = written_step nodes place (found_of nodes place s.«module» s.name) s ∷ written nodes (below (found_of nodes place s.«module» s.name)) ss
+written nodes place (s ∷ ss) =
+    written_step nodes place (found_of nodes place s.«module» s.name) s ∷ written nodes (below (found_of nodes place s.«module» s.name)) ss
 
 -- the text of a path
 unfoldable pub path_text : SchemaTree → List PathStep → List ℕ
 path_text tree path = steps_text (written tree.nodes Top path)
 
--- a schema as modules have it: the names of nodes and modules are identifiers, the keys of a list have names of their own, and so have the bits of a type (RFC 7950 sections 6.2, 7.8.2 and 9.7.4)
+-- a schema as modules have it: the names of nodes and modules are identifiers, the keys of a list have names of their own,
+-- and so have the bits of a type (RFC 7950 sections 6.2, 7.8.2 and 9.7.4)
 pub record IsWellNamed (nodes : List Node) : Type 0 where
   pub names : (i : ℕ) (n : Node) → slice_get nodes i ≡ Some n → (is_identifier n.name ≡ true) × (is_identifier n.«module» ≡ true)
   pub keys : (i : ℕ) (n : Node) → slice_get nodes i ≡ Some n → IsOnce (map (λ k. name_at nodes k) (keys_of n.kind))
@@ -63,11 +66,14 @@ AreHeld [] vs = ⊤
 AreHeld (k ∷ ks) [] = ⊤
 AreHeld (k ∷ ks) (v ∷ vs) = IsHeld v × AreHeld ks vs
 
+-- the values by which a step chooses an entry hold numbers that a `Value` can
 abbrev pub IsHeldChoice : List Node → Option ℕ → Choice → Type 0
 IsHeldChoice nodes at whole = ⊤
 IsHeldChoice nodes at (keys vs) = AreHeld (keys_at nodes at) vs
 IsHeldChoice nodes at (entry v) = IsHeld v
 
+-- the values in all steps of a path do
 abbrev pub IsHeldPath : List Node → Place → List PathStep → Type 0
 IsHeldPath nodes place [] = ⊤
-IsHeldPath nodes place (s ∷ ss) = IsHeldChoice nodes (found_of nodes place s.«module» s.name) s.chosen × IsHeldPath nodes (below (found_of nodes place s.«module» s.name)) ss
+IsHeldPath nodes place (s ∷ ss) =
+    IsHeldChoice nodes (found_of nodes place s.«module» s.name) s.chosen × IsHeldPath nodes (below (found_of nodes place s.«module» s.name)) ss

@@ -8,14 +8,15 @@ ghost use Rattle.nm_path.specs.Reading as spec;
 use crate::fault::PathFault;
 use crate::form::{Predicate, Written};
 use nm_base::{Label, NoMemory};
-use nm_tree::{NodeKind, Schema};
+use nm_schema_tree::{NodeKind, Schema};
 use nm_types::{Chosen, LeafType, Step, Value, ValueFault, read_value};
 use std::alloc::Global;
 
 // The first predicate of a key.
 #[tactic(auto, unfolding(crate::specs::Spelling::predicate_of))]
 fn predicate_of<'a>(predicates: &'a [Predicate], key: &str) -> Option<&'a Predicate>
-    ensures { MatchOption result (spelling_spec.predicate_of predicates.now key.now ≡ None) (λ p. spelling_spec.predicate_of predicates.now key.now ≡ Some p.now) }
+    ensures { MatchOption result (spelling_spec.predicate_of predicates.now key.now ≡ None)
+        (λ p. spelling_spec.predicate_of predicates.now key.now ≡ Some p.now) }
 {
     let mut rest = predicates;
     'predicates: while let [first, more @ ..] = rest {

@@ -2,7 +2,7 @@
 
 ghost use Rattle.std.specs.Prelude.{◌≡◌, ℕ, List};
 ghost use Rattle.nm_types.specs.Path.{PathStep};
-ghost use Rattle.nm_tree.specs.Nodes.{SchemaTree};
+ghost use Rattle.nm_schema_tree.specs.Nodes.{SchemaTree};
 ghost use Rattle.nm_path.specs.Spelling.{SpellsPath, IsPath, IsFullPath};
 
 /// A text spells one path of a schema at most.

@@ -1,6 +1,6 @@
 //! The texts of paths, read and written by a schema tree.
 //!
-//! Stands on `nm_tree` and `nm_types`. The layers above rely on exactly the spellings of a path being read, on the one
+//! Stands on `nm_schema_tree` and `nm_types`. The layers above rely on exactly the spellings of a path being read, on the one
 //! text that is written of it being a spelling of it, and on the node that a path leads to.
 #![tactic(auto)]
 

@@ -4,7 +4,7 @@ ghost use Rattle.std.specs.Prelude.{◌≡◌, slice_get, IsSome};
 ghost use Rattle.nm_path.specs.Spelling as spec;
 
 use crate::form::Written;
-use nm_tree::Schema;
+use nm_schema_tree::Schema;
 use nm_types::Path;
 
 /// Where the node of a name is looked for.

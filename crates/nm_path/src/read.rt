@@ -10,7 +10,7 @@ use crate::fault::PathFault;
 use crate::form::Written;
 use crate::place::{Place, are_named, found};
 use crate::steps::steps_of;
-use nm_tree::Schema;
+use nm_schema_tree::Schema;
 use nm_types::{Path, Step};
 use std::alloc::Global;
 
@@ -83,7 +83,8 @@ pub fn read_path(alloc: Global, schema: &Schema, text: &str) -> Result<Path, Pat
     ensures not_known { IsUnknown schema.now text.now → spec.Answers result (Err PathFault.Unknown) }
     // BadText exactly where it is neither a spelling nor unknown.
     ensures bad_text { IsErrOf result PathFault.BadText → ((path : List PathStep) → ¬ SpellsPath schema.now text.now path) × ¬ IsUnknown schema.now text.now }
-    ensures neither { ((path : List PathStep) → ¬ SpellsPath schema.now text.now path) → ¬ IsUnknown schema.now text.now → spec.Answers result (Err PathFault.BadText) }
+    ensures neither { ((path : List PathStep) → ¬ SpellsPath schema.now text.now path) → ¬ IsUnknown schema.now text.now
+        → spec.Answers result (Err PathFault.BadText) }
     // What is read is a path of the schema without a bare list.
     ensures full { IfOk result (IsFullPath schema.now) }
     // The answer as a function of the text.

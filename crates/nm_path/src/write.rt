@@ -4,7 +4,7 @@ ghost use Rattle.std.specs.Prelude.{◌≡◌, ◌++◌, ◌∷◌, List, OnOk, 
 ghost use Rattle.std.specs.List.{flat_map, AllByRecursion};
 ghost use Rattle.nm_types.specs.Canonical.{canonical as canonical_of, IsHeld};
 ghost use Rattle.nm_types.specs.Chosen.{choice_of};
-ghost use Rattle.nm_tree.specs.Nodes.{keys_at};
+ghost use Rattle.nm_schema_tree.specs.Nodes.{keys_at};
 ghost use Rattle.nm_path.specs.Form as form_spec;
 ghost use Rattle.nm_path.specs.Spelling.{found_of as found_at, SpellsPath, IsFullPath};
 ghost use Rattle.nm_path.specs.Written as spec;
@@ -12,7 +12,7 @@ ghost use Rattle.nm_path.specs.Written as spec;
 use crate::choice::name_of;
 use crate::place::{Place, below, found_of};
 use nm_base::{Label, NoMemory};
-use nm_tree::{NodeKind, Schema};
+use nm_schema_tree::{NodeKind, Schema};
 use nm_types::{Chosen, LeafType, Path, Step, TypeKind, Value, write_value};
 use std::alloc::Global;
 
@@ -79,7 +79,8 @@ fn put_keys(
     keys: &[usize],
     values: &[Value],
 ) -> Result<(), NoMemory>
-    ensures text { OnOk result (string_bytes out.new ≡ string_bytes out.old ++ form_spec.predicates_text (spec.written_keys schema.now.nodes keys.now values.now)) }
+    ensures text { OnOk result
+        (string_bytes out.new ≡ string_bytes out.old ++ form_spec.predicates_text (spec.written_keys schema.now.nodes keys.now values.now)) }
     ensures held { OnOk result (spec.AreHeld keys.now values.now) }
 {
     let mut keys_left = keys;
@@ -119,7 +120,8 @@ fn put_choice(
     at: Option<usize>,
     chosen: &Chosen,
 ) -> Result<(), NoMemory>
-    ensures text { OnOk result (string_bytes out.new ≡ string_bytes out.old ++ form_spec.predicates_text (spec.written_choice schema.now.nodes at (choice_of chosen.now))) }
+    ensures text { OnOk result
+        (string_bytes out.new ≡ string_bytes out.old ++ form_spec.predicates_text (spec.written_choice schema.now.nodes at (choice_of chosen.now))) }
     ensures held { OnOk result (spec.IsHeldChoice schema.now.nodes at (choice_of chosen.now)) }
 {
     match chosen {

@@ -16,6 +16,7 @@ abbrev pub issuer_refusal : ℕ → ℕ → Option (List ℕ) → Tag → Option
 issuer_refusal issuer session (Some named) other = Some InvalidValue
 issuer_refusal issuer session None other = if issuer == session then None else Some other
 
+-- the same by what is pending: with a token that has to be named, and without one the session that issued it goes on
 abbrev pub refusal_by : Option (List ℕ) → ℕ → ℕ → Option (List ℕ) → Tag → Option Tag
 refusal_by None issuer session named other = issuer_refusal issuer session named other
 refusal_by (Some token) issuer session named other = token_refusal token named

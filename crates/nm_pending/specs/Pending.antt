@@ -31,6 +31,7 @@ module _ {Before : Type 0} where
   abbrev pub is_author : PendingState Before → ℕ → Bool
   is_author pending session = list_any (λ author. author == session) pending.authors
 
+  -- the authors with a session among them, once
   abbrev pub authors_after : PendingState Before → ℕ → List ℕ
   authors_after pending session = if is_author pending session then pending.authors else pending.authors ++ session ∷ []
 

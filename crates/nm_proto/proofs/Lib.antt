@@ -1,4 +1,2 @@
-pub mod Maps
-pub mod MarkLemmas
 pub mod Requests
 pub mod Events

@@ -1,9 +1,7 @@
+-- Messages, plans and faults; what a content is; and flat contents, with the laws that make them one.
 pub mod Message
 pub mod Plan
 pub mod Kind
 pub mod Content
 pub mod Sameness
-pub mod NumberMap
-pub mod Flat
-pub mod FlatContent
 pub mod Fault

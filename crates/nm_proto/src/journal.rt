@@ -1,3 +1,5 @@
+//! What a journal's entries say. They are messages too: the manager writes them, and texts and recovery read them.
+
 ghost use Rattle.std.specs.Prelude.{◌≡◌, ◌↔◌, IsTrue};
 
 use nm_base::{ChangeNo, DeviceMask, DeviceNo, Tag};

@@ -8,22 +8,18 @@
 pub mod ask;
 pub mod content;
 pub mod fault;
-pub mod flat;
 pub mod journal;
 pub mod kind;
 pub mod laws;
 pub mod listed;
 pub mod message;
-pub mod number_map;
 pub mod plan;
 
 pub use ask::Ask;
 pub use content::{ApplyFault, CheckFault, Content, FindFault, Show, Tables};
 pub use fault::{PLAN_LIMIT, PlanEntry, PlanFault};
-pub use flat::{FlatConfig, FlatContent, FlatEdit, FlatNode};
 pub use journal::{AbortCause, Entry, Verdict};
 pub use kind::ScenarioKind;
 pub use listed::Listed;
 pub use message::{DefaultOperation, Marks, Reply, Request, RequestWord, Store};
-pub use number_map::NumberMap;
 pub use plan::{ChangePlan, Event, PlannedEdit};

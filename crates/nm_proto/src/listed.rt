@@ -1,3 +1,5 @@
+//! A list that clauses see as the list, so that types above it need no view of their own.
+
 ghost use Rattle.std.specs.Prelude.{◌≡◌, ◌++◌, ◌∷◌, [], ◌<◌, length, insert, slice_get, OnOk, OnErr, option_copied, option_to_list, IfNone};
 
 use nm_base::NoMemory;

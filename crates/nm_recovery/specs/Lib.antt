@@ -1,1 +1,2 @@
+-- What a journal says of each change set.
 pub mod Recovery

@@ -16,11 +16,13 @@ devices_of (Started change devices timeout) = Some devices
 devices_of (Decided change verdict) = None
 devices_of (Ended change kept) = None
 
+-- the verdict that an entry gives
 abbrev pub verdict_of : Entry → Option Verdict
 verdict_of (Started change devices timeout) = None
 verdict_of (Decided change verdict) = Some verdict
 verdict_of (Ended change kept) = None
 
+-- the devices that have kept the change set, where an entry ends it
 abbrev pub kept_of : Entry → Option DeviceMask
 kept_of (Started change devices timeout) = None
 kept_of (Decided change verdict) = None

@@ -97,7 +97,8 @@ fn with_started(device: DeviceNo, on: u64, entry: &Entry) -> u64
 // The set with the change set of an entry that ends one of these.
 fn with_ended(on: ChangeMask, ended: u64, entry: &Entry) -> u64
     ensures value { result ≡ with_ended on.0 ended entry.now }
-    ensures contains { (other : ℕ) → 0 < other → mask_contains result other ≡ (mask_contains ended other || (ends other entry.now && mask_contains on.0 other)) }
+    ensures contains { (other : ℕ) → 0 < other
+        → mask_contains result other ≡ (mask_contains ended other || (ends other entry.now && mask_contains on.0 other)) }
 {
     match entry {
         Entry::Ended { change, .. } => with_if(ended, on.contains(*change), *change),

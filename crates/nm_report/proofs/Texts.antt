@@ -1,16 +1,16 @@
 -- The parts of a text make the whole.
 use Rattle.std.proofs.Common.{◌≡◌, ℕ, List, [], ◌++◌, Bool, ap, ◌∙◌}
 use Rattle.nm_history.specs.History.{RecordedState}
-use Rattle.nm_network.specs.declared.happened.Passed.{Passed}
-use Rattle.nm_network.specs.declared.report.Report.{Report}
-use Rattle.nm_network.specs.World.{Setting, WorldState}
-use Rattle.nm_network.specs.Report.{report_of}
+use Rattle.nm_world.specs.declared.happened.TraceEntry.{TraceEntry}
+use Rattle.nm_world.specs.declared.report.Report.{Report}
+use Rattle.nm_world.specs.World.{Setting, WorldState}
+use Rattle.nm_world.specs.Report.{report_of}
 use Rattle.nm_proto.specs.declared.journal.Entry.{Entry}
 use Rattle.nm_proto.specs.declared.plan.ChangePlan.{ChangePlan}
 use Rattle.nm_report.specs.Text.{change_texts, report_text, running_lines, running_of, start_text, world_text}
 
 module _ {Config TheEdit Node : Type 0} (shown : Config → List ℕ) (trace : Bool) (setting : Setting TheEdit) (w : WorldState Config Node) where
-  pub whole : (trail : List Passed) (plans : List ChangePlan) (devices again : List (RecordedState Config Node)) (entries : List Entry) (show : Config → List ℕ) (report : Report) (none one two three all : List ℕ)
+  pub whole : (trail : List TraceEntry) (plans : List ChangePlan) (devices again : List (RecordedState Config Node)) (entries : List Entry) (show : Config → List ℕ) (report : Report) (none one two three all : List ℕ)
       → none ≡ [] → trail ≡ w.trail → plans ≡ setting.plans → devices ≡ w.devices → entries ≡ w.entries → show ≡ shown → again ≡ w.devices → report ≡ report_of setting w
       → one ≡ none ++ start_text trace trail → two ≡ one ++ change_texts devices entries 1 plans → three ≡ two ++ running_lines show 1 (running_of again) → all ≡ three ++ report_text report
       → all ≡ world_text shown trace setting w

@@ -21,7 +21,8 @@ device_lines device (rows ∷ others) = device_line device rows ++ device_lines 
 
 -- how many change sets, operators and events there are
 abbrev pub counts_line : ℕ → ℕ → ℕ → List ℕ
-counts_line changes operators events = codes "changes " ++ decimal changes ++ codes " operators " ++ decimal operators ++ codes " events " ++ decimal events ++ codes "\n"
+counts_line changes operators events =
+    codes "changes " ++ decimal changes ++ codes " operators " ++ decimal operators ++ codes " events " ++ decimal events ++ codes "\n"
 
 -- the text of a scenario with these modules, these rows of its devices, and so many change sets, operators and events
 abbrev pub check_text : List (List ℕ) → List ℕ → ℕ → ℕ → ℕ → List ℕ

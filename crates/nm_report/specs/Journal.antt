@@ -31,11 +31,13 @@ abbrev pub timeout_text : Option ℕ → List ℕ
 timeout_text None = []
 timeout_text (Some seconds) = codes " timeout " ++ decimal seconds
 
+-- an entry of a journal in words
 abbrev pub entry_text : Entry → List ℕ
 entry_text (Started change devices timeout) = codes "start " ++ decimal change ++ codes " devices" ++ members_text devices.0 ++ timeout_text timeout
 entry_text (Decided change verdict) = codes "decide " ++ decimal change ++ codes " " ++ verdict_text verdict
 entry_text (Ended change kept) = codes "end " ++ decimal change ++ codes " kept" ++ kept_text kept.0
 
+-- an entry of a journal as a line
 abbrev pub entry_line : Entry → List ℕ
 entry_line entry = entry_text entry ++ codes "\n"
 

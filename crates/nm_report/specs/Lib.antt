@@ -1,3 +1,4 @@
+-- Texts: what came of events, the report, a check, and a journal.
 pub mod Trace
 pub mod Text
 pub mod Check

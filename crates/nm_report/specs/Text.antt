@@ -13,13 +13,14 @@ use Rattle.nm_history.specs.declared.outcome.Outcome.TheVariants.{Never, Pending
 use Rattle.nm_history.specs.Outcome.{outcome_of}
 use Rattle.nm_history.specs.History.{RecordedState}
 use Rattle.nm_recovery.specs.Recovery.{is_started, verdict_in, is_ended_in}
-use Rattle.nm_network.specs.declared.happened.Passed.{Passed}
-use Rattle.nm_network.specs.declared.report.Pair.{Pair}
-use Rattle.nm_network.specs.declared.report.Report.{Report}
-use Rattle.nm_network.specs.World.{Setting, WorldState}
-use Rattle.nm_network.specs.Report.{report_of}
+use Rattle.nm_world.specs.declared.happened.TraceEntry.{TraceEntry}
+use Rattle.nm_world.specs.declared.report.Pair.{Pair}
+use Rattle.nm_world.specs.declared.report.Report.{Report}
+use Rattle.nm_world.specs.World.{Setting, WorldState}
+use Rattle.nm_world.specs.Report.{report_of}
 use Rattle.nm_report.specs.Trace.{trace_text, verdict_text}
 
+-- the first line, which names the version of the form
 abbrev pub heading : List ℕ
 heading = codes "netm 1\n"
 
@@ -38,6 +39,7 @@ running_of devices = map (λ r. r.device.stores.running) devices
 
 -- ---- a change set
 
+-- what came of a change set at a device, in a word
 abbrev pub outcome_word : Outcome → List ℕ
 outcome_word Never = codes "never"
 outcome_word Pending = codes "pending"
@@ -49,6 +51,7 @@ abbrev pub decided_text : Option Verdict → List ℕ
 decided_text None = codes "undecided"
 decided_text (Some verdict) = verdict_text verdict
 
+-- the manager is done with a change set
 abbrev pub ended_text : Bool → List ℕ
 ended_text true = codes " ended"
 ended_text false = []
@@ -57,8 +60,10 @@ ended_text false = []
 abbrev pub state_text : Bool → Option Verdict → Bool → List ℕ
 state_text submitted verdict ended = if submitted then decided_text verdict ++ ended_text ended else codes "unsubmitted"
 
+-- the line of a change set, by what the journal has of it
 unfoldable pub change_line : ℕ → List Entry → List ℕ
-change_line change entries = codes "change " ++ decimal change ++ codes " " ++ state_text (is_started change entries) (verdict_in change entries) (is_ended_in change entries) ++ codes "\n"
+change_line change entries = codes "change " ++ decimal change ++ codes " "
+    ++ state_text (is_started change entries) (verdict_in change entries) (is_ended_in change entries) ++ codes "\n"
 
 -- a change set and a device
 abbrev pub pair_text : ℕ → ℕ → List ℕ
@@ -92,9 +97,10 @@ module _ {Config Node : Type 0} where
 -- ---- the whole
 
 -- the beginning of a text: what came of each event, where that is asked for
-unfoldable pub start_text : Bool → List Passed → List ℕ
+unfoldable pub start_text : Bool → List TraceEntry → List ℕ
 start_text trace trail = heading ++ trace_text trace trail
 
+-- a line of a word, a change set and a device
 abbrev pub pair_line : List ℕ → Pair → List ℕ
 pair_line word pair = word ++ pair_text pair.change pair.device ++ codes "\n"
 

@@ -1,9 +1,11 @@
+//! What became of each change set at each of its devices, as lines of a report.
+
 ghost use Rattle.std.specs.Prelude.{◌≡◌, ◌≤◌, ◌<◌, ◌+◌, ◌++◌, length, IfOk, OnOk};
 ghost use Rattle.std.specs.List.{flat_map};
 ghost use Rattle.nm_base.specs.Token.{token_of};
 ghost use Rattle.nm_proto.specs.Plan.{devices_in};
 ghost use Rattle.nm_recovery.specs.Recovery.{is_started, verdict_in, is_ended_in};
-ghost use Rattle.nm_network.specs.Report.{report_of};
+ghost use Rattle.nm_world.specs.Report.{report_of};
 ghost use Rattle.nm_report.specs.Text.{decided_text, ended_text, state_text, change_line, change_text, change_texts, pair_text, outcome_line, outcome_text, outcome_texts, pair_line, pair_lines, outcome_word, report_text, start_text, running_lines, running_of, world_text};
 
 use crate::text::{HEADING, put, write_devices_running};
@@ -11,9 +13,9 @@ use crate::trace::{write_trace, write_verdict};
 use nm_base::token::token_of;
 use nm_base::{ChangeNo, DeviceMask, DeviceNo, Label, NoMemory, write_decimal};
 use nm_history::{Noted, Outcome, Recorded, outcome_of};
-use nm_network::{Pair, Passed, Report, World};
 use nm_proto::{ChangePlan, Content, Entry, Show, Verdict};
 use nm_recovery::{is_ended_in, is_started, verdict_in};
+use nm_world::{Pair, Report, TraceEntry, World};
 use std::alloc::Global;
 
 /// The line of a change set, with what the journal says of it.
@@ -29,7 +31,8 @@ pub fn write_change(out: &mut Vec<u8>, change: ChangeNo, entries: &[Entry]) -> R
 }
 
 fn write_state(out: &mut Vec<u8>, change: ChangeNo, entries: &[Entry]) -> Result<(), NoMemory>
-    ensures { OnOk result (out.new.items ≡ out.old.items ++ state_text (is_started change entries.now) (verdict_in change entries.now) (is_ended_in change entries.now)) }
+    ensures { OnOk result (out.new.items
+        ≡ out.old.items ++ state_text (is_started change entries.now) (verdict_in change entries.now) (is_ended_in change entries.now)) }
 {
     if !is_started(entries, change) {
         return put(out, "unsubmitted");
@@ -215,7 +218,7 @@ fn write_report(out: &mut Vec<u8>, report: &Report) -> Result<(), NoMemory>
 
 // The beginning of a text.
 #[tactic(auto, unfolding(crate::specs::Text::start_text))]
-fn write_start(out: &mut Vec<u8>, trace: bool, trail: &[Passed]) -> Result<(), NoMemory>
+fn write_start(out: &mut Vec<u8>, trace: bool, trail: &[TraceEntry]) -> Result<(), NoMemory>
     ensures { OnOk result (out.new.items ≡ out.old.items ++ start_text trace trail.now) }
 {
     put(out, HEADING)?;

@@ -1,3 +1,5 @@
+//! The text of a scenario that is only checked: what it holds, counted.
+
 ghost use Rattle.std.specs.Prelude.{◌≡◌, ◌++◌, IfOk, OnOk};
 ghost use Rattle.nm_report.specs.Check.{check_text, counts_line, device_line, device_lines, module_lines};
 

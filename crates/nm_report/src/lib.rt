@@ -1,6 +1,6 @@
 //! What is reported of a world, and its text; the texts of a check and of a journal.
 //!
-//! Stands on `nm_network` and `nm_recovery`. The layer above relies on each text as an equation with a definition in
+//! Stands on `nm_world` and `nm_recovery`. The layer above relies on each text as an equation with a definition in
 //! `specs/Text.antt`, `specs/Check.antt` or `specs/Journal.antt`.
 #![tactic(auto)]
 

@@ -1,5 +1,7 @@
+//! What reports are made of: their first line, and the lines of running configurations.
+
 ghost use Rattle.std.specs.Prelude.{◌≡◌, ◌++◌, OnOk};
-ghost use Rattle.nm_network.specs.World.{AreSound};
+ghost use Rattle.nm_world.specs.World.{AreSound};
 ghost use Rattle.nm_report.specs.Text.{running_line, running_lines, running_of};
 
 use nm_base::{NoMemory, write_decimal};

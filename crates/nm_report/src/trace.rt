@@ -5,8 +5,8 @@ ghost use Rattle.nm_report.specs.Trace.{store_word, store_text, request_text, se
 
 use crate::text::put;
 use nm_base::{DeviceNo, Label, NoMemory, Tag, write_decimal};
-use nm_network::{Happened, Passed};
 use nm_proto::{AbortCause, Reply, Request, Store, Verdict};
+use nm_world::{Happened, TraceEntry};
 
 fn store_word(store: Store) -> &'static str
     ensures { result.now ≡ store_word store }
@@ -225,7 +225,7 @@ fn write_trace_line(out: &mut Vec<u8>, number: u64, what: &Happened) -> Result<(
     put(out, "\n")
 }
 
-fn write_lines(out: &mut Vec<u8>, trail: &[Passed]) -> Result<(), NoMemory>
+fn write_lines(out: &mut Vec<u8>, trail: &[TraceEntry]) -> Result<(), NoMemory>
     ensures { OnOk result (out.new.items ≡ out.old.items ++ trace_lines 1 trail.now) }
 {
     for (place, passed) in trail.iter().enumerate() {
@@ -235,7 +235,7 @@ fn write_lines(out: &mut Vec<u8>, trail: &[Passed]) -> Result<(), NoMemory>
 }
 
 /// A line for each event, where they are asked for.
-pub fn write_trace(out: &mut Vec<u8>, trace: bool, trail: &[Passed]) -> Result<(), NoMemory>
+pub fn write_trace(out: &mut Vec<u8>, trace: bool, trail: &[TraceEntry]) -> Result<(), NoMemory>
     ensures { OnOk result (out.new.items ≡ out.old.items ++ trace_text trace trail.now) }
 {
     if trace {

@@ -24,18 +24,22 @@ abbrev pub after : ResyncState → List Reply → ResyncState
 after resync [] = resync
 after resync (told ∷ replies) = after (with_reply resync told) replies
 
+-- the reply is Done
 abbrev pub is_done : Reply → Bool
 is_done reply.Done = true
 is_done _ = false
 
+-- the reply opens a session
 abbrev pub is_opened : Reply → Bool
 is_opened (reply.Opened session) = true
 is_opened _ = false
 
+-- what is asked is the lock on candidate
 abbrev pub is_lock : Ask → Bool
 is_lock ask.LockCandidate = true
 is_lock _ = false
 
+-- what is asked is a session
 abbrev pub is_opening : Ask → Bool
 is_opening ask.OpenSession = true
 is_opening _ = false
@@ -51,10 +55,12 @@ abbrev pub told_by_confirm : Reply → Option Bool
 told_by_confirm reply.Done = Some true
 told_by_confirm _ = None
 
+-- what a reply to the question for the mark tells
 abbrev pub told_by_mark : Reply → Option Bool
 told_by_mark (reply.Mark there) = Some there
 told_by_mark _ = None
 
+-- what a reply tells of whether the device keeps the change set, by what was asked
 abbrev pub tells : Ask → Reply → Option Bool
 tells ask.Confirm told = told_by_confirm told
 tells ask.HasMark told = told_by_mark told
@@ -67,6 +73,7 @@ knows (Closing kept) = kept
 knows (Done kept) = Some kept
 knows _ = None
 
+-- what is learnt comes from replies that tell it, and is never unlearnt
 pub record LearnsRightly (commit : Bool) (stage : ResyncStage) (told : Reply) : Type 0 where
   -- what is known stays so
   pub stays : (kept : Bool) → knows stage ≡ Some kept → knows (resync_learnt commit stage told) ≡ Some kept
@@ -79,10 +86,12 @@ abbrev pub held_rank : Bool → ℕ
 held_rank true = 4
 held_rank false = 2
 
+-- how many requests are left as the session closes: the close alone, or a whole new round with it
 abbrev pub closing_rank : Option Bool → ℕ
 closing_rank None = 8
 closing_rank (Some kept) = 1
 
+-- how many requests are left at most, where each reply is as fitting as may be
 abbrev pub rank : Bool → ResyncStage → ℕ
 rank commit Opening = 7
 rank commit Discarding = 6

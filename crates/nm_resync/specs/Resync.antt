@@ -14,6 +14,7 @@ pub record ResyncState : Type 0 where
   pub commit : Bool
   pub stage : ResyncStage
 
+-- a resynchronisation that has asked nothing yet, for a change set that is to be committed or not
 abbrev pub fresh_resync : Bool → ResyncState
 fresh_resync commit = record { commit = commit; stage = Opening }
 
@@ -43,10 +44,12 @@ abbrev pub learnt_discard : Reply → ResyncStage
 learnt_discard reply.Done = Locking
 learnt_discard _ = Closing None
 
+-- a refused lock closes the session, to begin again
 abbrev pub learnt_lock : Reply → ResyncStage
 learnt_lock reply.Done = Holding
 learnt_lock _ = Closing None
 
+-- a mark that is there is to be confirmed; where it isn't, the device doesn't keep the change set
 abbrev pub held_mark : Bool → ResyncStage
 held_mark true = Confirming
 held_mark false = Closing (Some false)
@@ -62,10 +65,12 @@ abbrev pub learnt_confirming : Reply → ResyncStage
 learnt_confirming reply.Done = Closing (Some true)
 learnt_confirming _ = Checking
 
+-- what the mark tells settles the outcome; another reply begins again
 abbrev pub learnt_checking : Reply → ResyncStage
 learnt_checking (reply.Mark there) = Closing (Some there)
 learnt_checking _ = Closing None
 
+-- once the session closed, the outcome stands, or all begins again
 abbrev pub learnt_closing : Option Bool → ResyncStage
 learnt_closing None = Opening
 learnt_closing (Some kept) = Done kept
@@ -81,6 +86,7 @@ resync_learnt commit Checking told = learnt_checking told
 resync_learnt commit (Closing kept) told = learnt_closing kept
 resync_learnt commit (Done kept) told = Done kept
 
+-- a resynchronisation after the reply to what was asked
 abbrev pub with_reply : ResyncState → Reply → ResyncState
 with_reply resync told = record resync { stage = resync_learnt resync.commit resync.stage told }
 

@@ -11,12 +11,12 @@ use Rattle.nm_device.proofs.Belonging.{Belongs, ended_belongs, advanced_belongs,
 use Rattle.nm_history.specs.declared.event.DeviceEvent.{DeviceEvent}
 use Rattle.nm_history.specs.declared.event.DeviceEvent.TheVariants.{Entered, Asked, Lost, Advanced, Restarted}
 use Rattle.nm_history.specs.History.{Happened, RecordedState, entering, advancing, restarting, recorded_with}
-use Rattle.nm_standing.specs.Moment.{Happens}
-use Rattle.nm_standing.specs.Numbered.{IsNumbered}
-use Rattle.nm_standing.proofs.Events.{is_asked, lost_does}
-use Rattle.nm_standing.proofs.Numbers.{numbers_keep}
-use Rattle.nm_standing.proofs.Tells.{pending_told}
-use Rattle.nm_standing.proofs.Users.{users_kept}
+use Rattle.nm_device_laws.specs.Moment.{Happens}
+use Rattle.nm_device_laws.specs.Numbered.{IsNumbered}
+use Rattle.nm_device_laws.proofs.Events.{is_asked, lost_does}
+use Rattle.nm_device_laws.proofs.Numbers.{numbers_keep}
+use Rattle.nm_device_laws.proofs.Tells.{pending_told}
+use Rattle.nm_device_laws.proofs.Users.{users_kept}
 use Rattle.nm_safety.specs.Support.{Owners, IsDevice}
 use Rattle.nm_safety.proofs.Numbers.{is_entry, no_more, IsNew, new_entered}
 

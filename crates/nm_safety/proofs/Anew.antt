@@ -12,10 +12,10 @@ use Rattle.nm_decider.specs.Course.{CourseState, seats_from, seat_count}
 use Rattle.nm_wire.specs.Link.{LinkState}
 use Rattle.nm_manager.specs.Slot.{SideState, SlotState, cut_off, to_commit}
 use Rattle.nm_manager.specs.Manager.{starts_anew}
-use Rattle.nm_pair.specs.Pair.{PairHolds}
-use Rattle.nm_pair.specs.Slots.{AllHold, HoldsAt}
-use Rattle.nm_pair.proofs.Slots.{anew_holds}
-use Rattle.nm_pair.proofs.Steps.{anew_stays}
+use Rattle.nm_safety.specs.Pair.{PairHolds}
+use Rattle.nm_safety.specs.Slots.{AllHold, HoldsAt}
+use Rattle.nm_safety.proofs.Slots.{anew_holds}
+use Rattle.nm_safety.proofs.PairSteps.{anew_stays}
 use Rattle.nm_safety.specs.Support.{Owners, IsLinked, IsAtRest, IsKept, IsOrdered}
 use Rattle.nm_safety.proofs.Keeps.{already_broken}
 use Rattle.nm_safety.proofs.SlotLinks.{links_at, cut_links}

@@ -24,10 +24,10 @@ use Rattle.nm_resync.specs.Resync.{ResyncState, settled_in}
 use Rattle.nm_manager.specs.Requests.{request_for}
 use Rattle.nm_manager.specs.Slot.{SideState, SlotState, with_pair, asked_in_fact, opens, may_go, gone, sends_if, sends_request, sends_on, sends, renews_if, renews_on, renews, settled_by, learns, resync_goes_on, receives_due, receives_on, receives, awaits_resync, breaks_current, breaks_on, breaks}
 use Rattle.nm_manager.proofs.Kept.{asks_fit}
-use Rattle.nm_pair.specs.Step.{GoWith, GoesWith, IsSeated, IsInStep}
-use Rattle.nm_pair.proofs.Tables.{next_awaited, RenewsNow, renews_now}
-use Rattle.nm_pair.proofs.Pairs.{next_goes, goes_now}
-use Rattle.nm_pair.proofs.Steps.{pair_at, unmoved, out_by}
+use Rattle.nm_safety.specs.Step.{GoWith, GoesWith, IsSeated, IsInStep}
+use Rattle.nm_safety.proofs.Tables.{next_awaited, RenewsNow, renews_now}
+use Rattle.nm_safety.proofs.Pairs.{next_goes, goes_now}
+use Rattle.nm_safety.proofs.PairSteps.{pair_at, unmoved, out_by}
 
 -- ---- the change set and the verdict
 

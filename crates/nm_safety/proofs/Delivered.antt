@@ -17,23 +17,23 @@ use Rattle.nm_history.specs.declared.event.DeviceEvent.TheVariants.{Asked}
 use Rattle.nm_history.specs.History.{Happened, RecordedState, recorded_with}
 use Rattle.nm_history.specs.Outcome.{is_token}
 use Rattle.nm_recovery.specs.Recovery.{verdict_in}
-use Rattle.nm_standing.specs.Moment.{Happens}
-use Rattle.nm_standing.specs.Token.{names_token, leaves_token, may_name}
-use Rattle.nm_standing.specs.Telling.{TellsToken}
+use Rattle.nm_device_laws.specs.Moment.{Happens}
+use Rattle.nm_device_laws.specs.Token.{names_token, leaves_token, may_name}
+use Rattle.nm_device_laws.specs.Telling.{TellsToken}
 use Rattle.nm_decider.specs.declared.seat.Seat.{Seat}
 use Rattle.nm_wire.specs.Link.{LinkState, told_on}
 use Rattle.nm_wire.specs.Wire as wire
 use Rattle.nm_wire.specs.Wire.{WireState, told, link_at, outstanding_at, session_at}
 use Rattle.nm_manager.specs.Slot.{SideState, SlotState, with_wire, told_wire}
 use Rattle.nm_manager.specs.Manager.{with_slot}
-use Rattle.nm_pair.specs.Pair.{PairHolds}
-use Rattle.nm_pair.specs.Slots.{AllHold, HoldsAt}
-use Rattle.nm_pair.specs.Delivered.{NamesOurs}
-use Rattle.nm_pair.specs.Step.{is_fair}
-use Rattle.nm_pair.proofs.Gone.{not_zero}
-use Rattle.nm_pair.proofs.Steps.{wires_stay, told_as_before}
-use Rattle.nm_pair.proofs.Wires.{changed_current, set_there}
-use Rattle.nm_network.specs.World.{Setting, SceneState, manager_in, with_device, with_manager}
+use Rattle.nm_safety.specs.Pair.{PairHolds}
+use Rattle.nm_safety.specs.Slots.{AllHold, HoldsAt}
+use Rattle.nm_safety.specs.Delivered.{NamesOurs}
+use Rattle.nm_safety.specs.Step.{is_fair}
+use Rattle.nm_safety.proofs.Gone.{not_zero}
+use Rattle.nm_safety.proofs.PairSteps.{wires_stay, told_as_before}
+use Rattle.nm_safety.proofs.Wires.{changed_current, set_there}
+use Rattle.nm_world.specs.World.{Setting, CoreState, manager_in, with_device, with_manager}
 use Rattle.nm_safety.specs.Support.{Owners, IsOwned, IsLinked, AllLinks, IsAtRest, IsKept, KeptAt, IsDevice, IsOperator, IsSupported}
 use Rattle.nm_safety.proofs.Lists.{some_is, to_some, at_set, set_other}
 use Rattle.nm_safety.proofs.Ours.{all_links_map}
@@ -75,7 +75,7 @@ no_name_leaves token r session request e = ap (λ b. not (b && may_name token (u
 
 -- ---- a link is told
 
-module _ {Config TheEdit Node : Type 0} (m : Meaning Config TheEdit Node) (laws : Laws m) (setting : Setting TheEdit) (edits : All m.edit_belongs setting.tables.edits) (w : SceneState Config Node) (s : IsSupported m setting w)
+module _ {Config TheEdit Node : Type 0} (m : Meaning Config TheEdit Node) (laws : Laws m) (setting : Setting TheEdit) (edits : All m.edit_belongs setting.tables.edits) (w : CoreState Config Node) (s : IsSupported m setting w)
     (change device link : ℕ) (numbered : 1 ≤ change) (plan : ChangePlan) (planned : slice_get setting.plans (change - 1) ≡ Some plan) (slot : SlotState) (there : slice_get w.slots (change - 1) ≡ Some slot)
     (side : SideState) (at_side : slice_get slot.sides (device - 1) ≡ Some side) (l : LinkState) (at_link : link_at side.wire link ≡ Some l)
     (r : RecordedState Config Node) (here : slice_get w.devices (device - 1) ≡ Some r) (event : DeviceEvent) (h : Happened Config Node) (happens : Happens m setting.tables r.device event h) (request : Request) (reply : Reply)

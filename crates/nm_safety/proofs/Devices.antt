@@ -11,11 +11,11 @@ use Rattle.nm_history.specs.declared.event.DeviceEvent.TheVariants as device_eve
 use Rattle.nm_history.specs.History.{Happened, RecordedState, Served, Parted, recorded_with, served, lost, loss_of, parted_as, restarting, advancing}
 use Rattle.nm_history.proofs.Histories.{is_served}
 use Rattle.nm_device.specs.Table.{is_opening}
-use Rattle.nm_standing.specs.Moment.{Happens}
+use Rattle.nm_device_laws.specs.Moment.{Happens}
 use Rattle.nm_manager.specs.Manager.{ManagerState, wire_in}
 use Rattle.nm_wire.specs.Wire.{session_at}
-use Rattle.nm_network.specs.declared.happened.Sending.{Sending}
-use Rattle.nm_network.specs.World.{Setting, SceneState, WorldState, Came, Meeting, Moved, Asking, device_at, manager_in, met, moved, asked_by, told_by, lost_by, loses, losing_at, is_side_open, undelivered, does, delivering_at, anew_at, later_at, answered_to, asking_at, operator_at, has_on, parted_by, left_with, leaving_at, elementary, world_step, scene_of, sending_of, replies_on, followed, round, rounds, event_step, run}
+use Rattle.nm_world.specs.declared.happened.Sending.{Sending}
+use Rattle.nm_world.specs.World.{Setting, CoreState, WorldState, Came, Meeting, Moved, Asking, device_at, manager_in, met, moved, asked_by, told_by, lost_by, loses, losing_at, is_side_open, undelivered, does, delivering_at, anew_at, later_at, answered_to, asking_at, operator_at, has_on, parted_by, left_with, leaving_at, elementary, world_step, core_of, sending_of, replies_on, followed, round, rounds, event_step, run}
 use Rattle.nm_safety.proofs.Lists.{at_set}
 
 -- ---- a session is lost
@@ -135,19 +135,19 @@ module _ {Config TheEdit Node : Type 0} (m : Meaning Config TheEdit Node) (setti
   abbrev LeavesAll : Came Config Node → Type 0
   LeavesAll c = AllAt c.after.devices
 
-  met_keeps : (w : SceneState Config Node) (device : ℕ) (met_now : Option (Meeting Config Node)) (found : Option (RecordedState Config Node)) → slice_get w.devices (device - 1) ≡ found
+  met_keeps : (w : CoreState Config Node) (device : ℕ) (met_now : Option (Meeting Config Node)) (found : Option (RecordedState Config Node)) → slice_get w.devices (device - 1) ≡ found
       → (found ≡ None → met_now ≡ None) → AfterMeeting (device - 1) met_now → AllAt w.devices → LeavesAll (met w device met_now)
   met_keeps w device None found there none p all = all
   met_keeps w device (Some now) None there none p all = absurd (none-some now (sym (none refl)))
   met_keeps w device (Some now) (Some r) there none p all = at_set P w.devices (device - 1) r now.device there p all
 
-  moved_keeps : (w : SceneState Config Node) (device : ℕ) (moved_now : Option (Moved Config Node)) (found : Option (RecordedState Config Node)) → slice_get w.devices (device - 1) ≡ found
+  moved_keeps : (w : CoreState Config Node) (device : ℕ) (moved_now : Option (Moved Config Node)) (found : Option (RecordedState Config Node)) → slice_get w.devices (device - 1) ≡ found
       → (found ≡ None → moved_now ≡ None) → AfterMove (device - 1) moved_now → AllAt w.devices → LeavesAll (moved w device moved_now)
   moved_keeps w device None found there none p all = all
   moved_keeps w device (Some now) None there none p all = absurd (none-some now (sym (none refl)))
   moved_keeps w device (Some now) (Some r) there none p all = at_set P w.devices (device - 1) r now.device there p all
 
-  asked_keeps : (w : SceneState Config Node) (number device : ℕ) (asked : Option (Asking Config Node)) (found : Option (RecordedState Config Node)) → slice_get w.devices (device - 1) ≡ found
+  asked_keeps : (w : CoreState Config Node) (number device : ℕ) (asked : Option (Asking Config Node)) (found : Option (RecordedState Config Node)) → slice_get w.devices (device - 1) ≡ found
       → (found ≡ None → asked ≡ None) → AfterAsking (device - 1) asked → AllAt w.devices → LeavesAll (asked_by w number device asked)
   asked_keeps w number device None found there none p all = all
   asked_keeps w number device (Some now) None there none p all = absurd (none-some now (sym (none refl)))
@@ -161,7 +161,7 @@ module _ {Config TheEdit Node : Type 0} (m : Meaning Config TheEdit Node) (setti
   nobody_leaves device None = refl
   nobody_leaves device (Some operator) = refl
 
-  came_keeps : (w : SceneState Config Node) (event : Event) → AllAt w.devices → LeavesAll (elementary m setting w event)
+  came_keeps : (w : CoreState Config Node) (event : Event) → AllAt w.devices → LeavesAll (elementary m setting w event)
   came_keeps w (Submit change) all = all
   came_keeps w (Turn change) all = all
   came_keeps w (Answer change device link number) all = all
@@ -195,19 +195,19 @@ module _ {Config TheEdit Node : Type 0} (m : Meaning Config TheEdit Node) (setti
   AllIn w = AllAt w.devices
 
   one_keeps : (w : WorldState Config Node) (event : Event) → AllIn w → AllIn (world_step m setting w event)
-  one_keeps w event all = came_keeps (scene_of w) event all
+  one_keeps w event all = came_keeps (core_of w) event all
 
   followed_keeps : (w : WorldState Config Node) (change : ℕ) (sending : Option Sending) → AllIn w → AllIn (followed m setting w change sending)
   followed_keeps w change None all = all
   followed_keeps w change (Some sending) all =
       let v = world_step m setting w (Deliver change sending.device sending.link) in
-      one_keeps v (Answer change sending.device sending.link (replies_on (wire_in (manager_in (scene_of v)) change sending.device) sending.link)) (one_keeps w (Deliver change sending.device sending.link) all)
+      one_keeps v (Answer change sending.device sending.link (replies_on (wire_in (manager_in (core_of v)) change sending.device) sending.link)) (one_keeps w (Deliver change sending.device sending.link) all)
 
   rounds_keep : (n : ℕ) (w : WorldState Config Node) (change : ℕ) → AllIn w → AllIn (rounds m setting n w change)
   rounds_keep zero w change all = all
   rounds_keep (suc n) w change all =
       rounds_keep n (round m setting w change) change
-      (followed_keeps (world_step m setting w (Turn change)) change (sending_of (elementary m setting (scene_of w) (Turn change)).happened) (one_keeps w (Turn change) all))
+      (followed_keeps (world_step m setting w (Turn change)) change (sending_of (elementary m setting (core_of w) (Turn change)).happened) (one_keeps w (Turn change) all))
 
   step_keeps : (w : WorldState Config Node) (event : Event) → AllIn w → AllIn (event_step m setting w event)
   step_keeps w (Round change turns) all = rounds_keep turns w change all

@@ -1,12 +1,12 @@
 -- A world that is brought to rest is one after a longer run, so it is as every run's.
-use Rattle.std.proofs.Common.{◌≡◌, ℕ, zero, suc, List, [], ◌∷◌, ◌++◌, false, Option, Some, None, IfSome, refl, sym, ap, ◌∙◌, subst}
+use Rattle.std.proofs.Common.{ℕ, ◌≡◌, zero, suc, List, [], ◌∷◌, ◌++◌, false, Option, Some, None, IfSome, refl, sym, ap, ◌∙◌, subst}
 use Rattle.nm_proto.specs.declared.plan.Event.{Event}
 use Rattle.nm_proto.specs.declared.plan.Event.TheVariants.{Submit, Turn, Deliver, Answer, Break, Lose, Advance, Restart, Forget, Crash, Renew, Foreign, Leave, Round}
 use Rattle.nm_proto.specs.Content.{Meaning, Laws}
-use Rattle.nm_network.specs.World.{Setting, WorldState, run, start}
-use Rattle.nm_network.specs.Drain.{drain_event, drain_by, drain_step, drained}
-use Rattle.nm_network.proofs.Passing.{is_round, other_step, run_then}
-use Rattle.nm_network.proofs.ToRest.{IsStep, drain_event_is_step}
+use Rattle.nm_world.specs.World.{Setting, WorldState, run, start}
+use Rattle.nm_world.specs.Drain.{drain_event, drain_by, drain_step, drained}
+use Rattle.nm_world.proofs.Passing.{is_round, other_step, run_then}
+use Rattle.nm_world.proofs.ToRest.{IsStep, drain_event_is_step}
 use Rattle.nm_safety.specs.Safe.{IsGiven, AreGiven, AreSoundFrom, IsProper, IsSafe}
 use Rattle.nm_safety.proofs.Lists.{to_some}
 use Rattle.nm_safety.proofs.Sound.{run_sound}
@@ -112,3 +112,11 @@ module _ {Config TheEdit Node : Type 0} (m : Meaning Config TheEdit Node) (laws 
   drained_safe proper =
       let s = run_is_safe m laws setting running all_events (all_proper proper) in
       subst (IsSafe m setting running events) drained_is (record { sound_devices = s.sound_devices; keeps_decisions = s.keeps_decisions; sent_once = s.sent_once })
+
+-- what is so after every run is so once its world is brought to rest
+module _ {Config TheEdit Node : Type 0} (m : Meaning Config TheEdit Node) (laws : Laws m) (setting : Setting TheEdit) (running : List Config) (Q : WorldState Config Node → Type 0)
+    (each : (events : List Event) → IsProper {Node = Node} m setting running events → Q (run m setting (start setting running) events)) where
+  pub drained_too : (events : List Event) (steps : ℕ) → IsProper {Node = Node} m setting running events → Q (drained m setting steps (run m setting (start setting running) events))
+  drained_too events steps proper =
+      subst Q (drained_is m laws setting running events steps)
+      (each (all_events m laws setting running events steps) (all_proper m laws setting running events steps proper))

@@ -1,38 +1,37 @@
 -- What every world keeps where time passes, a device restarts, or a session is lost.
-use Rattle.std.proofs.Common.{◌≡◌, ◌∙◌, ◌⊎◌, inl, inr, ℕ, suc, ◌-◌, ◌≤◌, ◌<◌, Bool, true, false, List, Option, Some, None, IfSome, option_map, slice_get, slice_set, refl, sym, ap, subst, arith}
+use Rattle.std.proofs.Common.{ℕ, ◌≡◌, ◌∙◌, ◌⊎◌, inl, inr, suc, ◌-◌, ◌≤◌, ◌<◌, true, false, List, Option, Some, None, IfSome, option_map, slice_get, slice_set, refl, sym, ap, subst, arith}
 use Rattle.std.specs.List.{All}
-use Rattle.std.proofs.lemmas.Bool.{cond_both}
 use Rattle.std.proofs.lemmas.Option.{slice_get-map}
 use Rattle.nm_proto.specs.declared.journal.Entry.{Entry}
 use Rattle.nm_proto.specs.declared.plan.ChangePlan.{ChangePlan}
 use Rattle.nm_proto.specs.Content.{Meaning, Laws}
 use Rattle.nm_proto.specs.Plan.{devices_in}
 use Rattle.nm_history.specs.declared.event.DeviceEvent.{DeviceEvent}
-use Rattle.nm_history.specs.declared.event.DeviceEvent.TheVariants.{Entered, Asked, Lost, Advanced, Restarted}
-use Rattle.nm_history.specs.History.{Happened, RecordedState, Parted, recorded_with, lost, advancing, restarting}
+use Rattle.nm_history.specs.declared.event.DeviceEvent.TheVariants.{Entered}
+use Rattle.nm_history.specs.History.{Happened, RecordedState, recorded_with}
 use Rattle.nm_recovery.specs.Recovery.{verdict_in}
-use Rattle.nm_standing.specs.Moment.{Happens}
-use Rattle.nm_standing.proofs.Numbers.{numbers_rise}
+use Rattle.nm_device_laws.specs.Moment.{Happens}
+use Rattle.nm_device_laws.proofs.Numbers.{numbers_rise}
 use Rattle.nm_decider.specs.declared.seat.Seat.{Seat}
 use Rattle.nm_wire.specs.Link.{LinkState, closed_link}
-use Rattle.nm_wire.specs.Wire.{WireState, restarted, link_at, session_at}
+use Rattle.nm_wire.specs.Wire.{WireState, restarted, link_at}
 use Rattle.nm_manager.specs.Slot.{SideState, SlotState, with_wire, wires_on, lost_wire, restarted_slot}
-use Rattle.nm_manager.specs.Manager.{wires_in, lost_on, restarted_on, wire_in}
-use Rattle.nm_pair.specs.Pair.{PairHolds}
-use Rattle.nm_pair.specs.Slots.{HoldsAt}
-use Rattle.nm_pair.proofs.Pairs.{IsAsBefore}
-use Rattle.nm_pair.proofs.Steps.{wires_stay, lost_as_before, restarted_as_before}
-use Rattle.nm_pair.proofs.Wires.{changed_current}
-use Rattle.nm_pair.proofs.Places.{set_same}
-use Rattle.nm_pair.proofs.Cut.{closed_pair, restarted_pair}
-use Rattle.nm_network.specs.World.{Setting, SceneState, Meeting, manager_in, with_device, with_manager, met, moved, lost_by, loses, losing_at, is_side_open, losing, anew_at, going_anew, later_at, passing}
+use Rattle.nm_manager.specs.Manager.{restarted_on, with_slot}
+use Rattle.nm_safety.specs.Pair.{PairHolds}
+use Rattle.nm_safety.specs.Slots.{HoldsAt}
+use Rattle.nm_safety.proofs.Pairs.{IsAsBefore}
+use Rattle.nm_safety.proofs.PairSteps.{wires_stay, lost_as_before, restarted_as_before}
+use Rattle.nm_safety.proofs.Wires.{changed_current}
+use Rattle.nm_safety.proofs.Cut.{closed_pair, restarted_pair}
+use Rattle.nm_world.specs.World.{Setting, CoreState, manager_in, with_manager}
 use Rattle.nm_safety.specs.Support.{Owners, IsLinked, AllLinks, IsAtRest, IsKept, KeptAt, IsDevice, IsSupported}
 use Rattle.nm_safety.proofs.Lists.{some_is}
 use Rattle.nm_safety.proofs.Ours.{closed_linked}
 use Rattle.nm_safety.proofs.SlotLinks.{closed_links, restarted_links}
 use Rattle.nm_safety.proofs.Managed.{others_stay, slot_moves, kept_here, planned_by}
-use Rattle.nm_safety.proofs.Devices.{IsLost, is_lost}
-use Rattle.nm_safety.proofs.Others.{IsOthers, others_supported}
+use Rattle.nm_safety.specs.Keeping.{is_silent}
+use Rattle.nm_safety.proofs.Others.{others_supported}
+use Rattle.nm_safety.proofs.Facts.{silent_others}
 
 -- ---- the device's side of links ends
 
@@ -99,25 +98,10 @@ module _ {Config Node : Type 0} (change members : ℕ) (entries : List Entry) (o
 
 -- ---- what nobody asks for
 
--- no session opens, and none asks
-abbrev pub is_silent : DeviceEvent → Bool
-is_silent (Entered user) = false
-is_silent (Asked session request) = false
-is_silent (Lost session) = true
-is_silent (Advanced seconds) = true
-is_silent Restarted = true
-
-silent_others : {Config Node : Type 0} (owners : Owners) (r : RecordedState Config Node) (event : DeviceEvent) → is_silent event ≡ true → (change : ℕ) → IsOthers change owners r event
-silent_others owners r (Entered user) e change = absurd (let g : false ≡ true = e in cc)
-silent_others owners r (Asked session request) e change = absurd (let g : false ≡ true = e in cc)
-silent_others owners r (Lost session) e change = record { asker = λ other place own. refl; token = refl }
-silent_others owners r (Advanced seconds) e change = record { asker = λ other place own. refl; token = refl }
-silent_others owners r Restarted e change = record { asker = λ other place own. refl; token = refl }
-
 not_entered : (event : DeviceEvent) (user : List ℕ) → is_silent event ≡ true → event ≡ Entered user → ⊥
 not_entered event user e is = absurd (let g : false ≡ true = sym (ap is_silent is) ∙ e in cc)
 
-module _ {Config TheEdit Node : Type 0} (m : Meaning Config TheEdit Node) (laws : Laws m) (setting : Setting TheEdit) (edits : All m.edit_belongs setting.tables.edits) (w : SceneState Config Node) (s : IsSupported m setting w) where
+module _ {Config TheEdit Node : Type 0} (m : Meaning Config TheEdit Node) (laws : Laws m) (setting : Setting TheEdit) (edits : All m.edit_belongs setting.tables.edits) (w : CoreState Config Node) (s : IsSupported m setting w) where
   abbrev At : ℕ → RecordedState Config Node → Type 0
   At d now = IsSupported m setting (record w { devices = slice_set w.devices d now })
 
@@ -134,34 +118,17 @@ module _ {Config TheEdit Node : Type 0} (m : Meaning Config TheEdit Node) (laws 
       later : (session : ℕ) → r.device.sessions.last ≤ h.after.sessions.last → h.after.sessions.last < session → s.owners d session ≡ None
       later session more above = (some_is r (IsDevice m (s.owners d)) (slice_get w.devices d) here (s.devices d)).fresh session (omega (arith, more, above))
 
-  -- ---- time passes
-
-  passing_by : (device seconds : ℕ) (found : Option (RecordedState Config Node)) → slice_get w.devices (device - 1) ≡ found → IsSupported m setting (moved w device (later_at m seconds found)).after
-  passing_by device seconds None here = s
-  passing_by device seconds (Some r) here = silent_moves (device - 1) r (Advanced seconds) (advancing m r.device seconds) refl here refl
-
-  pub passing_moves : (device seconds : ℕ) → IsSupported m setting (passing m w device seconds).after
-  passing_moves device seconds = passing_by device seconds (slice_get w.devices (device - 1)) refl
-
-  -- a session is lost
-  pub parted_moves : (d : ℕ) (r : RecordedState Config Node) (session : ℕ) (parted : Parted Config Node) → slice_get w.devices d ≡ Some r → lost m r session ≡ Some parted → At d parted.after
-  parted_moves d r session parted here e =
-      let is : IsLost m setting.tables r session parted = is_lost m setting.tables r session parted e in
-      subst (At d) (sym is.after_is) (silent_moves d r (Lost session) is.h is.happens here refl)
-
 -- ---- the manager's links then
 
-module _ {Config TheEdit Node : Type 0} (m : Meaning Config TheEdit Node) (setting : Setting TheEdit) (w : SceneState Config Node) (s : IsSupported m setting w) where
-  lost_by_slot : (change device link : ℕ) → 1 ≤ change → (found : Option SlotState) → slice_get w.slots (change - 1) ≡ found → IsSupported m setting (with_manager w (wires_in (manager_in w) change device (lost_wire link) found))
-  lost_by_slot change device link numbered None there = s
-  lost_by_slot change device link numbered (Some slot) there =
-      planned_by m setting w s change numbered slot (IsSupported m setting (with_manager w (wires_in (manager_in w) change device (lost_wire link) (Some slot)))) there
+module _ {Config TheEdit Node : Type 0} (m : Meaning Config TheEdit Node) (setting : Setting TheEdit) (w : CoreState Config Node) (s : IsSupported m setting w) where
+  pub closed_moves : (change device link : ℕ) → 1 ≤ change → (slot : SlotState) → slice_get w.slots (change - 1) ≡ Some slot
+      → IsSupported m setting (with_manager w (with_slot (manager_in w) change (wires_on (lost_wire link) slot device (slice_get slot.sides (device - 1)))))
+  closed_moves change device link numbered slot there =
+      planned_by m setting w s change numbered slot
+      (IsSupported m setting (with_manager w (with_slot (manager_in w) change (wires_on (lost_wire link) slot device (slice_get slot.sides (device - 1)))))) there
       (λ plan planned.
       slot_moves m setting w s change numbered plan slot (wires_on (lost_wire link) slot device (slice_get slot.sides (device - 1))) planned there
       (lost_kept change (devices_in plan.edits) w.entries s.owners w.devices slot (kept_here m setting w s change numbered plan slot planned there) device link)) (slice_get setting.plans (change - 1)) refl
-
-  pub lost_links : (change device link : ℕ) → 1 ≤ change → IsSupported m setting (with_manager w (lost_on (manager_in w) change device link))
-  lost_links change device link numbered = lost_by_slot change device link numbered (slice_get w.slots (change - 1)) refl
 
   restarted_at : (place device : ℕ) (plan : Option ChangePlan) (slot : Option SlotState) → KeptAt (suc place) w.entries s.owners w.devices plan slot
       → KeptAt (suc place) w.entries s.owners w.devices plan (option_map (restarted_slot device) slot)
@@ -180,39 +147,3 @@ module _ {Config TheEdit Node : Type 0} (m : Meaning Config TheEdit Node) (setti
         (restarted_at place device (slice_get setting.plans place) (slice_get w.slots place) (s.slots place));
     operators = s.operators;
   }
-
--- ---- a device restarts, and a link's session is lost
-
-module _ {Config TheEdit Node : Type 0} (m : Meaning Config TheEdit Node) (laws : Laws m) (setting : Setting TheEdit) (edits : All m.edit_belongs setting.tables.edits) (w : SceneState Config Node) (s : IsSupported m setting w) where
-  anew_by : (device : ℕ) (found : Option (RecordedState Config Node)) → slice_get w.devices (device - 1) ≡ found → IsSupported m setting (met w device (anew_at m (manager_in w) device found)).after
-  anew_by device None here = s
-  anew_by device (Some r) here =
-      restarted_all m setting (with_device w device (recorded_with r Restarted (restarting m r.device)))
-      (silent_moves m laws setting edits w s (device - 1) r Restarted (restarting m r.device) refl here refl) device
-
-  pub anew_moves : (device : ℕ) → IsSupported m setting (going_anew m w device).after
-  anew_moves device = anew_by device (slice_get w.devices (device - 1)) refl
-
-  module _ (change device link : ℕ) (numbered : 1 ≤ change) where
-    lost_by_moves : (r : RecordedState Config Node) (session : ℕ) (parted : Option (Parted Config Node)) → slice_get w.devices (device - 1) ≡ Some r → lost m r session ≡ parted
-        → IsSupported m setting (met w device (lost_by (manager_in w) change device link parted)).after
-    lost_by_moves r session None here e = s
-    lost_by_moves r session (Some parted) here e =
-        lost_links m setting (with_device w device parted.after) (parted_moves m laws setting edits w s (device - 1) r session parted here e) change device link numbered
-
-    same_device : (r : RecordedState Config Node) → slice_get w.devices (device - 1) ≡ Some r → IsSupported m setting (with_device w device r)
-    same_device r here = subst (λ devices. IsSupported m setting (record w { devices = devices })) (sym (set_same w.devices (device - 1) r here)) s
-
-    loses_moves : (r : RecordedState Config Node) (session : Option ℕ) → slice_get w.devices (device - 1) ≡ Some r → IsSupported m setting (met w device (loses m r (manager_in w) change device link session)).after
-    loses_moves r None here = lost_links m setting (with_device w device r) (same_device r here) change device link numbered
-    loses_moves r (Some session) here = lost_by_moves r session (lost m r session) here refl
-
-    losing_by : (found : Option (RecordedState Config Node)) → slice_get w.devices (device - 1) ≡ found → IsSupported m setting (met w device (losing_at m (manager_in w) change device link found)).after
-    losing_by None here = s
-    losing_by (Some r) here =
-        let links = wire_in (manager_in w) change device in
-        cond_both (is_side_open r links link) (loses m r (manager_in w) change device link (session_at links link)) None (λ (now : Option (Meeting Config Node)). IsSupported m setting (met w device now).after)
-        (λ _. loses_moves r (session_at links link) here) (λ _. s)
-
-    pub losing_moves : IsSupported m setting (losing m w change device link).after
-    losing_moves = losing_by (slice_get w.devices (device - 1)) refl

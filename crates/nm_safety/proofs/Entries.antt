@@ -11,9 +11,9 @@ use Rattle.nm_journal.specs.Entries.{starts, decides, ends, starts_with, may_fol
 use Rattle.nm_recovery.specs.Recovery.{is_started, is_ended_in, verdict_in, verdict_of}
 use Rattle.nm_order.specs.declared.ticket.Ticket.{Ticket}
 use Rattle.nm_manager.specs.Queues.{tickets_in, goes_first, ready_among, is_ready_in}
-use Rattle.nm_pair.proofs.Basics.{never, either}
-use Rattle.nm_pair.proofs.Tables.{both}
-use Rattle.nm_pair.proofs.Places.{verdict_same, verdict_new}
+use Rattle.nm_safety.proofs.Basics.{never, either}
+use Rattle.nm_safety.proofs.Tables.{both}
+use Rattle.nm_safety.proofs.Places.{verdict_same, verdict_new}
 use Rattle.nm_safety.specs.Support.{IsOrdered}
 
 pub nat_same : (k c : ℕ) → nat_eq k c ≡ true → k ≡ c

@@ -1,54 +1,31 @@
 -- What is kept of one change set at each step of the manager for it, and as entries come.
-use Rattle.std.proofs.Common.{◌≡◌, ◌∙◌, ◌⊎◌, inl, inr, ℕ, suc, ◌-◌, ◌+◌, ◌≤◌, true, false, List, [], ◌∷◌, ◌++◌, length, Option, Some, None, IfSome, is_some, slice_get, slice_set, refl, sym, ap, subst}
-use Rattle.std.specs.List.{list_any, All}
-use Rattle.std.proofs.lemmas.Option.{slice_get_within, get_or_from_slice_get}
+use Rattle.std.proofs.Common.{ℕ, ◌≡◌, ◌∙◌, ◌⊎◌, inl, inr, ◌-◌, ◌+◌, ◌≤◌, true, false, List, [], ◌∷◌, ◌++◌, Option, Some, None, IfSome, slice_get, slice_set, refl, sym, ap, subst}
+use Rattle.std.specs.List.{list_any}
 use Rattle.nm_proto.specs.declared.ask.Ask.{Ask}
 use Rattle.nm_proto.specs.declared.journal.Entry.{Entry}
 use Rattle.nm_proto.specs.declared.journal.Entry.TheVariants.{Decided}
 use Rattle.nm_proto.specs.declared.journal.Verdict.{Verdict}
-use Rattle.nm_proto.specs.declared.journal.Verdict.TheVariants as verdict
 use Rattle.nm_proto.specs.declared.plan.ChangePlan.{ChangePlan}
 use Rattle.nm_journal.specs.Entries.{decides, ends, may_follow}
 use Rattle.nm_history.specs.History.{RecordedState}
 use Rattle.nm_recovery.specs.Recovery.{is_started, is_ended_in, verdict_in}
-use Rattle.nm_decider_stage.specs.Stages.{is_acknowledged}
 use Rattle.nm_decider.specs.declared.course.NextAction.TheVariants.{Send, Decide}
-use Rattle.nm_decider.specs.declared.seat.Seat.{Seat}
-use Rattle.nm_decider.specs.Course.{next_action, seat_count}
-use Rattle.nm_decider.specs.Rightly.{ActsRightly, IsReady}
-use Rattle.nm_decider.proofs.Actions.{rightly}
+use Rattle.nm_decider.specs.Course.{next_action}
 use Rattle.nm_wire.specs.Link.{LinkState}
 use Rattle.nm_wire.specs.Wire.{WireState, broken, due, handled}
 use Rattle.nm_manager.specs.Requests.{request_for}
 use Rattle.nm_manager.specs.Slot.{SideState, SlotState, with_pair, sends, renews, receives, receives_on, receives_due, awaits_resync, breaks, breaks_on, breaks_current, to_commit, decided, lost_memory}
-use Rattle.nm_pair.specs.Slots.{AllHold}
-use Rattle.nm_pair.specs.Step.{GoWith}
-use Rattle.nm_pair.proofs.Basics.{never}
-use Rattle.nm_pair.proofs.Places.{set_same, verdict_same, verdict_new}
-use Rattle.nm_pair.proofs.Slots.{sent_holds, renewed_holds, received_holds, broken_holds, forgotten_holds, decided_holds}
-use Rattle.nm_pair.proofs.Steps.{received_stays, broken_stays, decided_stays, entered_stays, lost_stays}
+use Rattle.nm_safety.specs.Slots.{AllHold}
+use Rattle.nm_safety.proofs.Places.{set_same, verdict_same, verdict_new}
+use Rattle.nm_safety.proofs.Slots.{sent_holds, renewed_holds, received_holds, broken_holds, forgotten_holds, decided_holds}
+use Rattle.nm_safety.proofs.PairSteps.{received_stays, broken_stays, decided_stays, entered_stays, lost_stays}
 use Rattle.nm_safety.specs.Support.{Owners, IsOurs, IsLinked, IsAtRest, IsKept}
 use Rattle.nm_safety.proofs.Lists.{some_is}
+use Rattle.nm_safety.proofs.Seats.{ready, undecided}
 use Rattle.nm_safety.proofs.Entries.{any_later, decided_started}
 use Rattle.nm_safety.proofs.Ours.{request_ours, fresh_linked, sent_linked, handled_linked, entered_linked, all_links_map}
 use Rattle.nm_safety.proofs.SlotLinks.{sent_links, renewed_links, received_links, broken_links, decided_links, cut_links}
 use Rattle.nm_safety.proofs.Courses.{sent_same, renewed_same, received_same, broken_same, sent_in_step, renewed_in_step}
-
--- as many seats as sides
-same_length : {A B : Type 0} (xs : List A) (ys : List B) → ((j : ℕ) → is_some (slice_get xs j) ≡ is_some (slice_get ys j)) → length xs ≡ length ys
-same_length [] [] same = refl
-same_length [] (y ∷ ys) same = absurd (let g : false ≡ true = same 0 in cc)
-same_length (x ∷ xs) [] same = absurd (let g : true ≡ false = same 0 in cc)
-same_length (x ∷ xs) (y ∷ ys) same = ap suc (same_length xs ys (λ j. same (suc j)))
-
-both_there : (members device : ℕ) (v : Option Verdict) (seat : Option Seat) (side : Option SideState) → GoWith members v device seat side → is_some seat ≡ is_some side
-both_there members device v None None pair = refl
-both_there members device v None (Some side) pair = absurd pair
-both_there members device v (Some seat) None pair = absurd pair
-both_there members device v (Some seat) (Some side) pair = refl
-
-listed : {A : Type 0} (P : A → Type 0) (xs : List A) → All P xs → (place : ℕ) (x : A) → slice_get xs place ≡ Some x → P x
-listed P xs all place x there = subst P (get_or_from_slice_get xs place x x there) (all place x (slice_get_within xs place x there))
 
 none_current : (wire : WireState) (link number : ℕ) → wire.current ≡ None → due wire link number ≡ None
 none_current wire link number e = by_current wire.current e
@@ -188,35 +165,19 @@ module _ {Config Node : Type 0} (change members : ℕ) (owners : ℕ → Owners)
 
     -- ---- the verdict falls
 
-    long : length slot.course.seats ≡ seat_count
-    long =
-        same_length slot.course.seats slot.sides (λ j. both_there members (j + 1) slot.course.verdict (slice_get slot.course.seats j) (slice_get slot.sides j) (k.in_step.pairs j)) ∙ k.in_step.sides
-
-    acts : ActsRightly slot.course
-    acts = rightly slot.course long
-
-    undecided_by : (v : Verdict) → next_action slot.course ≡ Decide v → slot.course.verdict ≡ None
-    undecided_by verdict.Commit next = (acts.commits next).undecided
-    undecided_by (verdict.Abort why) next = (acts.aborts why next).undecided
-
-    acked_by : (v : Verdict) → next_action slot.course ≡ Decide v → (place : ℕ) (seat : Seat) → slice_get slot.course.seats place ≡ Some seat → to_commit (Some v) ≡ true → seat.is_member ≡ true
-        → is_acknowledged seat.stage ≡ true
-    acked_by verdict.Commit next place seat there commit member =
-        (listed (λ one. one.is_member ≡ true → IsReady one) slot.course.seats (acts.commits next).ready place seat there member).acknowledged
-    acked_by (verdict.Abort why) next place seat there commit member = never commit
-
     pub decided_kept : (v : Verdict) → next_action slot.course ≡ Decide v → may_follow entries (Decided change v) ≡ true → is_ended_in change entries ≡ false
         → Kept (entries ++ Decided change v ∷ []) (decided slot v)
     decided_kept v next may open_now =
         let first : list_any (decides change) entries ≡ false = (decided_started change v entries may).1 in
         let new : verdict_in change (entries ++ Decided change v ∷ []) ≡ Some v = verdict_new change entries v first in
-        let undecided : slot.course.verdict ≡ None = undecided_by v next in
+        let none_yet : slot.course.verdict ≡ None = undecided change members entries slot k.in_step v next in
         record {
           numbered = k.numbered;
-          in_step = decided_stays change members entries slot v k.in_step undecided first;
+          in_step = decided_stays change members entries slot v k.in_step none_yet first;
           known = inl (sym new);
           holds = subst (λ found. AllHold change found (decided slot v) devices) (sym new)
-              (decided_holds change devices slot v (acked_by v next) (subst (λ found. AllHold change found slot devices) (sym (of_journal open_now) ∙ undecided) k.holds));
+              (decided_holds change devices slot v
+              (λ place seat there commit member. (ready change members entries slot k.in_step v next place seat there commit member).acknowledged) (subst (λ found. AllHold change found slot devices) (sym (of_journal open_now) ∙ none_yet) k.holds));
           linked = all_links_map P (Q (Decided change v)) (λ d place link p. entered_linked change entries (owners d) (slice_get devices d) (Decided change v) place link p) (decided slot v).sides
               (decided_links P slot k.linked v);
           tells = k.tells;

@@ -1,28 +1,19 @@
 -- What every world keeps, at each step of the manager.
-use Rattle.std.proofs.Common.{◌≡◌, ℕ, zero, suc, ◌-◌, ◌+◌, ◌≤◌, Bool, true, false, not, ◌&&◌, nat_eq, List, [], ◌∷◌, ◌++◌, Option, Some, None, slice_get, slice_set, refl, sym, subst, arith, if◌then◌else◌}
-use Rattle.std.proofs.lemmas.Bool.{cond_both}
-use Rattle.nm_proto.specs.declared.ask.Ask.{Ask}
+use Rattle.std.proofs.Common.{ℕ, ◌≡◌, zero, suc, ◌-◌, ◌+◌, ◌≤◌, Bool, true, false, nat_eq, List, [], ◌∷◌, ◌++◌, Option, Some, None, slice_get, slice_set, refl, sym, subst, arith}
 use Rattle.nm_proto.specs.declared.journal.Entry.{Entry}
-use Rattle.nm_proto.specs.declared.journal.Entry.TheVariants.{Decided, Ended}
+use Rattle.nm_proto.specs.declared.journal.Entry.TheVariants.{Decided}
 use Rattle.nm_proto.specs.declared.journal.Verdict.{Verdict}
 use Rattle.nm_proto.specs.declared.plan.ChangePlan.{ChangePlan}
 use Rattle.nm_proto.specs.Content.{Meaning}
 use Rattle.nm_proto.specs.Plan.{devices_in}
 use Rattle.nm_journal.specs.Entries.{decides, may_follow}
 use Rattle.nm_history.specs.History.{RecordedState}
-use Rattle.nm_recovery.specs.Recovery.{is_started, is_ended_in, verdict_in}
-use Rattle.nm_decider.specs.declared.course.NextAction.{NextAction}
-use Rattle.nm_decider.specs.declared.course.NextAction.TheVariants as next
-use Rattle.nm_decider.specs.Course.{next_action}
-use Rattle.nm_manager.specs.declared.action.Action.TheVariants as action
-use Rattle.nm_manager.specs.Queues.{is_ready_in}
-use Rattle.nm_manager.specs.Slot.{SlotState, sends, renews, receives, breaks, decided, lost_memory}
-use Rattle.nm_manager.specs.Manager.{ManagerState, Step, idle, slot_at, with_slot, with_entry, start_of, submitted_by, submitted, sent_by, decided_by, acts, turned_by, turned, received_by, received, broken_by, broken, forgotten_by, forgotten, renewed_by, renewed, start_anew, starts_anew}
-use Rattle.nm_network.specs.World.{Setting, SceneState, manager_in, with_manager}
-use Rattle.nm_pair.proofs.Tables.{both}
+use Rattle.nm_manager.specs.Slot.{SlotState}
+use Rattle.nm_manager.specs.Manager.{ManagerState, with_slot, with_entry, start_anew, starts_anew}
+use Rattle.nm_world.specs.World.{Setting, CoreState, manager_in, with_manager}
 use Rattle.nm_safety.specs.Support.{Owners, IsKept, KeptAt, IsOrdered, IsSupported}
-use Rattle.nm_safety.proofs.Entries.{ordered_next, ready_is_open, ready_is_started, not_true, nat_same}
-use Rattle.nm_safety.proofs.Keeps.{sent_kept, renewed_kept, received_kept, broken_kept, forgotten_kept, entered_kept, decided_kept}
+use Rattle.nm_safety.proofs.Entries.{ordered_next, nat_same}
+use Rattle.nm_safety.proofs.Keeps.{entered_kept}
 use Rattle.nm_safety.proofs.Anew.{anew_kept}
 
 -- one of a list is another
@@ -34,7 +25,7 @@ others_stay R (x ∷ xs) zero old new h now all (suc j) = all (suc j) (λ e. abs
 others_stay R (x ∷ xs) (suc i) old new h now all zero = all zero (λ e. absurd (omega (arith, e)))
 others_stay R (x ∷ xs) (suc i) old new h now all (suc j) = others_stay (λ k. R (suc k)) xs i old new h now (λ k ne. all (suc k) (λ e. ne (omega (arith, e)))) j
 
-not_same : (j c : ℕ) → (suc j ≡ c → ⊥) → (b : Bool) → nat_eq (suc j) c ≡ b → b ≡ false
+pub not_same : (j c : ℕ) → (suc j ≡ c → ⊥) → (b : Bool) → nat_eq (suc j) c ≡ b → b ≡ false
 not_same j c ne false e = refl
 not_same j c ne true e = absurd (ne (nat_same (suc j) c e))
 
@@ -65,7 +56,7 @@ module _ {Config Node : Type 0} (owners : ℕ → Owners) (devices : List (Recor
       one_on : (base j : ℕ) → base + suc j ≡ suc base + j
       one_on base j = omega arith
 
-module _ {Config TheEdit Node : Type 0} (m : Meaning Config TheEdit Node) (setting : Setting TheEdit) (w : SceneState Config Node) (s : IsSupported m setting w) where
+module _ {Config TheEdit Node : Type 0} (m : Meaning Config TheEdit Node) (setting : Setting TheEdit) (w : CoreState Config Node) (s : IsSupported m setting w) where
   abbrev state : ManagerState
   state = manager_in w
 
@@ -76,7 +67,7 @@ module _ {Config TheEdit Node : Type 0} (m : Meaning Config TheEdit Node) (setti
   same_after = record { owners = s.owners; entries = s.entries; devices = s.devices; slots = s.slots; operators = s.operators }
 
   -- an entry comes that decides nothing
-  entry_moves : (entry : Entry) → may_follow w.entries entry ≡ true → ((k : ℕ) → decides k entry ≡ false) → After (with_entry state entry)
+  pub entry_moves : (entry : Entry) → may_follow w.entries entry ≡ true → ((k : ℕ) → decides k entry ≡ false) → After (with_entry state entry)
   entry_moves entry may plain = record {
     owners = s.owners;
     entries = λ k. ordered_next k w.entries (s.entries k) entry may;
@@ -86,9 +77,6 @@ module _ {Config TheEdit Node : Type 0} (m : Meaning Config TheEdit Node) (setti
         (slice_get setting.plans place) (slice_get w.slots place) (s.slots place);
     operators = s.operators;
   }
-
-  enters_moves : (entry : Entry) (what : _) (now : ManagerState) → (may_follow w.entries entry ≡ true → After now) → After (if may_follow w.entries entry then record { action = what; state = now } else idle state).state
-  enters_moves entry what now moves = cond_both (may_follow w.entries entry) (record { action = what; state = now }) (idle state) (λ (step : Step). After step.state) moves (λ _. same_after)
 
   module _ (change : ℕ) (numbered : 1 ≤ change) where
     abbrev p : ℕ
@@ -113,7 +101,7 @@ module _ {Config TheEdit Node : Type 0} (m : Meaning Config TheEdit Node) (setti
       operators = s.operators;
     }
 
-    decision_moves : (plan : ChangePlan) (slot new : SlotState) (v : Verdict) → slice_get setting.plans p ≡ Some plan → slice_get w.slots p ≡ Some slot → may_follow w.entries (Decided change v) ≡ true
+    pub decision_moves : (plan : ChangePlan) (slot new : SlotState) (v : Verdict) → slice_get setting.plans p ≡ Some plan → slice_get w.slots p ≡ Some slot → may_follow w.entries (Decided change v) ≡ true
         → IsKept change (devices_in plan.edits) (w.entries ++ Decided change v ∷ []) s.owners w.devices new → After (with_slot (with_entry state (Decided change v)) change new)
     decision_moves plan slot new v planned there may now = record {
       owners = s.owners;
@@ -137,105 +125,6 @@ module _ {Config TheEdit Node : Type 0} (m : Meaning Config TheEdit Node) (setti
     planned_by slot P there step None planned =
         absurd (subst (λ o. KeptAt (suc p) w.entries s.owners w.devices None o) there (subst (λ o. KeptAt (suc p) w.entries s.owners w.devices o (slice_get w.slots p)) planned (s.slots p)))
     planned_by slot P there step (Some plan) planned = step plan planned
-
-    -- ---- a change set is submitted
-
-    submitted_by_moves : (plan : Option ChangePlan) → After (submitted_by state change plan).state
-    submitted_by_moves None = same_after
-    submitted_by_moves (Some plan) =
-        enters_moves (start_of change plan) action.Started (with_entry state (start_of change plan)) (λ may. entry_moves (start_of change plan) may (λ k. refl))
-
-    pub submitted_moves : After (submitted setting.plans state change).state
-    submitted_moves = submitted_by_moves (slice_get setting.plans p)
-
-    -- ---- one action
-
-    module _ (ready : is_ready_in w.entries change ≡ true) (slot : SlotState) (there : slice_get w.slots p ≡ Some slot) where
-      sent_moves : (device : ℕ) (what : Ask) → next_action slot.course ≡ next.Send device what → (plan : Option ChangePlan) → slice_get setting.plans p ≡ plan → After (sent_by state change plan (Some slot) device what).state
-      sent_moves device what acts_so None planned = same_after
-      sent_moves device what acts_so (Some plan) planned =
-          slot_moves plan slot (sends plan w.entries slot device what).slot planned there
-          (sent_kept change (devices_in plan.edits) s.owners w.devices w.entries slot (kept_here plan slot planned there) plan device what
-          (ready_is_started w.entries change ready) (ready_is_open w.entries change ready) acts_so)
-
-      decided_moves : (v : Verdict) → next_action slot.course ≡ next.Decide v → (plan : ChangePlan) → slice_get setting.plans p ≡ Some plan → After (decided_by state change v (Some slot)).state
-      decided_moves v acts_so plan planned =
-          enters_moves (Decided change v) (action.Decided v) (with_slot (with_entry state (Decided change v)) change (decided slot v))
-          (λ may.
-          decision_moves plan slot (decided slot v) v planned there may
-          (decided_kept change (devices_in plan.edits) s.owners w.devices w.entries slot (kept_here plan slot planned there) v acts_so may (ready_is_open w.entries change ready)))
-
-      acted_moves : (what : NextAction) → next_action slot.course ≡ what → After (acts setting.plans state change what).state
-      acted_moves next.Wait acts_so = same_after
-      acted_moves (next.Send device what) acts_so =
-          subst (λ found. After (sent_by state change (slice_get setting.plans p) found device what).state) (sym there) (sent_moves device what acts_so (slice_get setting.plans p) refl)
-      acted_moves (next.Decide v) acts_so =
-          subst (λ found. After (decided_by state change v found).state) (sym there)
-          (planned_by slot (After (decided_by state change v (Some slot)).state) there (decided_moves v acts_so) (slice_get setting.plans p) refl)
-      acted_moves (next.Finish kept) acts_so =
-          enters_moves (Ended change kept) action.Ended (with_entry state (Ended change kept)) (λ may. entry_moves (Ended change kept) may (λ k. refl))
-
-    turned_by_moves : is_ready_in w.entries change ≡ true → (found : Option SlotState) → slice_get w.slots p ≡ found → After (turned_by setting.plans state change found).state
-    turned_by_moves ready None there = same_after
-    turned_by_moves ready (Some slot) there = acted_moves ready slot there (next_action slot.course) refl
-
-    pub turned_moves : After (turned setting.plans state change).state
-    turned_moves =
-        cond_both (is_ready_in w.entries change) (turned_by setting.plans state change (slot_at state change)) (idle state) (λ (step : Step). After step.state)
-        (λ ready. turned_by_moves ready (slice_get w.slots p) refl) (λ _. same_after)
-
-    -- ---- what comes to one change set
-
-    received_by_moves : (device link number : ℕ) → 1 ≤ device → (found : Option SlotState) → slice_get w.slots p ≡ found → After (received_by state change device link number found).state
-    received_by_moves device link number known None there = same_after
-    received_by_moves device link number known (Some slot) there =
-        planned_by slot (After (received_by state change device link number (Some slot)).state) there
-        (λ plan planned.
-        slot_moves plan slot (receives slot device link number).slot planned there
-        (received_kept change (devices_in plan.edits) s.owners w.devices w.entries slot (kept_here plan slot planned there) device link number known)) (slice_get setting.plans p) refl
-
-    pub received_moves : (device link number : ℕ) → 1 ≤ device → After (received state change device link number).state
-    received_moves device link number known = received_by_moves device link number known (slice_get w.slots p) refl
-
-    broken_by_moves : (device : ℕ) → 1 ≤ device → (found : Option SlotState) → slice_get w.slots p ≡ found → After (broken_by state change device found).state
-    broken_by_moves device known None there = same_after
-    broken_by_moves device known (Some slot) there =
-        planned_by slot (After (broken_by state change device (Some slot)).state) there
-        (λ plan planned.
-        slot_moves plan slot (breaks slot device).slot planned there
-        (broken_kept change (devices_in plan.edits) s.owners w.devices w.entries slot (kept_here plan slot planned there) device known)) (slice_get setting.plans p) refl
-
-    pub broken_moves : (device : ℕ) → 1 ≤ device → After (broken state change device).state
-    broken_moves device known = broken_by_moves device known (slice_get w.slots p) refl
-
-    forgotten_by_moves : is_ended_in change w.entries ≡ false → (plan : Option ChangePlan) → slice_get setting.plans p ≡ plan → (found : Option SlotState) → slice_get w.slots p ≡ found
-        → After (forgotten_by state change plan found).state
-    forgotten_by_moves open_now None planned found there = same_after
-    forgotten_by_moves open_now (Some plan) planned None there = same_after
-    forgotten_by_moves open_now (Some plan) planned (Some slot) there =
-        slot_moves plan slot (lost_memory slot (devices_in plan.edits) (verdict_in change w.entries)) planned there
-        (forgotten_kept change (devices_in plan.edits) s.owners w.devices w.entries slot (kept_here plan slot planned there) open_now)
-
-    pub forgotten_moves : After (forgotten setting.plans state change).state
-    forgotten_moves =
-        cond_both (is_started change w.entries && not (is_ended_in change w.entries)) (forgotten_by state change (slice_get setting.plans p) (slot_at state change)) (idle state) (λ (step : Step). After step.state)
-        (λ goes.
-        forgotten_by_moves (not_true (is_ended_in change w.entries) (both (is_started change w.entries) (not (is_ended_in change w.entries)) goes).1)
-        (slice_get setting.plans p) refl (slice_get w.slots p) refl) (λ _. same_after)
-
-    renewed_by_moves : (device : ℕ) → 1 ≤ device → is_ready_in w.entries change ≡ true → (plan : Option ChangePlan) → slice_get setting.plans p ≡ plan → (found : Option SlotState) → slice_get w.slots p ≡ found
-        → After (renewed_by state change device plan found).state
-    renewed_by_moves device known ready None planned found there = same_after
-    renewed_by_moves device known ready (Some plan) planned None there = same_after
-    renewed_by_moves device known ready (Some plan) planned (Some slot) there =
-        slot_moves plan slot (renews plan w.entries slot device).slot planned there
-        (renewed_kept change (devices_in plan.edits) s.owners w.devices w.entries slot (kept_here plan slot planned there) plan device known
-        (ready_is_started w.entries change ready) (ready_is_open w.entries change ready))
-
-    pub renewed_moves : (device : ℕ) → 1 ≤ device → After (renewed setting.plans state change device).state
-    renewed_moves device known =
-        cond_both (is_ready_in w.entries change) (renewed_by state change device (slice_get setting.plans p) (slot_at state change)) (idle state) (λ (step : Step). After step.state)
-        (λ ready. renewed_by_moves device known ready (slice_get setting.plans p) refl (slice_get w.slots p) refl) (λ _. same_after)
 
   -- ---- the manager starts anew
 

@@ -12,11 +12,11 @@ use Rattle.nm_device.specs.Table.{open_with}
 use Rattle.nm_history.specs.declared.event.DeviceEvent.{DeviceEvent}
 use Rattle.nm_history.specs.declared.event.DeviceEvent.TheVariants.{Entered, Asked, Lost, Advanced, Restarted}
 use Rattle.nm_history.specs.History.{Happened, entering, advancing, restarting}
-use Rattle.nm_standing.specs.Moment.{Happens}
-use Rattle.nm_standing.specs.Numbered.{IsNumbered}
-use Rattle.nm_standing.proofs.Acts.{Acts, step_acts}
-use Rattle.nm_standing.proofs.Events.{undone_keeps, undone_if_keeps, is_asked, lost_does}
-use Rattle.nm_standing.proofs.Numbers.{fresh_number, open_entered}
+use Rattle.nm_device_laws.specs.Moment.{Happens}
+use Rattle.nm_device_laws.specs.Numbered.{IsNumbered}
+use Rattle.nm_device_laws.proofs.Acts.{Acts, step_acts}
+use Rattle.nm_device_laws.proofs.Events.{undone_keeps, undone_if_keeps, is_asked, lost_does}
+use Rattle.nm_device_laws.proofs.Numbers.{fresh_number, open_entered}
 
 -- a session is asked for
 abbrev pub is_entry : DeviceEvent → Bool

@@ -1,5 +1,5 @@
 -- What every world keeps where something happens at a device that no link of a change set asks for.
-use Rattle.std.proofs.Common.{◌≡◌, ◌∙◌, ℕ, suc, ◌≤◌, true, false, List, [], ◌∷◌, Option, Some, None, IfSome, is_some, slice_get, slice_set, unwrap_or, refl, sym, ap, subst, arith}
+use Rattle.std.proofs.Common.{ℕ, ◌≡◌, ◌∙◌, suc, ◌≤◌, List, [], ◌∷◌, Option, Some, None, IfSome, is_some, slice_get, slice_set, unwrap_or, refl, sym, ap, subst, arith}
 use Rattle.std.specs.List.{All}
 use Rattle.std.proofs.lemmas.Option.{none-some}
 use Rattle.nm_base.specs.Token.{token_of}
@@ -11,32 +11,26 @@ use Rattle.nm_proto.specs.Plan.{devices_in}
 use Rattle.nm_history.specs.declared.event.DeviceEvent.{DeviceEvent}
 use Rattle.nm_history.specs.History.{Happened, RecordedState, noted, recorded_with}
 use Rattle.nm_recovery.specs.Recovery.{verdict_in}
-use Rattle.nm_standing.specs.Moment.{Happens}
-use Rattle.nm_standing.specs.Keeps.{is_asker}
-use Rattle.nm_standing.specs.Token.{leaves_token}
-use Rattle.nm_standing.specs.Telling.{TellsToken}
-use Rattle.nm_standing.proofs.Keeping.{session_kept}
-use Rattle.nm_standing.proofs.Numbers.{numbers_rise}
-use Rattle.nm_standing.proofs.Tokens.{token_kept}
-use Rattle.nm_standing.proofs.Tells.{token_told}
+use Rattle.nm_device_laws.specs.Moment.{Happens}
+use Rattle.nm_device_laws.specs.Telling.{TellsToken}
+use Rattle.nm_device_laws.proofs.Keeping.{session_kept}
+use Rattle.nm_device_laws.proofs.Numbers.{numbers_rise}
+use Rattle.nm_device_laws.proofs.Tokens.{token_kept}
+use Rattle.nm_device_laws.proofs.Tells.{token_told}
 use Rattle.nm_decider.specs.declared.seat.Seat.{Seat}
 use Rattle.nm_wire.specs.Link.{LinkState, fresh_link}
 use Rattle.nm_manager.specs.Slot.{SideState, SlotState}
-use Rattle.nm_pair.specs.Pair.{PairHolds, first_link}
-use Rattle.nm_pair.specs.Slots.{AllHold, HoldsAt}
-use Rattle.nm_pair.proofs.Moved.{moved_pair}
-use Rattle.nm_network.specs.World.{Setting, SceneState, given_on}
+use Rattle.nm_safety.specs.Pair.{PairHolds, first_link}
+use Rattle.nm_safety.specs.Slots.{AllHold, HoldsAt}
+use Rattle.nm_safety.proofs.Moved.{moved_pair}
+use Rattle.nm_world.specs.World.{Setting, CoreState, given_on}
 use Rattle.nm_safety.specs.Support.{Owners, IsOwned, IsLinked, IsKept, KeptAt, IsDevice, IsOperator, IsSupported}
+pub use Rattle.nm_safety.specs.Keeping.{IsOthers}
 use Rattle.nm_safety.proofs.Lists.{some_is, to_some}
 use Rattle.nm_safety.proofs.Ours.{later_owned, all_links_map}
 use Rattle.nm_safety.proofs.SlotLinks.{links_at}
 use Rattle.nm_safety.proofs.Managed.{others_stay}
 use Rattle.nm_safety.proofs.Alone.{OpensFor, device_kept}
-
--- no link of the change set asks, and its token is left alone
-pub record IsOthers {Config Node : Type 0} (change : ℕ) (owners : Owners) (r : RecordedState Config Node) (event : DeviceEvent) : Type 0 where
-  pub asker : (session place : ℕ) → owners session ≡ Some (record { change = change; place = place }) → is_asker event session ≡ false
-  pub token : leaves_token (token_of change) r.device event ≡ true
 
 -- the session of the first link is one of its own
 pub first_is_owned : (P : LinkState → Type 0) (links : List LinkState) → P fresh_link → IfSome (slice_get links 0) P → P (unwrap_or (slice_get links 0) fresh_link)
@@ -170,7 +164,7 @@ module _ {Config TheEdit Node : Type 0} (m : Meaning Config TheEdit Node) (laws 
 
 -- ---- the world
 
-module _ {Config TheEdit Node : Type 0} (m : Meaning Config TheEdit Node) (laws : Laws m) (setting : Setting TheEdit) (edits : All m.edit_belongs setting.tables.edits) (w : SceneState Config Node) (s : IsSupported m setting w) (d : ℕ)
+module _ {Config TheEdit Node : Type 0} (m : Meaning Config TheEdit Node) (laws : Laws m) (setting : Setting TheEdit) (edits : All m.edit_belongs setting.tables.edits) (w : CoreState Config Node) (s : IsSupported m setting w) (d : ℕ)
     (r : RecordedState Config Node) (event : DeviceEvent) (h : Happened Config Node) (happens : Happens m setting.tables r.device event h) (here : slice_get w.devices d ≡ Some r)
     (others : (change : ℕ) → IsOthers change (s.owners d) r event) (opens : OpensFor (s.owners d) (s.owners d) r event h.after) where
   pub device_here : IsDevice m (s.owners d) r

@@ -15,7 +15,7 @@ use Rattle.nm_wire.specs.declared.link.Way.TheVariants.{Quiet, Asked, Told}
 use Rattle.nm_wire.specs.Link.{LinkState, fresh_link, asked_on, is_quiet_way, sent_on, handled_on, handled_by, closed_link}
 use Rattle.nm_manager.specs.Requests.{request_for, edit_request, edit_for}
 use Rattle.nm_manager.specs.Slot.{SideState}
-use Rattle.nm_pair.proofs.Links.{did_sent_on, did_handled}
+use Rattle.nm_safety.proofs.Links.{did_sent_on, did_handled}
 use Rattle.nm_safety.specs.Support.{Owners, IsOurs, IsOwned, IsLinked, AllLinks}
 use Rattle.nm_safety.proofs.Lists.{some_is, to_some}
 use Rattle.nm_safety.proofs.Entries.{any_later}

@@ -17,25 +17,25 @@ use Rattle.nm_history.specs.declared.outcome.Outcome.TheVariants.{Never, Pending
 use Rattle.nm_history.specs.Effect.{is_done_reply}
 use Rattle.nm_history.specs.Outcome.{outcome_of, is_pending}
 use Rattle.nm_history.specs.History.{Happened, RecordedState, noted, recorded_with}
-use Rattle.nm_standing.specs.Moment.{is_refused}
-use Rattle.nm_standing.specs.Token.{KeepsToken, leaves_token, waits_under, undoing_by, commits_done}
-use Rattle.nm_standing.specs.Telling.{TellsToken}
-use Rattle.nm_standing.proofs.Events.{IsDone, is_asked}
-use Rattle.nm_standing.proofs.Outcomes.{never_without}
-use Rattle.nm_standing.proofs.Owns.{refused_same}
-use Rattle.nm_standing.proofs.Tells.{pending_outcome, token_told, begun_tells, renewed_tells, confirmed_tells, cancelled_tells}
-use Rattle.nm_standing.proofs.Tokens.{refused_kept}
+use Rattle.nm_device_laws.specs.Moment.{is_refused}
+use Rattle.nm_device_laws.specs.Token.{KeepsToken, leaves_token, waits_under, undoing_by, commits_done}
+use Rattle.nm_device_laws.specs.Telling.{TellsToken}
+use Rattle.nm_device_laws.proofs.Events.{IsDone, is_asked}
+use Rattle.nm_device_laws.proofs.Outcomes.{never_without}
+use Rattle.nm_device_laws.proofs.Owns.{refused_same}
+use Rattle.nm_device_laws.proofs.Tells.{pending_outcome, token_told, begun_tells, renewed_tells, confirmed_tells, cancelled_tells}
+use Rattle.nm_device_laws.proofs.Tokens.{refused_kept}
 use Rattle.nm_decider.specs.declared.seat.Seat.{Seat}
 use Rattle.nm_wire.specs.declared.link.Way.TheVariants as way
 use Rattle.nm_wire.specs.Asks.{ask_of, same_ask}
 use Rattle.nm_wire.specs.Link.{LinkState, fresh_link, session_of, asked_on, outstanding}
 use Rattle.nm_wire.specs.Words.{commits_sent, commit_count, holds, is_done}
 use Rattle.nm_wire.specs.Wire.{WireState, link_at}
-use Rattle.nm_pair.specs.Pair.{PairHolds, HoldsRunning, FirstLink, first_link, undelivered, commits_in}
-use Rattle.nm_pair.specs.Delivered.{IsDelivered, is_answer}
-use Rattle.nm_pair.proofs.Basics.{never, is_one}
-use Rattle.nm_pair.proofs.Answered.{told_link, out_way, each_at}
-use Rattle.nm_pair.proofs.Gone.{not_zero}
+use Rattle.nm_safety.specs.Pair.{PairHolds, HoldsRunning, FirstLink, first_link, undelivered, commits_in}
+use Rattle.nm_safety.specs.Delivered.{IsDelivered, is_answer}
+use Rattle.nm_safety.proofs.Basics.{never, is_one}
+use Rattle.nm_safety.proofs.Answered.{told_link, out_way, each_at}
+use Rattle.nm_safety.proofs.Gone.{not_zero}
 
 pub first_is : (wire : WireState) (number : ℕ) (link : LinkState) → link_at wire number ≡ Some link → number ≡ 1 → first_link wire ≡ link
 first_is wire number link there one =

@@ -20,12 +20,12 @@ use Rattle.nm_wire.specs.Link.{LinkState, fresh_link}
 use Rattle.nm_wire.specs.Words.{commits_sent}
 use Rattle.nm_manager.specs.Slot.{SideState, SlotState, to_commit, wire_of_side}
 use Rattle.nm_manager.specs.Manager.{wire_of, wire_in}
-use Rattle.nm_pair.specs.Pair.{PairHolds, EachLink, OutcomeFits, is_never, is_confirmed, is_cancelled, is_ended, to_abort}
-use Rattle.nm_pair.specs.Slots.{HoldsAt}
-use Rattle.nm_pair.specs.Step.{IsSeated}
-use Rattle.nm_pair.proofs.Basics.{never}
-use Rattle.nm_pair.proofs.Steps.{pair_at}
-use Rattle.nm_network.specs.World.{Setting, SceneState, manager_in, scene_of, run, start}
+use Rattle.nm_safety.specs.Pair.{PairHolds, EachLink, OutcomeFits, is_never, is_confirmed, is_cancelled, is_ended, to_abort}
+use Rattle.nm_safety.specs.Slots.{HoldsAt}
+use Rattle.nm_safety.specs.Step.{IsSeated}
+use Rattle.nm_safety.proofs.Basics.{never}
+use Rattle.nm_safety.proofs.PairSteps.{pair_at}
+use Rattle.nm_world.specs.World.{Setting, CoreState, manager_in, core_of, run, start}
 use Rattle.nm_safety.specs.Safe.{KeepsDecision, commits_over, is_abort, is_unasked, IsProper, IsSafe}
 use Rattle.nm_safety.specs.Support.{IsKept, KeptAt, IsSupported}
 use Rattle.nm_safety.proofs.Lists.{some_is, to_some}
@@ -87,7 +87,7 @@ there_by [] n j e h = absurd (omega (arith, e, h))
 there_by (x ∷ xs) n zero e h = refl
 there_by (x ∷ xs) n (suc j) e h = there_by xs (length xs) j refl (omega (arith, e, h))
 
-module _ {Config TheEdit Node : Type 0} (m : Meaning Config TheEdit Node) (setting : Setting TheEdit) (w : SceneState Config Node) (s : IsSupported m setting w) (place : ℕ) (plan : ChangePlan)
+module _ {Config TheEdit Node : Type 0} (m : Meaning Config TheEdit Node) (setting : Setting TheEdit) (w : CoreState Config Node) (s : IsSupported m setting w) (place : ℕ) (plan : ChangePlan)
     (planned : slice_get setting.plans place ≡ Some plan) (device : ℕ) (small : device < 32) (r : RecordedState Config Node) (here : slice_get w.devices device ≡ Some r) where
   abbrev members : ℕ
   members = devices_in plan.edits
@@ -159,14 +159,14 @@ module _ {Config TheEdit Node : Type 0} (m : Meaning Config TheEdit Node) (laws 
       (run_keeps m setting (λ place _. place < 32) (λ place r event h happens small. small) (start setting running) events
       (first_at (λ place _. place < 32) running (λ place first begins. let within : place < length running = slice_get_within running place first begins in omega (arith, within, proper.few_devices))) device)
 
-  supported : IsSupported m setting (scene_of (run m setting (start {Node = Node} setting running) events))
+  supported : IsSupported m setting (core_of (run m setting (start {Node = Node} setting running) events))
   supported = run_supported m laws setting proper.edits proper.few proper.strangers (start setting running) events proper.given (begin_supported m setting running proper.first)
 
   pub run_is_safe : IsSafe m setting running events (run m setting (start {Node = Node} setting running) events)
   run_is_safe = record {
     sound_devices = run_sound m laws setting running events;
     keeps_decisions = λ place plan device r planned here.
-        decision_kept m setting (scene_of (run m setting (start setting running) events)) supported place plan planned device (small_at device r here) r here;
+        decision_kept m setting (core_of (run m setting (start setting running) events)) supported place plan planned device (small_at device r here) r here;
     sent_once = λ place plan device r planned here.
-        commits_once m setting (scene_of (run m setting (start setting running) events)) supported place plan planned device (small_at device r here) r here;
+        commits_once m setting (core_of (run m setting (start setting running) events)) supported place plan planned device (small_at device r here) r here;
   }

@@ -20,8 +20,8 @@ use Rattle.nm_manager.specs.Requests.{request_for}
 use Rattle.nm_manager.specs.Slot.{SideState, SlotState, asked_in_fact, opens, may_go, gone, sends_if, sends_request, sends_on}
 use Rattle.nm_manager.specs.Manager.{ManagerState, Step, idle, slot_at, with_entry, with_slot, sent_by, decided_by, acts, turned_by, turned}
 use Rattle.nm_manager.specs.Slot as slot_specs
-use Rattle.nm_network.specs.declared.happened.Sending.{Sending}
-use Rattle.nm_network.specs.World.{happened_of, sending_of}
+use Rattle.nm_world.specs.declared.happened.Sending.{Sending}
+use Rattle.nm_world.specs.World.{happened_of, sending_of}
 
 -- what is sent goes to such a device
 abbrev GoesOut : Action → Type 0

@@ -14,9 +14,9 @@ use Rattle.nm_wire.specs.Link.{LinkState, fresh_link, sent_on, handled_on, close
 use Rattle.nm_wire.specs.Wire.{WireState, link_at, lost, restarted, handled_at, due}
 use Rattle.nm_manager.specs.Requests.{request_for}
 use Rattle.nm_manager.specs.Slot.{SideState, SlotState, with_wire, with_pair, gone, opens, may_go, asked_in_fact, sends_if, sends_request, sends_on, sends, renews_if, renews_on, renews, hears, receives_due, receives_on, receives, awaits_resync, breaks_current, breaks_on, breaks, cut_off, anew, is_commit, decided, wires_on}
-use Rattle.nm_pair.proofs.Gone.{each_gone, each_heard, each_changed, each_restarted}
-use Rattle.nm_pair.proofs.Wires.{IsDue, due_is}
-use Rattle.nm_pair.proofs.Places.{set_same}
+use Rattle.nm_safety.proofs.Gone.{each_gone, each_heard, each_changed, each_restarted}
+use Rattle.nm_safety.proofs.Wires.{IsDue, due_is}
+use Rattle.nm_safety.proofs.Places.{set_same}
 use Rattle.nm_safety.specs.Support.{AllLinks}
 use Rattle.nm_safety.proofs.Lists.{at_set, some_is}
 

@@ -7,8 +7,8 @@ use Rattle.nm_history.specs.declared.event.DeviceEvent.{DeviceEvent}
 use Rattle.nm_history.specs.History.{Happened, RecordedState, recorded, recorded_with, recorded_if}
 use Rattle.nm_history.specs.Leads.{Leads}
 use Rattle.nm_history.proofs.Histories.{leads_none, leads_push}
-use Rattle.nm_standing.specs.Moment.{Happens}
-use Rattle.nm_network.specs.World.{Setting, run, start}
+use Rattle.nm_device_laws.specs.Moment.{Happens}
+use Rattle.nm_world.specs.World.{Setting, run, start}
 use Rattle.nm_safety.specs.Safe.{AreSoundFrom}
 use Rattle.nm_safety.proofs.Lists.{some_is}
 use Rattle.nm_safety.proofs.Devices.{run_keeps}

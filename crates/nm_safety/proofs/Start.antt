@@ -7,18 +7,18 @@ use Rattle.nm_proto.specs.Content.{Meaning}
 use Rattle.nm_proto.specs.Plan.{devices_in}
 use Rattle.nm_device.specs.Device.{fresh_device}
 use Rattle.nm_history.specs.History.{RecordedState, recorded}
-use Rattle.nm_standing.specs.Telling.{TellsToken}
-use Rattle.nm_standing.proofs.Numbers.{fresh_numbered}
-use Rattle.nm_standing.proofs.Tells.{pending_told_first, token_told_first}
+use Rattle.nm_device_laws.specs.Telling.{TellsToken}
+use Rattle.nm_device_laws.proofs.Numbers.{fresh_numbered}
+use Rattle.nm_device_laws.proofs.Tells.{pending_told_first, token_told_first}
 use Rattle.nm_decider_stage.specs.declared.stage.Stage.TheVariants.{Live}
 use Rattle.nm_decider.specs.declared.seat.Seat.{Seat}
 use Rattle.nm_decider.specs.Course.{seat_of, seats_from, seat_count}
 use Rattle.nm_manager.specs.Slot.{SideState, fresh_side, fresh_slot}
 use Rattle.nm_manager.specs.Manager.{slots_from}
-use Rattle.nm_pair.specs.Slots.{AllHold, HoldsAt}
-use Rattle.nm_pair.proofs.Begun.{fresh_pair}
-use Rattle.nm_pair.proofs.Steps.{fresh_stays}
-use Rattle.nm_network.specs.World.{Setting, IsFirst, begin, given_on}
+use Rattle.nm_safety.specs.Slots.{AllHold, HoldsAt}
+use Rattle.nm_safety.proofs.Begun.{fresh_pair}
+use Rattle.nm_safety.proofs.PairSteps.{fresh_stays}
+use Rattle.nm_world.specs.World.{Setting, IsFirst, begin, given_on}
 use Rattle.nm_safety.specs.Support.{Owners, IsLinked, IsKept, KeptAt, IsDevice, IsOperator, IsSupported}
 use Rattle.nm_safety.proofs.Lists.{some_is, to_some}
 use Rattle.nm_safety.proofs.Sound.{first_at}

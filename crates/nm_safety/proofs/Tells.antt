@@ -20,11 +20,11 @@ use Rattle.nm_history.specs.History.{RecordedState}
 use Rattle.nm_recovery.specs.Recovery.{is_started, verdict_in}
 use Rattle.nm_manager.specs.Slot.{to_commit}
 use Rattle.nm_manager.specs.Manager.{ManagerState, wire_in}
-use Rattle.nm_pair.proofs.Basics.{never}
-use Rattle.nm_network.specs.declared.report.Pair.{Pair}
-use Rattle.nm_network.specs.declared.report.Report.{Report}
-use Rattle.nm_network.specs.Report.{has_undelivered, each_from, pair_if, differs, differs_at, differing, unsettles, unsettled_at, unsettling, report_of}
-use Rattle.nm_network.specs.World.{Setting, WorldState, scene_of, manager_in}
+use Rattle.nm_safety.proofs.Basics.{never}
+use Rattle.nm_world.specs.declared.report.Pair.{Pair}
+use Rattle.nm_world.specs.declared.report.Report.{Report}
+use Rattle.nm_world.specs.Report.{has_undelivered, each_from, pair_if, differs, differs_at, differing, unsettles, unsettled_at, unsettling, report_of}
+use Rattle.nm_world.specs.World.{Setting, WorldState, core_of, manager_in}
 use Rattle.nm_safety.specs.Safe.{KeepsDecision, IsSafe, is_unasked}
 use Rattle.nm_safety.specs.Reported.{is_there, pair_of, IsTold, IsNamed, TellsAll}
 
@@ -239,7 +239,7 @@ module _ {Config Node : Type 0} (devices : List (RecordedState Config Node)) (st
 module _ {Config TheEdit Node : Type 0} (m : Meaning Config TheEdit Node) (setting : Setting TheEdit) (running : List Config) (events : List Event)
     (w : WorldState Config Node) (safe : IsSafe m setting running events w) where
   abbrev state : ManagerState
-  state = manager_in (scene_of w)
+  state = manager_in (core_of w)
 
   abbrev changes : ℕ
   changes = length setting.plans

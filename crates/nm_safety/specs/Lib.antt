@@ -1,3 +1,13 @@
+pub mod Step
+pub mod Pair
+pub mod Moves
+pub mod Told
+pub mod Delivered
+pub mod Slots
 pub mod Safe
 pub mod Reported
 pub mod Support
+pub mod Along
+pub mod Cases
+pub mod Pairs
+pub mod Keeping

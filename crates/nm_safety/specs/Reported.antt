@@ -16,10 +16,10 @@ use Rattle.nm_history.specs.Outcome.{outcome_of, is_pending, is_undone}
 use Rattle.nm_history.specs.History.{RecordedState}
 use Rattle.nm_recovery.specs.Recovery.{is_started, verdict_in}
 use Rattle.nm_manager.specs.Manager.{wire_in}
-use Rattle.nm_network.specs.declared.report.Pair.{Pair}
-use Rattle.nm_network.specs.declared.report.Report.{Report}
-use Rattle.nm_network.specs.Report.{has_undelivered, report_of}
-use Rattle.nm_network.specs.World.{Setting, WorldState, scene_of, manager_in}
+use Rattle.nm_world.specs.declared.report.Pair.{Pair}
+use Rattle.nm_world.specs.declared.report.Report.{Report}
+use Rattle.nm_world.specs.Report.{has_undelivered, report_of}
+use Rattle.nm_world.specs.World.{Setting, WorldState, core_of, manager_in}
 use Rattle.nm_safety.specs.Safe.{is_unasked}
 
 -- the device has the change set, for good or until its timer ends
@@ -61,6 +61,6 @@ pub record TellsAll {Config TheEdit Node : Type 0} (setting : Setting TheEdit) (
       → slice_get w.devices device ≡ Some r
       → IsTold (pair_of (suc place) (suc device)) (verdict_in (suc place) w.entries) (is_started (suc place) w.entries)
       (mask_contains (devices_in plan.edits) (suc device))
-      (has_undelivered r (wire_in (manager_in (scene_of w)) (suc place) (suc device))) (outcome_of (token_of (suc place)) r.history) (report_of setting w)
+      (has_undelivered r (wire_in (manager_in (core_of w)) (suc place) (suc device))) (outcome_of (token_of (suc place)) r.history) (report_of setting w)
   pub only : (pair : Pair) → Contains (report_of setting w).differ pair ⊎ Contains (report_of setting w).unsettled pair
       → IsNamed (length setting.plans) (length w.devices) pair

@@ -24,7 +24,7 @@ use Rattle.nm_recovery.specs.Recovery.{verdict_in}
 use Rattle.nm_wire.specs.Link.{LinkState}
 use Rattle.nm_wire.specs.Words.{commits_sent}
 use Rattle.nm_manager.specs.Manager.{wire_in}
-use Rattle.nm_network.specs.World.{Setting, WorldState, IsFirst, scene_of, manager_in}
+use Rattle.nm_world.specs.World.{Setting, WorldState, IsFirst, core_of, manager_in}
 
 -- ---- devices
 
@@ -91,7 +91,8 @@ AreGiven setting [] = Unit {0}
 AreGiven setting (event ∷ events) = IsGiven setting event × AreGiven setting events
 
 -- no operator has the manager's name, and there are no more devices and change sets than a scenario may have
-pub record IsProper {Config TheEdit Node : Type 0} (m : Meaning Config TheEdit Node) (setting : Setting TheEdit) (running : List Config) (events : List Event) : Type 0 where
+pub record IsProper {Config TheEdit Node : Type 0} (m : Meaning Config TheEdit Node) (setting : Setting TheEdit)
+    (running : List Config) (events : List Event) : Type 0 where
   pub first : (place : ℕ) → IfSome (slice_get running place) (IsFirst m)
   pub edits : All m.edit_belongs setting.tables.edits
   pub few_devices : length running ≤ 32
@@ -102,11 +103,14 @@ pub record IsProper {Config TheEdit Node : Type 0} (m : Meaning Config TheEdit N
 -- ---- all together
 
 -- a world that began with these running configurations, after these events
-pub record IsSafe {Config TheEdit Node : Type 0} (m : Meaning Config TheEdit Node) (setting : Setting TheEdit) (running : List Config) (events : List Event) (w : WorldState Config Node) : Type 0 where
+pub record IsSafe {Config TheEdit Node : Type 0} (m : Meaning Config TheEdit Node) (setting : Setting TheEdit)
+    (running : List Config) (events : List Event) (w : WorldState Config Node) : Type 0 where
   pub sound_devices : AreSoundFrom m setting running w
   -- change set c stands at place c - 1, and so does device d
-  pub keeps_decisions : (place : ℕ) (plan : ChangePlan) (device : ℕ) (r : RecordedState Config Node) → slice_get setting.plans place ≡ Some plan → slice_get w.devices device ≡ Some r
+  pub keeps_decisions : (place : ℕ) (plan : ChangePlan) (device : ℕ) (r : RecordedState Config Node)
+      → slice_get setting.plans place ≡ Some plan → slice_get w.devices device ≡ Some r
       → KeepsDecision (suc place) (verdict_in (suc place) w.entries) (mask_contains (devices_in plan.edits) (suc device)) r.history
   -- over all links of a change set to a device the confirmed commit was sent once at most
-  pub sent_once : (place : ℕ) (plan : ChangePlan) (device : ℕ) (r : RecordedState Config Node) → slice_get setting.plans place ≡ Some plan → slice_get w.devices device ≡ Some r
-      → commits_over (wire_in (manager_in (scene_of w)) (suc place) (suc device)).links ≤ 1
+  pub sent_once : (place : ℕ) (plan : ChangePlan) (device : ℕ) (r : RecordedState Config Node) → slice_get setting.plans place
+      ≡ Some plan → slice_get w.devices device ≡ Some r
+      → commits_over (wire_in (manager_in (core_of w)) (suc place) (suc device)).links ≤ 1

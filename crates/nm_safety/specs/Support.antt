@@ -13,17 +13,17 @@ use Rattle.nm_device.specs.Device.{AllBelong, is_manager}
 use Rattle.nm_device.specs.Table.{opening_user}
 use Rattle.nm_history.specs.History.{RecordedState}
 use Rattle.nm_recovery.specs.Recovery.{is_started, is_ended_in, verdict_in}
-use Rattle.nm_standing.specs.Numbered.{IsNumbered}
-use Rattle.nm_standing.specs.Telling.{TellsPending, TellsToken}
+use Rattle.nm_device_laws.specs.Numbered.{IsNumbered}
+use Rattle.nm_device_laws.specs.Telling.{TellsPending, TellsToken}
 use Rattle.nm_decider_stage.specs.declared.stage.Stage.TheVariants.{Live}
 use Rattle.nm_decider.specs.Course.{seats_from, seat_count}
 use Rattle.nm_wire.specs.Asks.{ask_of, same_ask}
 use Rattle.nm_wire.specs.Link.{LinkState, session_of, asked_on}
 use Rattle.nm_manager.specs.Slot.{SideState, SlotState}
-use Rattle.nm_pair.specs.Delivered.{NamesOurs}
-use Rattle.nm_pair.specs.Slots.{AllHold}
-use Rattle.nm_pair.specs.Step.{IsInStep}
-use Rattle.nm_network.specs.World.{Setting, SceneState, given_on}
+use Rattle.nm_safety.specs.Delivered.{NamesOurs}
+use Rattle.nm_safety.specs.Slots.{AllHold}
+use Rattle.nm_safety.specs.Step.{IsInStep}
+use Rattle.nm_world.specs.World.{Setting, CoreState, given_on}
 
 -- ---- links and their sessions
 
@@ -50,7 +50,8 @@ pub record IsOwned (change : ℕ) (owners : Owners) (last place : ℕ) (link : L
 
 module _ {Config Node : Type 0} where
   -- the same where there is a device, and links are made for change sets alone that were submitted
-  pub record IsLinked (change : ℕ) (entries : List Entry) (owners : Owners) (device : Option (RecordedState Config Node)) (place : ℕ) (link : LinkState) : Type 0 where
+  pub record IsLinked (change : ℕ) (entries : List Entry) (owners : Owners) (device : Option (RecordedState Config Node))
+      (place : ℕ) (link : LinkState) : Type 0 where
     pub begun : is_started change entries ≡ true
     pub owned : IfSome device (λ r. IsOwned change owners r.device.sessions.last place link)
 
@@ -68,7 +69,8 @@ pub record IsAtRest (change members : ℕ) (entries : List Entry) (slot : SlotSt
 
 module _ {Config Node : Type 0} where
   -- what is kept of a change set of these devices
-  pub record IsKept (change members : ℕ) (entries : List Entry) (owners : ℕ → Owners) (devices : List (RecordedState Config Node)) (slot : SlotState) : Type 0 where
+  pub record IsKept (change members : ℕ) (entries : List Entry) (owners : ℕ → Owners)
+      (devices : List (RecordedState Config Node)) (slot : SlotState) : Type 0 where
     pub numbered : slot.course.change ≡ change
     pub in_step : IsInStep change members entries slot
     -- the course has the verdict of the journal, or is over
@@ -107,7 +109,7 @@ module _ {Config Node : Type 0} where
 
 -- ---- all together
 
-pub record IsSupported {Config TheEdit Node : Type 0} (m : Meaning Config TheEdit Node) (setting : Setting TheEdit) (w : SceneState Config Node) : Type 0 where
+pub record IsSupported {Config TheEdit Node : Type 0} (m : Meaning Config TheEdit Node) (setting : Setting TheEdit) (w : CoreState Config Node) : Type 0 where
   pub owners : ℕ → Owners
   pub entries : (change : ℕ) → IsOrdered change w.entries
   pub devices : (d : ℕ) → IfSome (slice_get w.devices d) (IsDevice m (owners d))

@@ -2,8 +2,8 @@
 
 ghost use Rattle.std.specs.Prelude.{List, ℕ};
 ghost use Rattle.nm_proto.specs.declared.plan.Event.{Event as AnEvent};
-ghost use Rattle.nm_network.specs.Drain.{drained};
-ghost use Rattle.nm_network.specs.World.{Setting, run, start};
+ghost use Rattle.nm_world.specs.Drain.{drained};
+ghost use Rattle.nm_world.specs.World.{Setting, run, start};
 ghost use Rattle.nm_safety.specs.Safe.{AreSoundFrom, IsProper, IsSafe};
 
 use nm_proto::Content;
@@ -22,18 +22,22 @@ pub fn every_device_is_sound<C: Content>(content: &C)
 /// undone by a timer or a restart; a cancel undid only under an abort; and to each device the confirmed commit was sent once at most
 /// (RFC 6241 section 8.4). The devices are as in `every_device_is_sound`.
 pub fn every_run_is_safe<C: Content>(content: &C)
-    ensures { (setting : Setting C.Edit) (running : List C.Config) (events : List AnEvent) → IsProper {Node = C.Node} (C.meaning content.now) setting running events
+    ensures { (setting : Setting C.Edit) (running : List C.Config) (events : List AnEvent)
+        → IsProper {Node = C.Node} (C.meaning content.now) setting running events
         → IsSafe (C.meaning content.now) setting running events (run (C.meaning content.now) setting (start setting running) events) }
 {}
 
 /// The devices are sound too after any number of steps that bring a world to rest.
 pub fn every_drained_device_is_sound<C: Content>(content: &C)
     ensures { (setting : Setting C.Edit) (running : List C.Config) (events : List AnEvent) (steps : ℕ)
-        → AreSoundFrom (C.meaning content.now) setting running (drained (C.meaning content.now) setting steps (run (C.meaning content.now) setting (start setting running) events)) }
+        → AreSoundFrom (C.meaning content.now) setting running
+        (drained (C.meaning content.now) setting steps (run (C.meaning content.now) setting (start setting running) events)) }
 {}
 
 /// A run is safe too after any number of steps that bring its world to rest.
 pub fn every_drained_run_is_safe<C: Content>(content: &C)
-    ensures { (setting : Setting C.Edit) (running : List C.Config) (events : List AnEvent) (steps : ℕ) → IsProper {Node = C.Node} (C.meaning content.now) setting running events
-        → IsSafe (C.meaning content.now) setting running events (drained (C.meaning content.now) setting steps (run (C.meaning content.now) setting (start setting running) events)) }
+    ensures { (setting : Setting C.Edit) (running : List C.Config) (events : List AnEvent) (steps : ℕ)
+        → IsProper {Node = C.Node} (C.meaning content.now) setting running events
+        → IsSafe (C.meaning content.now) setting running events
+        (drained (C.meaning content.now) setting steps (run (C.meaning content.now) setting (start setting running) events)) }
 {}

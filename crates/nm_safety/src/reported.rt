@@ -2,7 +2,7 @@
 
 ghost use Rattle.std.specs.Prelude.{List};
 ghost use Rattle.nm_proto.specs.declared.plan.Event.{Event as AnEvent};
-ghost use Rattle.nm_network.specs.World.{Setting, WorldState};
+ghost use Rattle.nm_world.specs.World.{Setting, WorldState};
 ghost use Rattle.nm_safety.specs.Safe.{IsSafe};
 ghost use Rattle.nm_safety.specs.Reported.{TellsAll};
 

@@ -3,7 +3,7 @@ use Rattle.std.proofs.Common.{◌≡◌, List, [], ◌∷◌, length, refl, arit
 use Rattle.serde_json.specs.declared.value.Value.{Value}
 use Rattle.std.specs.declared.alloc.Global.{Global}
 use Rattle.serde_json.specs.View.{members_view}
-use Rattle.nm_scenario_parts.proofs.Counts.{count_of-items_view}
+use Rattle.nm_scenario_form.proofs.Lengths.{count_of-items_view}
 use Rattle.nm_scenario.specs.Flat.{member_count}
 
 pub member_count-members_view : (ms : List (String Global × Value)) → member_count (members_view ms) ≡ length ms

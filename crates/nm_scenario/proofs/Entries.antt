@@ -4,12 +4,12 @@ use Rattle.std.specs.Prelude.{◌&&◌, nat_lt, is_some, unwrap_or}
 use Rattle.std.specs.Ordering.{nat_cmp}
 use Rattle.std.specs.FinMap.{FinMap, insert, empty}
 use Rattle.serde_json.specs.Data.{Data, Members, no_members, member}
-use Rattle.nm_proto.specs.Flat.{FlatState, flat_violation}
-use Rattle.nm_proto.specs.declared.flat.FlatEdit.{FlatEdit}
+use Rattle.nm_flat.specs.Flat.{FlatState, flat_violation}
+use Rattle.nm_flat.specs.declared.flat.FlatEdit.{FlatEdit}
 use Rattle.nm_proto.specs.declared.kind.ScenarioKind.TheVariants.{Content, TooMany}
-use Rattle.nm_scenario_parts.specs.declared.fault.Cause.{Cause}
-use Rattle.nm_scenario_parts.specs.declared.fault.ReadError.{ReadError}
-use Rattle.nm_scenario_parts.specs.Reading.{◌>>=◌, Gives, here, natural_of, plain}
+use Rattle.nm_scenario_form.specs.declared.fault.Cause.{Cause}
+use Rattle.nm_scenario_form.specs.declared.fault.ReadError.{ReadError}
+use Rattle.nm_scenario_form.specs.Reading.{◌>>=◌, Gives, here, natural_of, plain}
 use Rattle.nm_scenario_form.specs.Read.{told}
 use Rattle.nm_scenario.specs.Flat.{row_limit, node_limit, key_of, change_of, or_unread, member_count, are_entries, entries_after, entries_in, entries_read, entries_within, edit_of, edit_read, state_of, state_read, unmarked, valid_state}
 

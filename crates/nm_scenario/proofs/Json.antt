@@ -5,10 +5,10 @@ use Rattle.std.proofs.lemmas.Str.{IsUtf8-from_is_utf8, is_utf8-from_IsUtf8}
 use Rattle.serde_json.specs.Data.{Data}
 use Rattle.serde_json.specs.Read.{read}
 use Rattle.nm_proto.specs.declared.kind.ScenarioKind.TheVariants.{NotJson}
-use Rattle.nm_scenario_parts.specs.declared.fault.Fault.{Fault}
-use Rattle.nm_scenario_parts.specs.declared.fault.ReadError.{ReadError}
-use Rattle.nm_scenario_parts.specs.declared.fault.ReadError.TheVariants.{Bad}
-use Rattle.nm_scenario_parts.specs.Reading.{Gives, here}
+use Rattle.nm_scenario_form.specs.declared.fault.Fault.{Fault}
+use Rattle.nm_scenario_form.specs.declared.fault.ReadError.{ReadError}
+use Rattle.nm_scenario_form.specs.declared.fault.ReadError.TheVariants.{Bad}
+use Rattle.nm_scenario_form.specs.Reading.{Gives, here}
 use Rattle.nm_scenario_form.specs.Read.{told}
 use Rattle.nm_scenario.specs.Scenario.{json_of, parsed}
 

@@ -2,15 +2,15 @@
 use Rattle.std.proofs.Common.{◌≡◌, ◌<◌, ℕ, List, [], ◌∷◌, length, cond, codes, Result, Ok, Err, inl, inr, refl, ap, sym, subst, ◌∙◌, arith, lt-ltb}
 use Rattle.nm_proto.specs.declared.kind.ScenarioKind.TheVariants.{TooLong}
 use Rattle.serde_json.specs.Data.{Data}
-use Rattle.nm_tree.specs.Nodes.{SchemaTree}
-use Rattle.nm_schema_flaws.specs.declared.fault.Fault.{Fault as SchemaFault}
+use Rattle.nm_schema_tree.specs.Nodes.{SchemaTree}
+use Rattle.nm_schema_faults.specs.declared.fault.Fault.{Fault as SchemaFault}
 use Rattle.nm_schema.specs.Built.{built_of}
-use Rattle.nm_scenario_parts.specs.declared.fault.Step.{Step}
-use Rattle.nm_scenario_parts.specs.declared.fault.Step.TheVariants.{Name, Item}
-use Rattle.nm_scenario_parts.specs.declared.fault.Cause.{Cause}
-use Rattle.nm_scenario_parts.specs.declared.fault.Fault.{Fault}
-use Rattle.nm_scenario_parts.specs.declared.fault.ReadError.{ReadError}
-use Rattle.nm_scenario_parts.specs.Reading.{◌>>=◌, Gives, plain}
+use Rattle.nm_scenario_form.specs.declared.fault.Step.{Step}
+use Rattle.nm_scenario_form.specs.declared.fault.Step.TheVariants.{Name, Item}
+use Rattle.nm_scenario_form.specs.declared.fault.Cause.{Cause}
+use Rattle.nm_scenario_form.specs.declared.fault.Fault.{Fault}
+use Rattle.nm_scenario_form.specs.declared.fault.ReadError.{ReadError}
+use Rattle.nm_scenario_form.specs.Reading.{◌>>=◌, Gives, plain}
 use Rattle.nm_scenario_form.specs.Order.{Faults, NotAfter, IsFirst}
 use Rattle.nm_scenario_form.specs.Says.{Says}
 use Rattle.nm_scenario_form.specs.Wrong.{Wrong}

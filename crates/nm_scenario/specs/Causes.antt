@@ -7,17 +7,17 @@ use Rattle.nm_base.specs.Tag.{tag_text}
 use Rattle.nm_yang.specs.declared.fault.YangKind.{YangKind}
 use Rattle.nm_yang.specs.declared.fault.YangKind.TheVariants.{UnclosedQuote, UnclosedComment, UnclosedBrace, BadEscape, BadKeyword, BadToken, NotModule, Trailing, NotUtf8, TooLong, TooDeep}
 use Rattle.nm_yang.specs.declared.fault.Fault.{Fault as TextFault}
-use Rattle.nm_schema_rows.specs.declared.flaw.Flaw.{Flaw}
-use Rattle.nm_schema_rows.specs.declared.flaw.Flaw.TheVariants as flaw
+use Rattle.nm_schema_statements.specs.declared.flaw.Flaw.{Flaw}
+use Rattle.nm_schema_statements.specs.declared.flaw.Flaw.TheVariants as flaw
 use Rattle.nm_json.specs.declared.fault.JsonKind.{JsonKind}
 use Rattle.nm_json.specs.declared.fault.JsonKind.TheVariants as json
 use Rattle.nm_proto.specs.Content.{Refusal}
 use Rattle.nm_proto.specs.declared.kind.ScenarioKind.{ScenarioKind}
 use Rattle.nm_proto.specs.declared.kind.ScenarioKind.TheVariants.{TooMany, Yang, Schema, Content}
-use Rattle.nm_scenario_parts.specs.declared.fault.Cause.{Cause}
-use Rattle.nm_scenario_parts.specs.declared.fault.InnerPlace.{InnerPlace}
-use Rattle.nm_scenario_parts.specs.declared.fault.InnerPlace.TheVariants.{Byte, Path}
-use Rattle.nm_scenario_parts.specs.Reading.{plain}
+use Rattle.nm_scenario_form.specs.declared.fault.Cause.{Cause}
+use Rattle.nm_scenario_form.specs.declared.fault.InnerPlace.{InnerPlace}
+use Rattle.nm_scenario_form.specs.declared.fault.InnerPlace.TheVariants.{Byte, Path}
+use Rattle.nm_scenario_form.specs.Reading.{plain}
 
 -- a fault of a kind, with what a lower reader told: its word, what it is about, and the place
 abbrev pub caused : ScenarioKind → List ℕ → Option (List ℕ) → InnerPlace → Cause
@@ -88,6 +88,7 @@ data_cause found path = caused Content (data_word found) None (Path path)
 abbrev pub refusal_cause : ScenarioKind → Refusal → Cause
 refusal_cause kind refusal = caused kind (tag_text refusal.tag) None (Path refusal.path)
 
+-- the cause of a refused edit: one for want of room counts as too many nodes
 abbrev pub edit_cause_by : Tag → Refusal → Cause
 edit_cause_by ResourceDenied refusal = plain TooMany
 edit_cause_by _ refusal = refusal_cause Content refusal

@@ -9,7 +9,7 @@ use Rattle.nm_proto.specs.declared.message.DefaultOperation.{DefaultOperation}
 use Rattle.nm_proto.specs.declared.message.DefaultOperation.TheVariants.{Merge}
 use Rattle.nm_proto.specs.declared.plan.ChangePlan.{ChangePlan}
 use Rattle.nm_proto.specs.declared.plan.PlannedEdit.{PlannedEdit}
-use Rattle.nm_scenario_parts.specs.Reading.{natural_of}
+use Rattle.nm_scenario_form.specs.Reading.{natural_of}
 use Rattle.nm_scenario_form.specs.Form.{Form, Parts, by, list, done, required, optional, closed}
 use Rattle.nm_scenario_form.specs.Leafs.{above, number, one}
 use Rattle.nm_scenario_events.specs.Limits.{change_limit, device_limit}
@@ -32,6 +32,7 @@ edit_parts edit below devices =
     (optional (codes "default") Merge operation
     (required (codes "edit") edit done))
 
+-- one edit of a change set, with its default operation
 abbrev pub edit_form : {E : Type 0} → Form E → ℕ → ℕ → Form (ReadEdit E)
 edit_form edit below devices = closed (edit_parts edit below devices)
     (λ device operation edit. record { device = device; default_operation = operation; edit = edit })
@@ -40,11 +41,13 @@ edit_form edit below devices = closed (edit_parts edit below devices)
 unfoldable pub edits_form : {E : Type 0} → Form E → ℕ → Form (List (ReadEdit E))
 edits_form edit devices = by (λ whole. list 1 (2 ^ 64 - 1) one (λ n. edit_form edit (above_at whole n) devices))
 
+-- the members of a change set: its timeout in seconds, which may be left out, and its edits
 abbrev pub change_parts : {E : Type 0} → Form E → ℕ → Parts (ℕ → List (ReadEdit E) → ReadChange E) (ReadChange E)
 change_parts edit devices =
     optional (codes "timeout") default_timeout (number 1 (2 ^ 32 - 1))
     (required (codes "edits") (edits_form edit devices) done)
 
+-- one change set
 abbrev pub change_form : {E : Type 0} → Form E → ℕ → Form (ReadChange E)
 change_form edit devices = closed (change_parts edit devices) (λ timeout edits. record { timeout = timeout; edits = edits })
 

@@ -6,12 +6,12 @@ use Rattle.serde_json.specs.Data.{Data, null, boolean, number, string, array, ob
 use Rattle.serde_json.specs.Find.{as_u64, as_object}
 use Rattle.nm_base.specs.Decimal.{number_of}
 use Rattle.nm_proto.specs.Content.{Refusal}
-use Rattle.nm_proto.specs.Flat.{FlatState, flat_violation}
-use Rattle.nm_proto.specs.declared.flat.FlatEdit.{FlatEdit}
+use Rattle.nm_flat.specs.Flat.{FlatState, flat_violation}
+use Rattle.nm_flat.specs.declared.flat.FlatEdit.{FlatEdit}
 use Rattle.nm_proto.specs.declared.kind.ScenarioKind.TheVariants.{Content, TooMany, Invalid}
-use Rattle.nm_scenario_parts.specs.declared.fault.Cause.{Cause}
-use Rattle.nm_scenario_parts.specs.declared.fault.Fault.{Fault}
-use Rattle.nm_scenario_parts.specs.Reading.{◌>>=◌, here, natural_of, plain}
+use Rattle.nm_scenario_form.specs.declared.fault.Cause.{Cause}
+use Rattle.nm_scenario_form.specs.declared.fault.Fault.{Fault}
+use Rattle.nm_scenario_form.specs.Reading.{◌>>=◌, here, natural_of, plain}
 use Rattle.nm_scenario_form.specs.Read.{told}
 use Rattle.nm_scenario.specs.Causes.{refusal_cause}
 
@@ -19,6 +19,7 @@ use Rattle.nm_scenario.specs.Causes.{refusal_cause}
 abbrev pub row_limit : ℕ
 row_limit = 20000
 
+-- the greatest number of nodes of one edit
 abbrev pub node_limit : ℕ
 node_limit = 5000
 
@@ -65,6 +66,7 @@ abbrev pub valid_state : FlatState → Option Refusal → Result FlatState Cause
 valid_state state None = Ok state
 valid_state state (Some refusal) = Err (refusal_cause Invalid refusal)
 
+-- a running configuration of these cells, where they could be read and are valid
 abbrev pub state_of : Result (FinMap nat_cmp ℕ) Cause → Result FlatState Cause
 state_of (Ok cells) = valid_state (unmarked cells) (flat_violation (unmarked cells))
 state_of (Err cause) = Err cause
@@ -84,6 +86,7 @@ change_of (string text) = None
 change_of (array items) = None
 change_of (object m) = None
 
+-- an edit of these cells, where they could be read
 abbrev pub edit_of : Result (FinMap nat_cmp (Option ℕ)) Cause → Result FlatEdit Cause
 edit_of (Ok changes) = Ok (record { changes = changes })
 edit_of (Err cause) = Err cause
@@ -111,11 +114,13 @@ entries_read value entries (member name part rest) = do
 abbrev pub entries_within : {V : Type 0} → ℕ → (Data → Option V) → Members → Result (FinMap nat_cmp V) Fault
 entries_within most value members = if nat_lt most (member_count members) then here TooMany else entries_read value empty members
 
+-- a running configuration, or its first fault
 abbrev pub state_read : Members → Result FlatState Fault
 state_read members = do
   cells ← entries_within row_limit natural_of members
   told (valid_state (unmarked cells) (flat_violation (unmarked cells)))
 
+-- an edit, or its first fault
 abbrev pub edit_read : Members → Result FlatEdit Fault
 edit_read members = do
   changes ← entries_within node_limit change_of members

@@ -7,8 +7,8 @@ use Rattle.nm_yang.specs.Tree.{Tree}
 use Rattle.nm_yang.specs.Module.{reading}
 use Rattle.nm_yang.specs.declared.fault.Fault.{Fault as TextFault}
 use Rattle.nm_proto.specs.declared.kind.ScenarioKind.TheVariants.{BadValue}
-use Rattle.nm_scenario_parts.specs.declared.fault.Cause.{Cause}
-use Rattle.nm_scenario_parts.specs.Reading.{plain}
+use Rattle.nm_scenario_form.specs.declared.fault.Cause.{Cause}
+use Rattle.nm_scenario_form.specs.Reading.{plain}
 use Rattle.nm_scenario_form.specs.Form.{Form, Parts, leaf, by, list, object, done, required, optional, chosen}
 use Rattle.nm_scenario_form.specs.Leafs.{number, one}
 use Rattle.nm_scenario.specs.declared.head.Head.{Head}
@@ -19,6 +19,7 @@ use Rattle.nm_scenario.specs.Nothing.{nothing}
 
 -- ---- the form of the contents
 
+-- there is a text, and it is this word
 abbrev pub is_text : List ℕ → Option (List ℕ) → Bool
 is_text word None = false
 is_text word (Some text) = bytes_eq text word
@@ -27,10 +28,12 @@ is_text word (Some text) = bytes_eq text word
 abbrev pub has_word : List ℕ → List ℕ → Data → Bool
 has_word name word whole = is_text word (option_and_then as_str (get name whole))
 
+-- the form of contents that a word names: `flat` or `yang`
 abbrev pub contents_in : Option (List ℕ) → Result (Unit {0}) Cause
 contents_in None = Err (plain BadValue)
 contents_in (Some word) = if bytes_eq word (codes "flat") || bytes_eq word (codes "yang") then Ok tt else Err (plain BadValue)
 
+-- the form of contents that a part names
 unfoldable pub contents_said : Data → Result (Unit {0}) Cause
 contents_said part = contents_in (as_str part)
 
@@ -40,6 +43,7 @@ contents = leaf contents_said
 
 -- ---- modules
 
+-- the greatest number of modules
 abbrev pub module_limit : ℕ
 module_limit = 16
 
@@ -48,10 +52,12 @@ abbrev pub module_read : List ℕ → Result Tree TextFault → Result ReadModul
 module_read text (Ok tree) = Ok (record { text = text; statement = tree })
 module_read text (Err fault) = Err (text_cause fault)
 
+-- a module by its text; what is no text is a bad value
 abbrev pub module_in : Option (List ℕ) → Result ReadModule Cause
 module_in None = Err (plain BadValue)
 module_in (Some text) = module_read text (reading text)
 
+-- the module of a part
 unfoldable pub module_said : Data → Result ReadModule Cause
 module_said part = module_in (as_str part)
 
@@ -59,15 +65,19 @@ module_said part = module_in (as_str part)
 unfoldable pub modules_form : Form (List ReadModule)
 modules_form = list 0 module_limit one (λ n. leaf module_said)
 
+-- the text of a module
 abbrev pub text_of : ReadModule → List ℕ
 text_of m = m.text
 
+-- the statement of a module
 abbrev pub statement_of : ReadModule → Tree
 statement_of m = m.statement
 
+-- the texts of modules, in their order
 abbrev pub texts_of : List ReadModule → List (List ℕ)
 texts_of modules = map text_of modules
 
+-- the statements of modules, in their order
 abbrev pub statements_of : List ReadModule → List Tree
 statements_of modules = map statement_of modules
 
@@ -88,6 +98,7 @@ flat_parts =
     (required (codes "contents") contents
     (optional (codes "modules") tt (nothing BadValue) done))
 
+-- YANG contents may have modules; without the member there are none
 abbrev pub yang_parts : Parts (ℕ → Unit {0} → List ReadModule → Head) Head
 yang_parts =
     required (codes "netm") (number 1 1)

@@ -1,3 +1,4 @@
+-- The forms of a scenario's members, each in a file of its name; `Scenario` has the whole and what is wrong with it.
 pub mod Causes
 pub mod Nothing
 pub mod Flat

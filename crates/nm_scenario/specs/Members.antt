@@ -4,7 +4,7 @@ use Rattle.std.specs.Prelude.{ℕ, List, [], Bool, false, ◌||◌, Result, code
 use Rattle.std.specs.Str.{bytes_eq}
 use Rattle.serde_json.specs.Data.{Data}
 use Rattle.nm_proto.specs.declared.kind.ScenarioKind.TheVariants.{NotBuilt}
-use Rattle.nm_scenario_parts.specs.declared.fault.Cause.{Cause}
+use Rattle.nm_scenario_form.specs.declared.fault.Cause.{Cause}
 use Rattle.nm_scenario_form.specs.Form.{Form, Parts, leaf, by, object, done, required, optional}
 use Rattle.nm_scenario_form.specs.Leafs.{switch}
 use Rattle.nm_scenario_events.specs.declared.arguments.Counts.{Counts}
@@ -29,6 +29,7 @@ knows_scenario name =
 abbrev pub Makes : Type 0 → Type 0 → Type 0
 Makes C E = List C → List (ReadChange E) → List (List ℕ) → Unit {0} → List (ReadEvent E) → Bool → Bool → Members C E
 
+-- the members of a scenario from what each of them says
 abbrev pub makes : {C E : Type 0} → Makes C E
 makes devices changes operators faults events drain trace = record {
   devices = devices;

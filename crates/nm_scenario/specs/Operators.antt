@@ -5,8 +5,8 @@ use Rattle.serde_json.specs.Data.{Data}
 use Rattle.serde_json.specs.Find.{as_str}
 use Rattle.nm_base.specs.Words.{manager}
 use Rattle.nm_proto.specs.declared.kind.ScenarioKind.TheVariants.{NotBuilt, BadValue}
-use Rattle.nm_scenario_parts.specs.declared.fault.Cause.{Cause}
-use Rattle.nm_scenario_parts.specs.Reading.{plain}
+use Rattle.nm_scenario_form.specs.declared.fault.Cause.{Cause}
+use Rattle.nm_scenario_form.specs.Reading.{plain}
 use Rattle.nm_scenario_form.specs.Form.{Form, Parts, leaf, list, done, required, optional, closed}
 use Rattle.nm_scenario_form.specs.Leafs.{one}
 use Rattle.nm_scenario_events.specs.Limits.{operator_limit}
@@ -16,11 +16,13 @@ use Rattle.nm_scenario.specs.Nothing.{nothing}
 abbrev pub user_limit : ℕ
 user_limit = 64
 
+-- the name of a user: not the manager's, and of as many bytes as it may have
 abbrev pub user_in : Option (List ℕ) → Result (List ℕ) Cause
 user_in None = Err (plain BadValue)
 user_in (Some name) = if bytes_eq name manager then Err (plain BadValue) else
     (if nat_le 1 (length name) && nat_le (length name) user_limit then Ok name else Err (plain BadValue))
 
+-- the name of a user that a part says
 unfoldable pub user_said : Data → Result (List ℕ) Cause
 user_said part = user_in (as_str part)
 
@@ -32,6 +34,7 @@ user = leaf user_said
 abbrev pub operator_parts : Parts (List ℕ → Unit {0} → List ℕ) (List ℕ)
 operator_parts = required (codes "user") user (optional (codes "script") tt (nothing NotBuilt) done)
 
+-- one operator, by its user
 abbrev pub operator_form : Form (List ℕ)
 operator_form = closed operator_parts (λ user script. user)
 

@@ -2,13 +2,13 @@
 -- functions of the whole value do.
 use Rattle.std.specs.Prelude.{ℕ, List, Result, Ok, Err, codes}
 use Rattle.serde_json.specs.Data.{Data}
-use Rattle.nm_tree.specs.Nodes.{SchemaTree}
-use Rattle.nm_schema_flaws.specs.declared.fault.Fault.{Fault as SchemaFault}
+use Rattle.nm_schema_tree.specs.Nodes.{SchemaTree}
+use Rattle.nm_schema_faults.specs.declared.fault.Fault.{Fault as SchemaFault}
 use Rattle.nm_schema.specs.Built.{built_of}
-use Rattle.nm_scenario_parts.specs.declared.fault.Step.TheVariants.{Name, Item}
-use Rattle.nm_scenario_parts.specs.declared.fault.Cause.{Cause}
-use Rattle.nm_scenario_parts.specs.declared.fault.Fault.{Fault}
-use Rattle.nm_scenario_parts.specs.Reading.{◌>>=◌, under}
+use Rattle.nm_scenario_form.specs.declared.fault.Step.TheVariants.{Name, Item}
+use Rattle.nm_scenario_form.specs.declared.fault.Cause.{Cause}
+use Rattle.nm_scenario_form.specs.declared.fault.Fault.{Fault}
+use Rattle.nm_scenario_form.specs.Reading.{◌>>=◌, under}
 use Rattle.nm_scenario_form.specs.Read.{read, told}
 use Rattle.nm_scenario.specs.declared.scenario.Body.{Body}
 use Rattle.nm_scenario.specs.declared.scenario.Body.TheVariants as body
@@ -35,6 +35,7 @@ at_module fault = under (Name (codes "modules")) (under (Item (module_of fault))
 unfoldable pub data_read : SchemaTree → List (List ℕ) → Data → Result Scenario Fault
 data_read tree texts whole = scenario_read (data_said tree) (nodes_said tree) (body.Yang texts tree) whole
 
+-- the scenario of YANG contents, where its modules give a tree, or the fault of a module
 abbrev pub built_read : List (List ℕ) → Result SchemaTree SchemaFault → Data → Result Scenario Fault
 built_read texts (Ok tree) whole = data_read tree texts whole
 built_read texts (Err fault) whole = at_module fault

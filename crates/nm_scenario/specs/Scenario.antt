@@ -5,17 +5,17 @@ use Rattle.std.specs.Prelude.{◌≡◌, ℕ, List, [], ◌∷◌, Option, Some,
 use Rattle.std.specs.Str.{is_utf8}
 use Rattle.serde_json.specs.Data.{Data}
 use Rattle.serde_json.specs.Read.{read}
-use Rattle.nm_tree.specs.Nodes.{SchemaTree}
-use Rattle.nm_schema_flaws.specs.declared.fault.Fault.{Fault as SchemaFault}
-use Rattle.nm_schema_flaws.specs.declared.fault.Fault.TheVariants.{Flawed, TooLarge}
+use Rattle.nm_schema_tree.specs.Nodes.{SchemaTree}
+use Rattle.nm_schema_faults.specs.declared.fault.Fault.{Fault as SchemaFault}
+use Rattle.nm_schema_faults.specs.declared.fault.Fault.TheVariants.{Flawed, TooLarge}
 use Rattle.nm_schema.specs.Built.{built_of}
 use Rattle.nm_proto.specs.declared.kind.ScenarioKind.TheVariants as kind
-use Rattle.nm_scenario_parts.specs.declared.fault.Step.{Step}
-use Rattle.nm_scenario_parts.specs.declared.fault.Step.TheVariants.{Name, Item}
-use Rattle.nm_scenario_parts.specs.declared.fault.Cause.{Cause}
-use Rattle.nm_scenario_parts.specs.declared.fault.Fault.{Fault}
-use Rattle.nm_scenario_parts.specs.declared.fault.ReadError.{ReadError}
-use Rattle.nm_scenario_parts.specs.Reading.{plain}
+use Rattle.nm_scenario_form.specs.declared.fault.Step.{Step}
+use Rattle.nm_scenario_form.specs.declared.fault.Step.TheVariants.{Name, Item}
+use Rattle.nm_scenario_form.specs.declared.fault.Cause.{Cause}
+use Rattle.nm_scenario_form.specs.declared.fault.Fault.{Fault}
+use Rattle.nm_scenario_form.specs.declared.fault.ReadError.{ReadError}
+use Rattle.nm_scenario_form.specs.Reading.{plain}
 use Rattle.nm_scenario_form.specs.Order.{Faults, IsFirst, Either}
 use Rattle.nm_scenario_form.specs.Says.{Says}
 use Rattle.nm_scenario_form.specs.Wrong.{Wrong}
@@ -62,6 +62,7 @@ abbrev pub SaysAfter : Head → Data → Scenario → Type 0
 SaysAfter head.Flat whole scenario = SaysMembers cells_said changes_said body.Flat whole scenario
 SaysAfter (head.Yang modules) whole scenario = SaysBuilt (texts_of modules) (built_of (statements_of modules)) whole scenario
 
+-- what a JSON value says as a scenario: a head, and what follows after that head
 pub record SaysScenario (whole : Data) (scenario : Scenario) : Type 0 where
   pub head : Head
   pub says : Says head_form whole head
@@ -85,10 +86,12 @@ pub record WrongModule (fault : SchemaFault) (cause : Cause) (place : List Step)
   pub place_is : place ≡ Name (codes "modules") ∷ Item (module_of fault) ∷ []
   pub spot_is : spot ≡ 2 ∷ module_of fault ∷ []
 
+-- what is wrong after modules: with a module, or where they give a tree with the other members
 unfoldable pub WrongBuilt : Result SchemaTree SchemaFault → Data → Faults
 WrongBuilt (Ok tree) whole = Wrong (members_form (data_said tree) (nodes_said tree)) whole
 WrongBuilt (Err fault) whole = WrongModule fault
 
+-- what is wrong after a head, with the members as its contents are written
 unfoldable pub WrongAfter : Head → Data → Faults
 WrongAfter head.Flat whole = Wrong (members_form cells_said changes_said) whole
 WrongAfter (head.Yang modules) whole = WrongBuilt (built_of (statements_of modules)) whole
@@ -99,6 +102,7 @@ pub record WrongRest (whole : Data) (cause : Cause) (place : List Step) (spot : 
   pub says : Says head_form whole head
   pub wrong : WrongAfter head whole cause place spot
 
+-- all that is wrong with a JSON value as a scenario: in its head, or after it
 abbrev pub WrongScenario : Data → Faults
 WrongScenario whole = Either (Wrong head_form whole) (WrongRest whole)
 
@@ -112,6 +116,7 @@ byte_limit = 16777216
 abbrev pub json_of : List ℕ → Option Data
 json_of bytes = if is_utf8 bytes then read bytes else None
 
+-- a JSON value, or that there is none
 abbrev pub parsed : Option Data → Result Data Cause
 parsed None = Err (plain kind.NotJson)
 parsed (Some whole) = Ok whole
@@ -120,6 +125,7 @@ parsed (Some whole) = Ok whole
 unfoldable pub whole_of : List ℕ → Result Data Cause
 whole_of bytes = if nat_lt byte_limit (length bytes) then Err (plain kind.TooLong) else parsed (json_of bytes)
 
+-- what bytes say as a scenario, where they are a JSON value
 abbrev pub SaysValue : Result Data Cause → Scenario → Type 0
 SaysValue (Ok whole) scenario = SaysScenario whole scenario
 SaysValue (Err cause) scenario = ⊥
@@ -130,6 +136,7 @@ pub record WrongWhole (why cause : Cause) (place : List Step) (spot : List ℕ) 
   pub place_is : place ≡ []
   pub spot_is : spot ≡ []
 
+-- what is wrong with bytes: that they are no JSON value, or what is wrong with that
 unfoldable pub WrongValue : Result Data Cause → Faults
 WrongValue (Ok whole) = WrongScenario whole
 WrongValue (Err cause) = WrongWhole cause

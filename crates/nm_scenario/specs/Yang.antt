@@ -3,18 +3,18 @@ use Rattle.std.specs.Prelude.{List, [], ◌∷◌, Bool, true, false, Option, So
 use Rattle.serde_json.specs.Data.{Data}
 use Rattle.nm_proto.specs.Content.{Refusal}
 use Rattle.nm_proto.specs.declared.kind.ScenarioKind.TheVariants.{TooMany, Content, Invalid}
-use Rattle.nm_tree.specs.Nodes.{SchemaTree}
+use Rattle.nm_schema_tree.specs.Nodes.{SchemaTree}
 use Rattle.nm_config.specs.Rows.{Rows}
 use Rattle.nm_config.specs.Under.{has_under}
 use Rattle.nm_json.specs.declared.fault.JsonFault.{JsonFault}
 use Rattle.nm_json.specs.declared.fault.JsonFault.TheVariants.{NotJson, Bad, TooManyRows, NoMemory}
 use Rattle.nm_json.specs.Whole.{config_read}
-use Rattle.nm_check.specs.Told.{violation_told}
+use Rattle.nm_validate.specs.Told.{violation_told}
 use Rattle.nm_edit.specs.declared.edit.EditNode.{EditNode}
 use Rattle.nm_edit_json.specs.Whole.{edit_read}
 use Rattle.nm_content.specs.Mark.{changes_step}
-use Rattle.nm_scenario_parts.specs.declared.fault.Cause.{Cause}
-use Rattle.nm_scenario_parts.specs.Reading.{plain}
+use Rattle.nm_scenario_form.specs.declared.fault.Cause.{Cause}
+use Rattle.nm_scenario_form.specs.Reading.{plain}
 use Rattle.nm_scenario.specs.Causes.{data_cause, refusal_cause, edit_cause}
 
 -- ---- running configurations
@@ -44,6 +44,7 @@ data_said tree part = rows_from tree (config_read tree part)
 
 -- ---- edits
 
+-- the nodes of an edit, or the cause of its refusal
 abbrev pub nodes_from : Result (List EditNode) Refusal → Result (List EditNode) Cause
 nodes_from (Ok nodes) = Ok nodes
 nodes_from (Err refusal) = Err (edit_cause refusal)

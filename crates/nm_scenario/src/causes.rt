@@ -1,16 +1,16 @@
 //! What the readers of modules, configurations and edits tell, as faults of a scenario: their words and places are kept.
 
 ghost use Rattle.std.specs.Prelude.{◌≡◌, Some, None, Err, codes};
-ghost use Rattle.nm_scenario_parts.specs.Reading.{Gives};
+ghost use Rattle.nm_scenario_form.specs.Reading.{Gives};
 ghost use Rattle.nm_scenario_form.specs.Read.{told};
 ghost use Rattle.nm_scenario.specs.Causes as spec;
 
 use nm_base::{Label, Tag};
 use nm_json::JsonKind;
+use nm_scenario_form::places::fault_here;
 use nm_scenario_form::reader::fault_told;
-use nm_scenario_parts::reader::fault_here;
-use nm_scenario_parts::{Cause, Inner, InnerPlace, ReadError, ScenarioKind};
-use nm_schema_rows::Flaw;
+use nm_scenario_form::{Cause, Inner, InnerPlace, ReadError, ScenarioKind};
+use nm_schema_statements::Flaw;
 use nm_yang::YangKind;
 use std::alloc::Global;
 

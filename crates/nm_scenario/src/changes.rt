@@ -1,3 +1,5 @@
+//! The member `changes`: change sets with their edits, each device above the one before.
+
 ghost use Rattle.std.specs.Prelude.{◌≡◌, ◌-◌, ◌^◌, ◌||◌, Some, false, codes, min};
 ghost use Rattle.std.specs.Str.{bytes_eq};
 ghost use Rattle.serde_json.specs.View.{view};
@@ -12,12 +14,11 @@ use nm_base::{DEFAULT_TIMEOUT, DeviceNo};
 use nm_proto::{DefaultOperation, Listed};
 use nm_scenario_events::Operation;
 use nm_scenario_events::limits::{CHANGE_LIMIT, DEVICE_LIMIT};
+use nm_scenario_form::places::KnownNames;
 use nm_scenario_form::{
-    ItemReader, Reader, no_other_names, optional, read_above, read_list, read_number, read_object,
-    required,
+    ItemReader, ReadError, Reader, no_other_names, optional, read_above, read_list, read_number,
+    read_object, required,
 };
-use nm_scenario_parts::ReadError;
-use nm_scenario_parts::reader::KnownNames;
 use serde_json::Value;
 use std::alloc::Global;
 

@@ -3,13 +3,12 @@
 ghost use Rattle.std.specs.Prelude.{Result};
 ghost use Rattle.serde_json.specs.Data.{Data};
 ghost use Rattle.serde_json.specs.View.{view};
-ghost use Rattle.nm_scenario_parts.specs.declared.fault.Cause.{Cause};
-ghost use Rattle.nm_scenario_parts.specs.Reading.{Gives};
+ghost use Rattle.nm_scenario_form.specs.declared.fault.Cause.{Cause};
+ghost use Rattle.nm_scenario_form.specs.Reading.{Gives};
 ghost use Rattle.nm_scenario_form.specs.Form.{leaf};
 ghost use Rattle.nm_scenario_form.specs.Read.{told};
 
-use nm_scenario_form::Reader;
-use nm_scenario_parts::ReadError;
+use nm_scenario_form::{ReadError, Reader};
 use serde_json::Value;
 use std::alloc::Global;
 

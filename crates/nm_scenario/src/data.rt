@@ -1,23 +1,23 @@
 //! YANG contents: their configurations and edits are data by the schema tree of their modules (RFC 7951).
 
 ghost use Rattle.std.specs.Prelude.{◌≡◌, IfOk};
-ghost use Rattle.nm_check.specs.Told.{violation_told};
-ghost use Rattle.nm_scenario_parts.specs.Reading.{Gives};
+ghost use Rattle.nm_validate.specs.Told.{violation_told};
+ghost use Rattle.nm_scenario_form.specs.Reading.{Gives};
 ghost use Rattle.nm_scenario_form.specs.Read.{told};
 ghost use Rattle.nm_scenario.specs.Yang.{data_said, holds_marks, nodes_said, valid_rows};
 
 use crate::causes::{data_fault, edit_fault, refusal_fault};
 use crate::contents::Written;
 use nm_base::NoMemory;
-use nm_check::check_rows;
 use nm_config::Config;
 use nm_content::{YangContent, marks_path};
 use nm_edit::{Edit, EditFault};
 use nm_edit_json::read_edit;
 use nm_json::{JsonFault, config_of};
 use nm_proto::CheckFault;
-use nm_scenario_parts::reader::fault_here;
-use nm_scenario_parts::{ReadError, ScenarioKind};
+use nm_scenario_form::places::fault_here;
+use nm_scenario_form::{ReadError, ScenarioKind};
+use nm_validate::check_rows;
 use serde_json::Value;
 use std::alloc::Global;
 

@@ -1,3 +1,5 @@
+//! The member `devices`: each with its running configuration, as the contents are written.
+
 ghost use Rattle.std.specs.Prelude.{◌||◌, false, codes};
 ghost use Rattle.std.specs.Str.{bytes_eq};
 ghost use Rattle.nm_scenario.specs.Devices.{device_form, devices_form};
@@ -5,9 +7,10 @@ ghost use Rattle.nm_scenario.specs.Devices.{device_form, devices_form};
 use crate::contents::{Running, Written};
 use nm_proto::Listed;
 use nm_scenario_events::limits::DEVICE_LIMIT;
-use nm_scenario_form::{ItemReader, Reader, no_other_names, read_list, read_object, required};
-use nm_scenario_parts::ReadError;
-use nm_scenario_parts::reader::KnownNames;
+use nm_scenario_form::places::KnownNames;
+use nm_scenario_form::{
+    ItemReader, ReadError, Reader, no_other_names, read_list, read_object, required,
+};
 use serde_json::Value;
 use std::alloc::Global;
 

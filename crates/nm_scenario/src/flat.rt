@@ -3,17 +3,18 @@
 ghost use Rattle.std.specs.Prelude.{◌≡◌, None, Some, string_bytes};
 ghost use Rattle.std.specs.FinMap.{empty};
 ghost use Rattle.serde_json.specs.View.{view, members_view};
-ghost use Rattle.nm_proto.specs.Flat.{flat_violation};
-ghost use Rattle.nm_scenario_parts.specs.Reading.{Gives, natural_of};
+ghost use Rattle.nm_flat.specs.Flat.{flat_violation};
+ghost use Rattle.nm_scenario_form.specs.Reading.{Gives, natural_of};
 ghost use Rattle.nm_scenario_form.specs.Read.{told};
 ghost use Rattle.nm_scenario.specs.Flat.{cells_said, change_of, changes_said, edit_of, edit_read, entries_in, entries_read, entries_within, key_of, node_limit, or_unread, row_limit, state_of, state_read, valid_state};
 
 use crate::causes::refusal_fault;
 use crate::contents::Written;
 use nm_base::read_decimal;
-use nm_proto::{CheckFault, Content, FlatConfig, FlatContent, FlatEdit, NumberMap};
-use nm_scenario_parts::reader::fault_here;
-use nm_scenario_parts::{ReadError, ScenarioKind};
+use nm_flat::{FlatConfig, FlatContent, FlatEdit, NumberMap};
+use nm_proto::{CheckFault, Content};
+use nm_scenario_form::places::fault_here;
+use nm_scenario_form::{ReadError, ScenarioKind};
 use serde_json::{Map, Value};
 use std::alloc::Global;
 

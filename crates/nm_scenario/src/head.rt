@@ -3,7 +3,7 @@
 ghost use Rattle.std.specs.Prelude.{◌≡◌, IfOk};
 ghost use Rattle.serde_json.specs.View.{view};
 ghost use Rattle.nm_yang.specs.Module.{reading};
-ghost use Rattle.nm_scenario_parts.specs.Reading.{Gives};
+ghost use Rattle.nm_scenario_form.specs.Reading.{Gives};
 ghost use Rattle.nm_scenario_form.specs.Form.{leaf, object};
 ghost use Rattle.nm_scenario_form.specs.Read.{read, told};
 ghost use Rattle.nm_scenario.specs.Head.{any_name, contents, flat_parts, has_word, head_form, module_read, module_said, modules_form, plain_parts, statements_of, texts_of, yang_parts};
@@ -13,11 +13,11 @@ use crate::causes::text_fault;
 use crate::nothing::Nothing;
 use nm_base::{Label, NoMemory};
 use nm_proto::Listed;
+use nm_scenario_form::places::{KnownNames, fault_here};
 use nm_scenario_form::{
-    ItemReader, Number, Reader, no_other_names, optional, read_list, read_object, required,
+    ItemReader, Number, ReadError, Reader, ScenarioKind, no_other_names, optional, read_list,
+    read_object, required,
 };
-use nm_scenario_parts::reader::{KnownNames, fault_here};
-use nm_scenario_parts::{ReadError, ScenarioKind};
 use nm_yang::{Statement, YangFault, read_module};
 use serde_json::Value;
 use std::alloc::Global;

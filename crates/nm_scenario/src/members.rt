@@ -2,7 +2,7 @@
 
 ghost use Rattle.std.specs.Prelude.{◌≡◌};
 ghost use Rattle.serde_json.specs.View.{view};
-ghost use Rattle.nm_scenario_parts.specs.Reading.{Gives};
+ghost use Rattle.nm_scenario_form.specs.Reading.{Gives};
 ghost use Rattle.nm_scenario_form.specs.Read.{read};
 ghost use Rattle.nm_scenario.specs.Counts.{count_in, counts_of};
 ghost use Rattle.nm_scenario.specs.Members.{knows_scenario, members_form};
@@ -16,10 +16,11 @@ use crate::scenario::ReadChange;
 use nm_base::Label;
 use nm_proto::Listed;
 use nm_scenario_events::{Counts, Events, ReadEvent};
-use nm_scenario_form::{Switch, no_other_names, optional, read_object, required};
-use nm_scenario_parts::reader::KnownNames;
-use nm_scenario_parts::words::item_count;
-use nm_scenario_parts::{ReadError, ScenarioKind};
+use nm_scenario_form::lists::item_count;
+use nm_scenario_form::places::KnownNames;
+use nm_scenario_form::{
+    ReadError, ScenarioKind, Switch, no_other_names, optional, read_object, required,
+};
 use serde_json::Value;
 use std::alloc::Global;
 

@@ -1,11 +1,12 @@
+//! Members that have to be empty lists: what they would say isn't built, or has no place there.
+
 ghost use Rattle.serde_json.specs.View.{items_view};
-ghost use Rattle.nm_scenario_parts.specs.Reading.{Gives};
+ghost use Rattle.nm_scenario_form.specs.Reading.{Gives};
 ghost use Rattle.nm_scenario_form.specs.Read.{told};
 ghost use Rattle.nm_scenario.specs.Nothing.{nothing, nothing_of};
 
-use nm_scenario_form::Reader;
-use nm_scenario_parts::reader::fault_here;
-use nm_scenario_parts::{ReadError, ScenarioKind};
+use nm_scenario_form::places::fault_here;
+use nm_scenario_form::{ReadError, Reader, ScenarioKind};
 use serde_json::Value;
 use std::alloc::Global;
 

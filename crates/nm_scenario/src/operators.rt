@@ -1,6 +1,8 @@
+//! The member `operators`: the users for whom sessions are opened beside the manager's.
+
 ghost use Rattle.std.specs.Prelude.{◌||◌, Some, false, codes};
 ghost use Rattle.std.specs.Str.{bytes_eq};
-ghost use Rattle.nm_scenario_parts.specs.Reading.{Gives};
+ghost use Rattle.nm_scenario_form.specs.Reading.{Gives};
 ghost use Rattle.nm_scenario_form.specs.Read.{told};
 ghost use Rattle.nm_scenario.specs.Operators.{operator_form, operators_form, user, user_in};
 
@@ -8,11 +10,11 @@ use crate::nothing::Nothing;
 use nm_base::{Label, MANAGER};
 use nm_proto::Listed;
 use nm_scenario_events::limits::OPERATOR_LIMIT;
+use nm_scenario_form::places::{KnownNames, fault_here};
 use nm_scenario_form::{
-    ItemReader, Reader, no_other_names, optional, read_list, read_object, required,
+    ItemReader, ReadError, Reader, ScenarioKind, no_other_names, optional, read_list, read_object,
+    required,
 };
-use nm_scenario_parts::reader::{KnownNames, fault_here};
-use nm_scenario_parts::{ReadError, ScenarioKind};
 use serde_json::Value;
 use std::alloc::Global;
 

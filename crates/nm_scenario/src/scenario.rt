@@ -4,7 +4,8 @@ use nm_base::{DeviceNo, Label};
 use nm_config::Config;
 use nm_content::YangContent;
 use nm_edit::Edit;
-use nm_proto::{ChangePlan, DefaultOperation, Event, FlatConfig, FlatEdit, Listed};
+use nm_flat::{FlatConfig, FlatEdit};
+use nm_proto::{ChangePlan, DefaultOperation, Event, Listed};
 
 /// What a scenario holds.
 #[derive(Drop)]

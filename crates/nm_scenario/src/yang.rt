@@ -2,9 +2,9 @@
 
 ghost use Rattle.std.specs.Prelude.{Result, codes};
 ghost use Rattle.serde_json.specs.View.{view};
-ghost use Rattle.nm_scenario_parts.specs.declared.fault.Fault.{Fault};
-ghost use Rattle.nm_scenario_parts.specs.declared.fault.Step.TheVariants.{Name, Item};
-ghost use Rattle.nm_scenario_parts.specs.Reading.{Gives, under};
+ghost use Rattle.nm_scenario_form.specs.declared.fault.Fault.{Fault};
+ghost use Rattle.nm_scenario_form.specs.declared.fault.Step.TheVariants.{Name, Item};
+ghost use Rattle.nm_scenario_form.specs.Reading.{Gives, under};
 ghost use Rattle.nm_scenario.specs.declared.head.Head.TheVariants as head;
 ghost use Rattle.nm_scenario.specs.Reading.{after_read, data_read};
 
@@ -16,8 +16,8 @@ use crate::scenario::{Body, Scenario};
 use nm_base::Label;
 use nm_content::{YangContent, marks_path, yang_content};
 use nm_proto::Listed;
-use nm_scenario_parts::reader::seen_from_outside;
-use nm_scenario_parts::{ReadError, Step};
+use nm_scenario_form::places::seen_from_outside;
+use nm_scenario_form::{ReadError, Step};
 use nm_schema::{SchemaFault, build};
 use serde_json::Value;
 use std::alloc::Global;

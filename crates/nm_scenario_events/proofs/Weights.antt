@@ -10,8 +10,8 @@ use Rattle.serde_json.specs.Data.{Data, null, boolean, number, string, array, ob
 use Rattle.serde_json.specs.Find.{at, as_array}
 use Rattle.nm_proto.specs.declared.plan.Event.TheVariants.{Round}
 use Rattle.nm_proto.specs.declared.kind.ScenarioKind.TheVariants.{BadValue}
-use Rattle.nm_scenario_parts.specs.Reading.{natural_of, count_of, plain}
-use Rattle.nm_scenario_parts.specs.Words.{is_word, item_count, natural_in}
+use Rattle.nm_scenario_form.specs.Reading.{natural_of, count_of, plain}
+use Rattle.nm_scenario_form.specs.Words.{is_word, item_count, natural_in}
 use Rattle.nm_scenario_form.specs.Form.{Form, arguments, done, ◌▹◌}
 use Rattle.nm_scenario_form.specs.Says.{Says, SaysSlot, Each, IfSo, takes, total}
 use Rattle.nm_scenario_form.specs.Kept.{Holds}

@@ -8,8 +8,8 @@ use Rattle.nm_proto.specs.declared.message.DefaultOperation.TheVariants.{Merge, 
 use Rattle.nm_proto.specs.declared.message.Store.{Store}
 use Rattle.nm_proto.specs.declared.message.Store.TheVariants.{Running, Candidate}
 use Rattle.nm_proto.specs.declared.kind.ScenarioKind.TheVariants.{BadValue}
-use Rattle.nm_scenario_parts.specs.declared.fault.Cause.{Cause}
-use Rattle.nm_scenario_parts.specs.Reading.{plain}
+use Rattle.nm_scenario_form.specs.declared.fault.Cause.{Cause}
+use Rattle.nm_scenario_form.specs.Reading.{plain}
 use Rattle.nm_scenario_form.specs.Form.{Form, leaf}
 use Rattle.nm_scenario_form.specs.Leafs.{number}
 use Rattle.nm_scenario_events.specs.declared.arguments.Counts.{Counts}
@@ -45,6 +45,7 @@ operation_of None = Err (plain BadValue)
 operation_of (Some text) = if bytes_eq text (codes "merge") then Ok Merge else
     (if bytes_eq text (codes "replace") then Ok Replace else (if bytes_eq text (codes "none") then Ok Nothing else Err (plain BadValue)))
 
+-- the default operation that a part says
 unfoldable pub operation_said : Data → Result DefaultOperation Cause
 operation_said part = operation_of (as_str part)
 
@@ -52,11 +53,13 @@ operation_said part = operation_of (as_str part)
 abbrev pub operation : Form DefaultOperation
 operation = leaf operation_said
 
+-- the datastore of a word; only running and candidate may be named
 abbrev pub store_of : Option (List ℕ) → Result Store Cause
 store_of None = Err (plain BadValue)
 store_of (Some text) = if bytes_eq text (codes "running") then Ok Running else
     (if bytes_eq text (codes "candidate") then Ok Candidate else Err (plain BadValue))
 
+-- the datastore that a part says
 unfoldable pub store_said : Data → Result Store Cause
 store_said part = store_of (as_str part)
 

@@ -3,7 +3,7 @@
 use Rattle.std.specs.Prelude.{ℕ, ◌*◌, List, Bool, false, ◌&&◌, ◌==◌, nat_le, min, Option, Some, None, unwrap_or, codes, if◌then◌else◌}
 use Rattle.serde_json.specs.Data.{Data}
 use Rattle.nm_proto.specs.declared.plan.Event.TheVariants.{Submit, Turn, Deliver, Answer, Break, Lose, Advance, Restart, Forget, Crash, Renew, Leave, Round}
-use Rattle.nm_scenario_parts.specs.Words.{is_word, item_count, natural_in}
+use Rattle.nm_scenario_form.specs.Words.{is_word, item_count, natural_in}
 use Rattle.nm_scenario_form.specs.Form.{Form, list, no_line, done, ◌▹◌, ◌or◌, built}
 use Rattle.nm_scenario_events.specs.declared.event.ReadEvent.{ReadEvent}
 use Rattle.nm_scenario_events.specs.declared.event.ReadEvent.TheVariants.{Other, Asked}

@@ -62,6 +62,7 @@ abbrev pub weight : Event → ℕ
 weight (Round change turns) = 3 * turns
 weight _ = 1
 
+-- how many elementary events an event as it was read stands for
 abbrev pub read_weight : {E : Type 0} → ReadEvent E → ℕ
 read_weight (Other event) = weight event
 read_weight (Asked operator device request) = 1

@@ -1,3 +1,4 @@
+-- Limits, then the forms of arguments, requests and events, and what is numbered in them.
 pub mod Limits
 pub mod Arguments
 pub mod Requests

@@ -1,6 +1,7 @@
 -- How many of everything a scenario may have (this project's own).
 use Rattle.std.specs.Prelude.{ℕ}
 
+-- the greatest number of a device
 abbrev pub device_limit : ℕ
 device_limit = 32
 
@@ -8,6 +9,7 @@ device_limit = 32
 abbrev pub change_limit : ℕ
 change_limit = 64
 
+-- the greatest number of an operator
 abbrev pub operator_limit : ℕ
 operator_limit = 16
 

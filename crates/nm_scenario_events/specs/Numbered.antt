@@ -22,6 +22,7 @@ numbered_request user edit select (Known request) = request
 numbered_request user edit select (WithEdit operation change) = Edit (record { 0 = edit }) operation None
 numbered_request user edit select (WithSelect texts) = PartialLock (record { 0 = select })
 
+-- an event as the world takes it: an operator's request with the numbers of its edit and selection, and with its user
 abbrev pub numbered_event : {E : Type 0} → List (List ℕ) → ℕ → ℕ → ReadEvent E → Event
 numbered_event users edit select (Other event) = event
 numbered_event users edit select (Asked operator device request) = Foreign operator device (numbered_request (user_of users operator) edit select request)
@@ -33,6 +34,7 @@ edit_of_request (Known request) = []
 edit_of_request (WithEdit operation edit) = edit ∷ []
 edit_of_request (WithSelect texts) = []
 
+-- the edit of an event, if it has one
 abbrev pub edit_of_event : {E : Type 0} → ReadEvent E → List E
 edit_of_event (Other event) = []
 edit_of_event (Asked operator device request) = edit_of_request request
@@ -44,6 +46,7 @@ select_of_request (Known request) = []
 select_of_request (WithEdit operation edit) = []
 select_of_request (WithSelect texts) = texts ∷ []
 
+-- the selection of an event, if it has one
 abbrev pub select_of_event : {E : Type 0} → ReadEvent E → List (List (List ℕ))
 select_of_event (Other event) = []
 select_of_event (Asked operator device request) = select_of_request request
@@ -58,5 +61,6 @@ events_from users edit select (e ∷ es) =
 abbrev pub edits_of_events : {E : Type 0} → List (ReadEvent E) → List E
 edits_of_events events = flat_map edit_of_event events
 
+-- the selections of events, in the order of their numbers
 abbrev pub selects_of_events : {E : Type 0} → List (ReadEvent E) → List (List (List ℕ))
 selects_of_events events = flat_map select_of_event events

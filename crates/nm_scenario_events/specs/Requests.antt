@@ -19,6 +19,7 @@ use Rattle.nm_scenario_events.specs.Arguments.{store, operation, mark, short}
 abbrev pub asked_edit_parts : {E : Type 0} → Form E → Parts (DefaultOperation → E → ReadRequest E) (ReadRequest E)
 asked_edit_parts edit = optional (codes "default") Merge operation (required (codes "edit") edit done)
 
+-- an edit that an operator asks for, with its default operation
 abbrev pub asked_edit : {E : Type 0} → Form E → Form (ReadRequest E)
 asked_edit edit = closed (asked_edit_parts edit) WithEdit
 
@@ -26,6 +27,7 @@ asked_edit edit = closed (asked_edit_parts edit) WithEdit
 abbrev pub any_text : Form (List ℕ)
 any_text = text 0 (2 ^ 64 - 1)
 
+-- the nodes that a partial lock selects, as texts
 unfoldable pub selection : Form (List (List ℕ))
 selection = list 0 select_limit one (λ n. any_text)
 
@@ -44,6 +46,7 @@ commit_parts =
     optional (codes "confirmed") false switch (optional (codes "timeout") None seconds
     (optional (codes "persist") None token (optional (codes "persist-id") None token done)))
 
+-- a commit with options
 abbrev pub commit_form : Form Request
 commit_form = closed commit_parts Commit
 
@@ -55,9 +58,11 @@ plain_commit = Commit false None None None
 abbrev pub cancel_parts : Parts (Option (List ℕ) → Request) Request
 cancel_parts = optional (codes "persist-id") None token done
 
+-- a cancel that may name a token
 abbrev pub cancel_form : Form Request
 cancel_form = closed cancel_parts CancelCommit
 
+-- a cancel that names no token
 abbrev pub plain_cancel : Request
 plain_cancel = CancelCommit None
 

@@ -5,9 +5,8 @@ ghost use Rattle.nm_scenario_events.specs.Arguments.{change, device, mark, opera
 use crate::limits::{CHANGE_LIMIT, DEVICE_LIMIT, OPERATOR_LIMIT, TURN_LIMIT};
 use nm_base::{ChangeNo, DeviceNo};
 use nm_proto::{DefaultOperation, Store};
-use nm_scenario_form::{Reader, read_number};
-use nm_scenario_parts::reader::fault_here;
-use nm_scenario_parts::{ReadError, ScenarioKind};
+use nm_scenario_form::places::fault_here;
+use nm_scenario_form::{ReadError, Reader, ScenarioKind, read_number};
 use serde_json::Value;
 use std::alloc::Global;
 

@@ -2,8 +2,8 @@
 
 ghost use Rattle.std.specs.Prelude.{◌≡◌};
 ghost use Rattle.serde_json.specs.View.{view};
-ghost use Rattle.nm_scenario_parts.specs.Reading.{Gives};
-ghost use Rattle.nm_scenario_parts.specs.Words.{item_count, is_word, natural_in};
+ghost use Rattle.nm_scenario_form.specs.Reading.{Gives};
+ghost use Rattle.nm_scenario_form.specs.Words.{item_count, is_word, natural_in};
 ghost use Rattle.nm_scenario_form.specs.Form.{◌▹◌, arguments, done};
 ghost use Rattle.nm_scenario_form.specs.Read.{read};
 ghost use Rattle.nm_scenario_events.specs.Arguments.{change, device, operator, short, turns};
@@ -17,9 +17,10 @@ use crate::event::ReadEvent;
 use crate::limits::{CHANGE_LIMIT, EVENT_LIMIT, TURN_LIMIT};
 use crate::requests::Requests;
 use nm_proto::{Event, Listed};
-use nm_scenario_form::{ItemReader, Reader, Weigh, argument, no_word, read_weighed, takes};
-use nm_scenario_parts::ReadError;
-use nm_scenario_parts::words::{is_word, item_count, natural_in};
+use nm_scenario_form::lists::{is_word, item_count, natural_in};
+use nm_scenario_form::{
+    ItemReader, ReadError, Reader, Weigh, argument, no_word, read_weighed, takes,
+};
 use serde_json::Value;
 use std::alloc::Global;
 

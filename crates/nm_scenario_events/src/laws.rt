@@ -2,8 +2,8 @@
 
 ghost use Rattle.std.specs.Prelude.{List};
 ghost use Rattle.serde_json.specs.Data.{Data};
-ghost use Rattle.nm_scenario_parts.specs.declared.fault.Cause.{Cause};
-ghost use Rattle.nm_scenario_parts.specs.declared.fault.Step.{Step};
+ghost use Rattle.nm_scenario_form.specs.declared.fault.Cause.{Cause};
+ghost use Rattle.nm_scenario_form.specs.declared.fault.Step.{Step};
 ghost use Rattle.nm_scenario_form.specs.Exact.{IsExact, IsWrong};
 ghost use Rattle.nm_scenario_form.specs.Places.{InOrder, IsPlace};
 ghost use Rattle.nm_scenario_form.specs.Says.{Says};

@@ -1,3 +1,6 @@
+//! The numbers of the edits and selections that operators ask for: given once all events are read, behind those of the
+//! change sets.
+
 ghost use Rattle.std.specs.Prelude.{◌≡◌, ◌++◌, ◌+◌, length, OnOk, IfOk};
 ghost use Rattle.nm_scenario_events.specs.Numbered.{events_from, edits_of_events, selects_of_events, numbered_event, numbered_request, edit_of_event, edit_of_request, select_of_event, select_of_request, user_of};
 

@@ -3,8 +3,8 @@
 ghost use Rattle.std.specs.Prelude.{◌≡◌};
 ghost use Rattle.serde_json.specs.View.{view};
 ghost use Rattle.nm_proto.specs.Message.{word_text};
-ghost use Rattle.nm_scenario_parts.specs.Reading.{Gives};
-ghost use Rattle.nm_scenario_parts.specs.Words.{is_word};
+ghost use Rattle.nm_scenario_form.specs.Reading.{Gives};
+ghost use Rattle.nm_scenario_form.specs.Words.{is_word};
 ghost use Rattle.nm_scenario_form.specs.Form.{◌▹◌, arguments, done, knows, not_built, or_else as or_else_form};
 ghost use Rattle.nm_scenario_form.specs.Read.{read};
 ghost use Rattle.nm_scenario_events.specs.Arguments.{mark, short, store};
@@ -18,13 +18,12 @@ use crate::event::ReadRequest;
 use crate::limits::{SELECT_LIMIT, TOKEN_LIMIT};
 use nm_base::Label;
 use nm_proto::{DefaultOperation, Listed, Request, RequestWord};
+use nm_scenario_form::lists::is_word;
+use nm_scenario_form::places::KnownNames;
 use nm_scenario_form::{
-    ItemReader, Reader, Switch, Text, argument, no_other_names, no_word, optional, or_else,
-    read_list, read_object, required, takes,
+    ItemReader, ReadError, Reader, Switch, Text, argument, no_other_names, no_word, optional,
+    or_else, read_list, read_object, required, takes,
 };
-use nm_scenario_parts::ReadError;
-use nm_scenario_parts::reader::KnownNames;
-use nm_scenario_parts::words::is_word;
 use serde_json::Value;
 use std::alloc::Global;
 

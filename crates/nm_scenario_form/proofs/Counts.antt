@@ -2,7 +2,7 @@
 use Rattle.std.proofs.Common.{◌≡◌, List, [], ◌∷◌, length, refl, arith}
 use Rattle.serde_json.specs.View.{items_view}
 use Rattle.serde_json.specs.declared.value.Value.{Value}
-use Rattle.nm_scenario_parts.specs.Reading.{count_of}
+use Rattle.nm_scenario_form.specs.Reading.{count_of}
 use Rattle.nm_scenario_form.specs.Says.{total}
 use Rattle.nm_scenario_form.specs.Leafs.{one}
 

@@ -1,16 +1,16 @@
 -- That what is said and what is wrong fit one another by every form, and that a reader which gives what reading gives reads by it.
 use Rattle.std.proofs.Common.{◌≡◌, ℕ, List, Result, Ok, Err, sym, subst, ◌∙◌}
 use Rattle.serde_json.specs.Data.{Data}
-use Rattle.nm_scenario_parts.specs.declared.fault.Step.{Step}
-use Rattle.nm_scenario_parts.specs.declared.fault.Cause.{Cause}
-use Rattle.nm_scenario_parts.specs.declared.fault.Fault.{Fault}
-use Rattle.nm_scenario_parts.specs.declared.fault.ReadError.{ReadError}
-use Rattle.nm_scenario_parts.specs.declared.fault.ReadError.TheVariants as error
+use Rattle.nm_scenario_form.specs.declared.fault.Step.{Step}
+use Rattle.nm_scenario_form.specs.declared.fault.Cause.{Cause}
+use Rattle.nm_scenario_form.specs.declared.fault.Fault.{Fault}
+use Rattle.nm_scenario_form.specs.declared.fault.ReadError.{ReadError}
+use Rattle.nm_scenario_form.specs.declared.fault.ReadError.TheVariants as error
 use Rattle.nm_scenario_form.specs.Order.{Faults, IsFirst}
 use Rattle.nm_scenario_form.specs.Form.{Form}
 use Rattle.nm_scenario_form.specs.Says.{Says}
 use Rattle.nm_scenario_form.specs.Wrong.{Wrong}
-use Rattle.nm_scenario_parts.specs.Reading.{Gives}
+use Rattle.nm_scenario_form.specs.Reading.{Gives}
 use Rattle.nm_scenario_form.specs.Read.{read}
 use Rattle.nm_scenario_form.specs.Exact.{AreExact, IsExact, ReadsAs, Reads}
 use Rattle.nm_scenario_form.proofs.Orders.{first_one}

@@ -1,12 +1,12 @@
 -- Tables in order, line by line.
-use Rattle.std.proofs.Common.{◌≡◌, ◌≤◌, ℕ, List, length, Bool, true, false, cond, Option, Some, None, Result, Ok, Err}
+use Rattle.std.proofs.Common.{◌≡◌, ℕ, List, length, Bool, true, false, cond, Option, Some, None, Result, Ok, Err}
 use Rattle.std.specs.Prelude.{◌&&◌, nat_le, nat_lt}
 use Rattle.serde_json.specs.Data.{Data}
 use Rattle.serde_json.specs.Find.{as_bool, as_str}
 use Rattle.nm_proto.specs.declared.kind.ScenarioKind.TheVariants.{BadValue}
-use Rattle.nm_scenario_parts.specs.Reading.{natural_of, plain}
-use Rattle.nm_scenario_parts.specs.declared.fault.Cause.{Cause}
-use Rattle.nm_scenario_form.specs.Form.{named, next, Form, leaf, made, by, list, object, arguments, line, no_line, not_built, chosen, unbuilt_where, Parts, slot, done, built, unbuilt, count_needed}
+use Rattle.nm_scenario_form.specs.Reading.{natural_of, plain}
+use Rattle.nm_scenario_form.specs.declared.fault.Cause.{Cause}
+use Rattle.nm_scenario_form.specs.Form.{named, next, Form, leaf, made, by, list, object, arguments, no_line, Parts, slot, done, built, count_needed}
 use Rattle.nm_scenario_form.specs.Leafs.{number, number_said, number_from, above, above_said, above_from, switch, switch_said, switch_from, text, text_said, text_from}
 use Rattle.nm_scenario_form.specs.Places.{IsThere, InOrder, AreNamed, AreNumbered}
 
@@ -52,10 +52,6 @@ pub leaf_in_order : {A : Type 0} (read : Data → Result A Cause) → ((whole : 
 unfolding InOrder
 leaf_in_order read there = there
 
-pub unbuilt_in_order : (A : Type 0) → InOrder (not_built {A = A})
-unfolding InOrder
-unbuilt_in_order A = λ whole e. cc
-
 -- ---- what stands around them
 
 pub made_in_order : {B A : Type 0} (make : B → A) (form : Form B) → InOrder form → InOrder (made make form)
@@ -65,14 +61,6 @@ made_in_order make form order = order
 pub by_in_order : {A : Type 0} (form : Data → Form A) → ((whole : Data) → InOrder (form whole)) → InOrder (by form)
 unfolding InOrder
 by_in_order form order = order
-
-chosen_in_order : {A : Type 0} (test : Bool) (form : Form A) → InOrder form → InOrder (chosen test not_built form)
-chosen_in_order true form order = unbuilt_in_order _
-chosen_in_order false form order = order
-
-pub where_in_order : {A : Type 0} (test : Data → Bool) (form : Form A) → InOrder form → InOrder (unbuilt_where test form)
-unfolding InOrder
-where_in_order test form order = λ whole. chosen_in_order (test whole) form order
 
 pub list_in_order : {A : Type 0} (low high : ℕ) (weight : Data → ℕ) (form : ℕ → Form A) → ((n : ℕ) → InOrder (form n))
     → InOrder (list low high weight form)
@@ -87,18 +75,10 @@ pub arguments_in_order : {F A : Type 0} (n : ℕ) (parts : Parts F A) (make : F)
 unfolding InOrder
 arguments_in_order n parts make order = order
 
-pub word_in_order : {A : Type 0} (word : List ℕ) (form others : Form A) → InOrder form → InOrder others → InOrder (line word form others)
-unfolding InOrder
-word_in_order word form others order more = (order, more)
-
 pub built_in_order : {F A : Type 0} (word : List ℕ) (parts : Parts F A) (make : F) (others : Form A) → AreNumbered parts → InOrder others
     → InOrder (built word parts make others)
 unfolding InOrder
 built_in_order word parts make others order more = (order, more)
-
-pub no_word_in_order : {A : Type 0} (word : List ℕ) (others : Form A) → InOrder others → InOrder (unbuilt word others)
-unfolding InOrder
-no_word_in_order word others more = ((λ whole e. cc), more)
 
 pub no_line_in_order : (A : Type 0) → InOrder (no_line {A = A})
 unfolding InOrder

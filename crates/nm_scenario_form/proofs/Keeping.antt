@@ -2,7 +2,7 @@
 use Rattle.std.proofs.Common.{◌≡◌, ℕ, suc, List, [], ◌∷◌, Bool, true, false, Option, Some, None, Result, Ok, Err, subst, All}
 use Rattle.std.proofs.lemmas.List.Elements.{All-cons, All-nil}
 use Rattle.serde_json.specs.Data.{Data, Items, no_items, item}
-use Rattle.nm_scenario_parts.specs.Words.{is_word}
+use Rattle.nm_scenario_form.specs.Words.{is_word}
 use Rattle.nm_scenario_form.specs.Form.{Form, leaf, made, by, list, object, arguments, line, no_line, Parts, done, slot}
 use Rattle.nm_scenario_form.specs.Says.{Says, SaysParts, SaysSlot, Each, IfSo, found}
 use Rattle.nm_scenario_form.specs.Kept.{Holds, HoldsParts, OfDefault, OfResult}

@@ -8,4 +8,6 @@ pub mod Counts
 pub mod Ranges
 pub mod Placed
 pub mod InOrder
-pub mod Samples
+pub mod Lengths
+pub mod Fronts
+pub mod Pointers

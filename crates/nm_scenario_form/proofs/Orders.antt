@@ -2,10 +2,10 @@
 use Rattle.std.proofs.Common.{◌≡◌, ◌≤◌, ◌<◌, inl, inr, ℕ, suc, List, [], ◌∷◌, refl, ap, sym, subst, ◌∙◌, arith, slice_index_or}
 use Rattle.nm_proto.specs.declared.kind.ScenarioKind.{ScenarioKind}
 use Rattle.nm_proto.specs.declared.kind.ScenarioKind.TheVariants.{TooLong, NotJson, NotBuilt, Missing, Unknown, BadValue, TooMany, Yang, Schema, Content, Invalid}
-use Rattle.nm_scenario_parts.specs.declared.fault.Step.{Step}
-use Rattle.nm_scenario_parts.specs.declared.fault.Cause.{Cause}
-use Rattle.nm_scenario_parts.specs.declared.fault.Fault.{Fault}
-use Rattle.nm_scenario_parts.specs.Reading.{plain}
+use Rattle.nm_scenario_form.specs.declared.fault.Step.{Step}
+use Rattle.nm_scenario_form.specs.declared.fault.Cause.{Cause}
+use Rattle.nm_scenario_form.specs.declared.fault.Fault.{Fault}
+use Rattle.nm_scenario_form.specs.Reading.{plain}
 use Rattle.nm_scenario_form.specs.Order.{Faults, rank, NotAfter, IsFirst, Either, Here, At, Inside}
 
 -- ---- of two first faults one is the other

@@ -8,11 +8,11 @@ use Rattle.serde_json.specs.Data.{Data, null, boolean, number, string, array, ob
 use Rattle.serde_json.specs.Find.{get, get_member, get_item, at, as_array, as_object}
 use Rattle.nm_proto.specs.declared.kind.ScenarioKind.{ScenarioKind}
 use Rattle.nm_proto.specs.declared.kind.ScenarioKind.TheVariants.{Missing, Unknown, BadValue, TooMany}
-use Rattle.nm_scenario_parts.specs.declared.fault.Step.{Step}
-use Rattle.nm_scenario_parts.specs.declared.fault.Step.TheVariants.{Name, Item}
-use Rattle.nm_scenario_parts.specs.Reading.{count_of}
-use Rattle.nm_scenario_parts.specs.Words.{is_word}
-use Rattle.nm_scenario_parts.specs.declared.fault.Cause.{Cause}
+use Rattle.nm_scenario_form.specs.declared.fault.Step.{Step}
+use Rattle.nm_scenario_form.specs.declared.fault.Step.TheVariants.{Name, Item}
+use Rattle.nm_scenario_form.specs.Reading.{count_of}
+use Rattle.nm_scenario_form.specs.Words.{is_word}
+use Rattle.nm_scenario_form.specs.declared.fault.Cause.{Cause}
 use Rattle.nm_scenario_form.specs.Order.{Faults, Here, At, Inside}
 use Rattle.nm_scenario_form.specs.Form.{named, next, Form, leaf, made, by, list, object as an_object, arguments, line, no_line, Parts, done, slot, count_parts, count_needed, and_needed}
 use Rattle.nm_scenario_form.specs.Says.{takes}

@@ -3,9 +3,9 @@ use Rattle.std.proofs.Common.{◌≡◌, ℕ, suc, ◌+◌, List, [], ◌∷◌,
 use Rattle.std.proofs.lemmas.Bool.{le-ltb}
 use Rattle.serde_json.specs.Data.{Data, Items, no_items, item, Members, no_members, member}
 use Rattle.serde_json.specs.Find.{as_array, as_object}
-use Rattle.nm_scenario_parts.specs.Reading.{count_of, ◌>>=◌}
-use Rattle.nm_scenario_parts.specs.Words.{is_word}
-use Rattle.nm_scenario_parts.specs.declared.fault.Fault.{Fault}
+use Rattle.nm_scenario_form.specs.Reading.{count_of, ◌>>=◌}
+use Rattle.nm_scenario_form.specs.Words.{is_word}
+use Rattle.nm_scenario_form.specs.declared.fault.Fault.{Fault}
 use Rattle.nm_scenario_form.specs.Form.{Key, Form, leaf, made, by, list, object, arguments, line, no_line, Parts, done, slot, count_parts, count_needed}
 use Rattle.nm_scenario_form.specs.Says.{Says, SaysParts, SaysSlot, SaysList, SaysObject, Each, AllKnown, IfSo, found, takes, total}
 use Rattle.nm_scenario_form.specs.Wrong.{step_of}

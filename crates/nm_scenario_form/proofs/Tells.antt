@@ -2,7 +2,7 @@
 use Rattle.std.proofs.Common.{◌≤◌, ℕ, suc, ◌+◌, inl, inr, refl, arith}
 use Rattle.serde_json.specs.Data.{Data}
 use Rattle.serde_json.specs.Find.{at, as_array, as_object}
-use Rattle.nm_scenario_parts.specs.Words.{is_word}
+use Rattle.nm_scenario_form.specs.Words.{is_word}
 use Rattle.nm_scenario_form.specs.Form.{Form, leaf, made, by, list, object, arguments, line, no_line, Parts, done, slot, count_parts, count_needed}
 use Rattle.nm_scenario_form.specs.Says.{Says, SaysParts, SaysSlot, found, takes}
 use Rattle.nm_scenario_form.specs.Wrong.{Wrong, WrongParts, WrongSlot, step_of}

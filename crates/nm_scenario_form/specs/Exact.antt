@@ -1,11 +1,11 @@
 -- That what is said and what is wrong fit one another, by a form and otherwise (this project's own).
 use Rattle.std.specs.Prelude.{◌≡◌, ℕ, List, Result, Ok, Err}
 use Rattle.serde_json.specs.Data.{Data}
-use Rattle.nm_scenario_parts.specs.declared.fault.Step.{Step}
-use Rattle.nm_scenario_parts.specs.declared.fault.Cause.{Cause}
-use Rattle.nm_scenario_parts.specs.declared.fault.Fault.{Fault}
-use Rattle.nm_scenario_parts.specs.declared.fault.ReadError.{ReadError}
-use Rattle.nm_scenario_parts.specs.declared.fault.ReadError.TheVariants as error
+use Rattle.nm_scenario_form.specs.declared.fault.Step.{Step}
+use Rattle.nm_scenario_form.specs.declared.fault.Cause.{Cause}
+use Rattle.nm_scenario_form.specs.declared.fault.Fault.{Fault}
+use Rattle.nm_scenario_form.specs.declared.fault.ReadError.{ReadError}
+use Rattle.nm_scenario_form.specs.declared.fault.ReadError.TheVariants as error
 use Rattle.nm_scenario_form.specs.Order.{Faults, IsFirst}
 use Rattle.nm_scenario_form.specs.Form.{Form}
 use Rattle.nm_scenario_form.specs.Says.{Says}
@@ -36,14 +36,18 @@ ReadsAs says wrong (Err error.NoMemory) = Unit {0}
 
 -- ---- the same by a form
 
+-- something is wrong by a form, for this cause at this place
 abbrev pub IsWrong : {A : Type 0} → Form A → Data → Cause → List Step → Type 0
 IsWrong form whole cause place = Somewhere (Wrong form whole) cause place
 
+-- a fault is the first of what is wrong by a form
 abbrev pub IsFirstOf : {A : Type 0} → Form A → Data → Fault → Type 0
 IsFirstOf form whole fault = IsFirst (Wrong form whole) fault
 
+-- what a form says and what is wrong by it fit one another
 abbrev pub IsExact : {A : Type 0} → Form A → Data → Type 0
 IsExact form whole = AreExact (Says form whole) (Wrong form whole)
 
+-- what a reader returned is what a form says, or the first fault of what is wrong by it
 abbrev pub Reads : {A : Type 0} → Form A → Data → Result A ReadError → Type 0
 Reads form whole result = ReadsAs (Says form whole) (Wrong form whole) result

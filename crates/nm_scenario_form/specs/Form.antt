@@ -4,9 +4,9 @@ use Rattle.std.specs.Prelude.{ℕ, suc, List, Bool, true, false, ◌||◌, ◌==
 use Rattle.std.specs.Str.{bytes_eq}
 use Rattle.serde_json.specs.Data.{Data}
 use Rattle.nm_proto.specs.declared.kind.ScenarioKind.TheVariants.{NotBuilt}
-use Rattle.nm_scenario_parts.specs.declared.fault.Cause.{Cause}
-use Rattle.nm_scenario_parts.specs.Reading.{plain}
-use Rattle.nm_scenario_parts.specs.Words.{is_word}
+use Rattle.nm_scenario_form.specs.declared.fault.Cause.{Cause}
+use Rattle.nm_scenario_form.specs.Reading.{plain}
+use Rattle.nm_scenario_form.specs.Words.{is_word}
 use Rattle.nm_scenario_form.specs.Order.{rank}
 
 -- how a part is found in what has it: by its name, or as the next argument
@@ -67,26 +67,17 @@ optional name missing form parts = slot (named name) (Some missing) form parts
 abbrev pub built : {F A : Type 0} → List ℕ → Parts F A → F → Form A → Form A
 built word parts make others = line word (arguments 1 parts make) others
 
--- a list of these alone, without a word
-abbrev pub tuple : {F A : Type 0} → Parts F A → F → Form A
-tuple parts make = arguments 0 parts make
-
--- a line that isn't built
-abbrev pub unbuilt : {A : Type 0} → List ℕ → Form A → Form A
-unbuilt word others = line word not_built others
-
+-- a line of a table, and those below it
 infixr 20 ◌or◌
 abbrev pub ◌or◌ : {A : Type 0} → (Form A → Form A) → Form A → Form A
 first or others = first others
 
+-- one of two forms, by a test
 abbrev pub chosen : {A : Type 0} → Bool → Form A → Form A → Form A
 chosen true this other = this
 chosen false this other = other
 
--- a form that isn't built where the raw value is so
-abbrev pub unbuilt_where : {A : Type 0} → (Data → Bool) → Form A → Form A
-unbuilt_where test form = by (λ whole. chosen (test whole) not_built form)
-
+-- a leaf's fault is that it isn't built
 abbrev pub is_not_built : {A : Type 0} → Result A Cause → Bool
 is_not_built (Ok x) = false
 is_not_built (Err cause) = rank cause.kind == rank NotBuilt
@@ -119,6 +110,7 @@ abbrev pub count_needed : {F A : Type 0} → Parts F A → ℕ
 count_needed done = 0
 count_needed (slot key default form parts) = and_needed default (count_needed parts)
 
+-- a part is found by this name
 abbrev pub is_name : Key → List ℕ → Bool
 is_name (named name) other = bytes_eq other name
 is_name next other = false

@@ -1,3 +1,4 @@
+-- Tables of forms: `Form` has their words, `Says` and `Wrong` what they mean, `Read` how they are read.
 pub mod Order
 pub mod Form
 pub mod Says
@@ -7,4 +8,8 @@ pub mod Leafs
 pub mod Kept
 pub mod Exact
 pub mod Places
-pub mod Sample
+-- Parts of JSON values: how they are read, words of lists, and places of faults.
+pub mod Reading
+pub mod Words
+pub mod Pointer
+pub mod Line

@@ -4,10 +4,10 @@
 use Rattle.std.specs.Prelude.{◌≡◌, ◌≤◌, ◌<◌, ◌⊎◌, ℕ, List, [], ◌∷◌}
 use Rattle.nm_proto.specs.declared.kind.ScenarioKind.{ScenarioKind}
 use Rattle.nm_proto.specs.declared.kind.ScenarioKind.TheVariants.{TooLong, NotJson, NotBuilt, Missing, Unknown, BadValue, TooMany, Yang, Schema, Content, Invalid}
-use Rattle.nm_scenario_parts.specs.declared.fault.Step.{Step}
-use Rattle.nm_scenario_parts.specs.declared.fault.Cause.{Cause}
-use Rattle.nm_scenario_parts.specs.declared.fault.Fault.{Fault}
-use Rattle.nm_scenario_parts.specs.Reading.{plain}
+use Rattle.nm_scenario_form.specs.declared.fault.Step.{Step}
+use Rattle.nm_scenario_form.specs.declared.fault.Cause.{Cause}
+use Rattle.nm_scenario_form.specs.declared.fault.Fault.{Fault}
+use Rattle.nm_scenario_form.specs.Reading.{plain}
 
 -- faults, by their causes, places and spots
 abbrev pub Faults : Type 1

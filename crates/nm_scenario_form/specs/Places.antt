@@ -4,9 +4,9 @@ use Rattle.serde_json.specs.Data.{Data, Members}
 use Rattle.serde_json.specs.Find.{get, at, get_member, as_object}
 use Rattle.nm_proto.specs.declared.kind.ScenarioKind.{ScenarioKind}
 use Rattle.nm_proto.specs.declared.kind.ScenarioKind.TheVariants.{Missing}
-use Rattle.nm_scenario_parts.specs.declared.fault.Cause.{Cause}
-use Rattle.nm_scenario_parts.specs.declared.fault.Step.{Step}
-use Rattle.nm_scenario_parts.specs.declared.fault.Step.TheVariants.{Name, Item}
+use Rattle.nm_scenario_form.specs.declared.fault.Cause.{Cause}
+use Rattle.nm_scenario_form.specs.declared.fault.Step.{Step}
+use Rattle.nm_scenario_form.specs.declared.fault.Step.TheVariants.{Name, Item}
 use Rattle.nm_scenario_form.specs.Form.{Key, named, next, Form, leaf, made, by, list, object, arguments, line, no_line, Parts, done, slot, count_needed}
 
 -- ---- places
@@ -38,10 +38,12 @@ IsPlace kind place whole = ((kind ≡ Missing → ⊥) × (is_some (walked place
 
 -- ---- tables in order: objects have named parts, and lists parts by their numbers, of which the last ones alone may be left out
 
+-- a part is found by its name
 abbrev pub IsNamed : Key → Type 0
 IsNamed (named name) = Unit {0}
 IsNamed next = ⊥
 
+-- a part is found as the next argument
 abbrev pub IsNext : Key → Type 0
 IsNext (named name) = ⊥
 IsNext next = Unit {0}
@@ -56,6 +58,7 @@ abbrev pub IsThere : {A : Type 0} → Result A Cause → Type 0
 IsThere (Ok x) = Unit {0}
 IsThere (Err cause) = cause.kind ≡ Missing → ⊥
 
+-- a table is in order: members are found by names, arguments by their turn, and no leaf tells that a member is missing
 unfoldable mutual
   pub InOrder : {A : Type 0} → Form A → Type 0
   InOrder (leaf read) = (whole : Data) → IsThere (read whole)

@@ -4,12 +4,12 @@ use Rattle.std.specs.Prelude.{◌≡◌, ℕ, suc, ◌+◌, List, [], ◌∷◌,
 use Rattle.serde_json.specs.Data.{Data, Items, no_items, item, Members, no_members, member}
 use Rattle.serde_json.specs.Find.{at, as_array, as_object}
 use Rattle.nm_proto.specs.declared.kind.ScenarioKind.TheVariants.{Missing, Unknown, BadValue, TooMany}
-use Rattle.nm_scenario_parts.specs.declared.fault.Step.{Step}
-use Rattle.nm_scenario_parts.specs.declared.fault.Step.TheVariants.{Name, Item}
-use Rattle.nm_scenario_parts.specs.Reading.{◌>>=◌, here, there, under, count_of}
-use Rattle.nm_scenario_parts.specs.Words.{is_word}
-use Rattle.nm_scenario_parts.specs.declared.fault.Cause.{Cause}
-use Rattle.nm_scenario_parts.specs.declared.fault.Fault.{Fault}
+use Rattle.nm_scenario_form.specs.declared.fault.Step.{Step}
+use Rattle.nm_scenario_form.specs.declared.fault.Step.TheVariants.{Name, Item}
+use Rattle.nm_scenario_form.specs.Reading.{◌>>=◌, here, there, under, count_of}
+use Rattle.nm_scenario_form.specs.Words.{is_word}
+use Rattle.nm_scenario_form.specs.declared.fault.Cause.{Cause}
+use Rattle.nm_scenario_form.specs.declared.fault.Fault.{Fault}
 use Rattle.nm_scenario_form.specs.Form.{Form, leaf, made, by, list, object, arguments, line, no_line, Parts, done, slot, count_parts, count_needed}
 use Rattle.nm_scenario_form.specs.Says.{found, total, takes}
 use Rattle.nm_scenario_form.specs.Wrong.{step_of}
@@ -41,6 +41,7 @@ abbrev pub fits : ℕ → ℕ → (Data → ℕ) → Items → Result (Unit {0})
 fits low high weight items = if nat_lt (count_of items) low then here BadValue else
     (if nat_lt high (total weight items) then here TooMany else Ok tt)
 
+-- the items of a list that fits, or the first fault; what is no list is a bad value
 abbrev pub items_read : {A : Type 0} → (ℕ → Data → Result A Fault) → ℕ → ℕ → (Data → ℕ) → Option Items → Result (List A) Fault
 items_read read low high weight None = here BadValue
 items_read read low high weight (Some items) = do
@@ -57,6 +58,7 @@ abbrev pub names_read : (List ℕ → Bool) → Members → Result (Unit {0}) Fa
 names_read knows no_members = Ok tt
 names_read knows (member name part rest) = if knows name then names_read knows rest else there Unknown (Name name)
 
+-- the first member of an object whose name isn't known; what is no object is a bad value
 abbrev pub names_from : (List ℕ → Bool) → Option Members → Result (Unit {0}) Fault
 names_from knows None = here BadValue
 names_from knows (Some all) = names_read knows all
@@ -71,6 +73,7 @@ abbrev pub line_read : {A : Type 0} → Option Data → Result A Fault
 line_read None = here BadValue
 line_read (Some first) = there BadValue (Item 0)
 
+-- what a part says by its form, or its first fault, read from the left
 abbrev mutual
   pub read : {A : Type 0} → Form A → Data → Result A Fault
   read (leaf f) whole = told (f whole)
@@ -90,6 +93,7 @@ abbrev mutual
   read (line word form others) whole = if is_word whole word then read form whole else read others whole
   read no_line whole = line_read (at 0 whole)
 
+  -- the parts from number n on, each given to what makes the value of them all
   pub read_parts : {F A : Type 0} → Parts F A → ℕ → Data → F → Result A Fault
   read_parts done n whole make = Ok make
   read_parts (slot key default form parts) n whole make = do

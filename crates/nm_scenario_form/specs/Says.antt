@@ -2,8 +2,8 @@
 use Rattle.std.specs.Prelude.{◌≡◌, ◌≤◌, ℕ, suc, ◌+◌, List, [], ◌∷◌, Bool, true, false, ◌&&◌, nat_le, Option, Some, None, Ok}
 use Rattle.serde_json.specs.Data.{Data, Items, no_items, item, Members, no_members, member}
 use Rattle.serde_json.specs.Find.{get, at, as_array, as_object}
-use Rattle.nm_scenario_parts.specs.Reading.{count_of}
-use Rattle.nm_scenario_parts.specs.Words.{is_word}
+use Rattle.nm_scenario_form.specs.Reading.{count_of}
+use Rattle.nm_scenario_form.specs.Words.{is_word}
 use Rattle.nm_scenario_form.specs.Form.{Key, named, next, Form, leaf, made, by, list, object, arguments, line, no_line, Parts, done, slot, count_parts, count_needed}
 
 -- what stands where a part is looked for
@@ -59,6 +59,7 @@ abbrev pub IfSo : Bool → Type 0 → Type 0 → Type 0
 IfSo true this other = this
 IfSo false this other = other
 
+-- what a part says by its form
 unfoldable mutual
   pub Says : {A : Type 0} → Form A → Data → A → Type 0
   Says (leaf read) whole x = read whole ≡ Ok x

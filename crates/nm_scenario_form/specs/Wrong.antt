@@ -4,11 +4,11 @@ use Rattle.std.specs.Prelude.{◌≡◌, ◌<◌, ℕ, suc, ◌+◌, List, [], B
 use Rattle.serde_json.specs.Data.{Data, Items, no_items, item, Members, no_members, member}
 use Rattle.serde_json.specs.Find.{at, as_array, as_object}
 use Rattle.nm_proto.specs.declared.kind.ScenarioKind.TheVariants.{Missing, Unknown, BadValue, TooMany}
-use Rattle.nm_scenario_parts.specs.declared.fault.Step.{Step}
-use Rattle.nm_scenario_parts.specs.declared.fault.Step.TheVariants.{Name, Item}
-use Rattle.nm_scenario_parts.specs.Reading.{count_of}
-use Rattle.nm_scenario_parts.specs.Words.{is_word}
-use Rattle.nm_scenario_parts.specs.declared.fault.Cause.{Cause}
+use Rattle.nm_scenario_form.specs.declared.fault.Step.{Step}
+use Rattle.nm_scenario_form.specs.declared.fault.Step.TheVariants.{Name, Item}
+use Rattle.nm_scenario_form.specs.Reading.{count_of}
+use Rattle.nm_scenario_form.specs.Words.{is_word}
+use Rattle.nm_scenario_form.specs.declared.fault.Cause.{Cause}
 use Rattle.nm_scenario_form.specs.Order.{Faults, NoFaults, Either, Here, At, Inside}
 use Rattle.nm_scenario_form.specs.Form.{Key, named, next, Form, leaf, made, by, list, object, arguments, line, no_line, Parts, done, slot, count_parts, count_needed}
 use Rattle.nm_scenario_form.specs.Says.{found, total, takes}
@@ -67,6 +67,7 @@ unfoldable pub WrongLine : Option Data → Faults
 WrongLine None = Here (Unit {0}) BadValue
 WrongLine (Some first) = At (Unit {0}) BadValue (Item 0) 0
 
+-- what is wrong with a part by its form
 unfoldable mutual
   pub Wrong : {A : Type 0} → Form A → Data → Faults
   Wrong (leaf read) whole = WrongLeaf read whole

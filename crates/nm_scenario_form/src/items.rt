@@ -7,12 +7,12 @@ ghost use Rattle.serde_json.specs.Find.{as_array};
 ghost use Rattle.nm_scenario_form.specs.Form.{Form, list};
 ghost use Rattle.nm_scenario_form.specs.Says.{total};
 ghost use Rattle.nm_scenario_form.specs.Leafs.{one};
-ghost use Rattle.nm_scenario_parts.specs.Reading.{Gives, under};
+ghost use Rattle.nm_scenario_form.specs.Reading.{Gives, under};
 ghost use Rattle.nm_scenario_form.specs.Read.{read, items_after, fits, items_read};
 
+use crate::places::{fault_here, seen_from_outside};
+use crate::{ReadError, ScenarioKind, Step};
 use nm_proto::Listed;
-use nm_scenario_parts::reader::{fault_here, seen_from_outside};
-use nm_scenario_parts::{ReadError, ScenarioKind, Step};
 use serde_json::Value;
 use std::alloc::Global;
 

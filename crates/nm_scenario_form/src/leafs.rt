@@ -2,15 +2,14 @@
 
 ghost use Rattle.std.specs.Prelude.{◌≡◌, ◌≤◌, ◌<◌, IfOk};
 ghost use Rattle.serde_json.specs.View.{view};
-ghost use Rattle.nm_scenario_parts.specs.Reading.{Gives};
+ghost use Rattle.nm_scenario_form.specs.Reading.{Gives};
 ghost use Rattle.nm_scenario_form.specs.Read.{read};
-ghost use Rattle.nm_scenario_form.specs.Form.{not_built};
 ghost use Rattle.nm_scenario_form.specs.Leafs.{number, above, switch, text};
 
+use crate::places::fault_here;
 use crate::reader::Reader;
+use crate::{ReadError, ScenarioKind};
 use nm_base::Label;
-use nm_scenario_parts::reader::fault_here;
-use nm_scenario_parts::{ReadError, ScenarioKind};
 use serde_json::Value;
 use std::alloc::Global;
 
@@ -43,23 +42,6 @@ pub fn read_number(alloc: Global, part: &Value, low: u64, high: u64) -> Result<u
     }
 }
 
-/// A number above `below`, up to `high`.
-#[derive(Drop)]
-pub struct Above {
-    pub below: u64,
-    pub high: u64,
-}
-
-impl Reader for Above {
-    type Out = u64;
-
-    ghost form = { λ r. above r.below r.high };
-
-    fn read(&self, alloc: Global, part: &Value) -> Result<u64, ReadError> {
-        read_above(alloc, part, self.below, self.high)
-    }
-}
-
 /// A number above `below`, up to `high`, known to be there.
 #[tactic(auto, unfolding(crate::specs::Leafs::above_said))]
 pub fn read_above(alloc: Global, part: &Value, below: u64, high: u64) -> Result<u64, ReadError>
@@ -87,20 +69,6 @@ impl Reader for Switch {
             None => fault_here(alloc, ScenarioKind::BadValue),
             Some(on) => Ok(on),
         }
-    }
-}
-
-/// A part that isn't built, whatever stands there.
-#[derive(Drop)]
-pub struct Unbuilt;
-
-impl Reader for Unbuilt {
-    type Out = ();
-
-    ghost form = { λ _. not_built };
-
-    fn read(&self, alloc: Global, _part: &Value) -> Result<(), ReadError> {
-        fault_here(alloc, ScenarioKind::NotBuilt)
     }
 }
 

@@ -4,17 +4,15 @@ ghost use Rattle.std.specs.Prelude.{◌≡◌, ℕ, List, Bool, Some, None, Ok, 
 ghost use Rattle.serde_json.specs.Data.{Data};
 ghost use Rattle.serde_json.specs.Find.{get, as_object};
 ghost use Rattle.serde_json.specs.View.{view, members_view};
-ghost use Rattle.nm_scenario_parts.specs.declared.fault.Fault.{Fault};
-ghost use Rattle.nm_scenario_parts.specs.declared.fault.Step.TheVariants.{Name};
+ghost use Rattle.nm_scenario_form.specs.declared.fault.Fault.{Fault};
+ghost use Rattle.nm_scenario_form.specs.declared.fault.Step.TheVariants.{Name};
 ghost use Rattle.nm_scenario_form.specs.Form.{Form};
-ghost use Rattle.nm_scenario_parts.specs.Reading.{Gives, here, there, under};
+ghost use Rattle.nm_scenario_form.specs.Reading.{Gives, here, there, under};
 ghost use Rattle.nm_scenario_form.specs.Read.{read, told, slot_read, object_from, names_read, names_from};
 
+use crate::places::{KnownNames, fault_at, fault_here, missing, named, seen_from_outside};
+use crate::{Cause, Fault, ReadError, ScenarioKind};
 use nm_proto::Listed;
-use nm_scenario_parts::reader::{
-    KnownNames, fault_at, fault_here, missing, named, seen_from_outside,
-};
-use nm_scenario_parts::{Cause, Fault, ReadError, ScenarioKind};
 use serde_json::{Map, Value};
 use std::alloc::Global;
 

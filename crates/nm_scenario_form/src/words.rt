@@ -3,13 +3,13 @@
 ghost use Rattle.std.specs.Prelude.{◌≡◌, ℕ, Bool, Some, None};
 ghost use Rattle.serde_json.specs.Find.{at, as_array};
 ghost use Rattle.serde_json.specs.View.{view, items_view};
-ghost use Rattle.nm_scenario_parts.specs.Reading.{count_of, Gives, under};
+ghost use Rattle.nm_scenario_form.specs.Reading.{count_of, Gives, under};
 ghost use Rattle.nm_scenario_form.specs.Says.{takes};
 ghost use Rattle.nm_scenario_form.specs.Read.{read, slot_read, takes_read, line_read};
 
+use crate::places::{fault_at, fault_here, seen_from_outside};
 use crate::reader::Reader;
-use nm_scenario_parts::reader::{fault_at, fault_here, seen_from_outside};
-use nm_scenario_parts::{ReadError, ScenarioKind, Step};
+use crate::{ReadError, ScenarioKind, Step};
 use serde_json::Value;
 use std::alloc::Global;
 

@@ -1,8 +1,8 @@
 -- What is answered.
 use Rattle.std.proofs.Common.{List, Result, Ok, Err, sym}
-use Rattle.nm_schema_rows.specs.declared.row.Row.{Row}
-use Rattle.nm_tree.specs.Nodes.{SchemaTree}
-use Rattle.nm_schema_flaws.specs.Facts.{Facts, AreFacts}
+use Rattle.nm_schema_statements.specs.declared.row.Row.{Row}
+use Rattle.nm_schema_tree.specs.Nodes.{SchemaTree}
+use Rattle.nm_schema_faults.specs.Facts.{Facts, AreFacts}
 use Rattle.nm_schema.specs.declared.fault.SchemaFault.{SchemaFault}
 use Rattle.nm_schema.specs.declared.fault.SchemaFault.TheVariants as schema
 use Rattle.nm_schema.specs.Built.{built, Gives, Answered}

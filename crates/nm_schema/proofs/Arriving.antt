@@ -4,15 +4,15 @@ use Rattle.std.specs.Prelude.{Contains, ⊤}
 use Rattle.std.specs.Option.{option_and_then}
 use Rattle.std.specs.List.{position_from}
 use Rattle.std.proofs.lemmas.Option.{same_Some}
-use Rattle.nm_schema_rows.specs.declared.row.Row.{Row}
-use Rattle.nm_schema_rows.specs.declared.word.Word.{Word}
-use Rattle.nm_schema_rows.specs.declared.word.Word.TheVariants as word
-use Rattle.nm_schema_rows.specs.Rows.{roots, module_at}
+use Rattle.nm_schema_statements.specs.declared.row.Row.{Row}
+use Rattle.nm_schema_statements.specs.declared.word.Word.{Word}
+use Rattle.nm_schema_statements.specs.declared.word.Word.TheVariants as word
+use Rattle.nm_schema_statements.specs.Rows.{roots, module_at}
 use Rattle.nm_graph.specs.Value.{strict, all_there}
 use Rattle.nm_schema_names.specs.Named.{prefix_leads}
 use Rattle.nm_types.specs.LeafType.{TypeOfLeaf}
-use Rattle.nm_schema_shape.specs.Config.{LeadsBy}
-use Rattle.nm_schema_shape.specs.Worth.{worth_within, worth_of}
+use Rattle.nm_schema_uses.specs.Config.{LeadsBy}
+use Rattle.nm_schema_uses.specs.Worth.{worth_within, worth_of}
 use Rattle.nm_schema_typing.specs.declared.leafref.NodeName.{NodeName}
 use Rattle.nm_schema_typing.specs.declared.leafref.Start.{Start}
 use Rattle.nm_schema_typing.specs.declared.leafref.Start.TheVariants.{Root, Up}
@@ -20,11 +20,11 @@ use Rattle.nm_schema_typing.specs.Leafref.{LeafrefPath}
 use Rattle.nm_schema_typing.specs.TypeGraph.{is_typed, leads}
 use Rattle.nm_schema_typing.specs.Meaning.{Meaning, plain, reference}
 use Rattle.nm_schema_typing.specs.Along.{meaning_of}
-use Rattle.nm_schema_expansion.specs.declared.instance.Instance.{Instance}
-use Rattle.nm_schema_expansion.specs.Expansion.{Expanded, row_in, row_of, owner_in, owner_of}
-use Rattle.nm_schema_expansion.specs.Named.{is_child_named, is_top_named, child_named, top_named}
-use Rattle.nm_schema_expansion.proofs.Unfolding.{split}
-use Rattle.nm_tree.proofs.Positions.{first_passes}
+use Rattle.nm_schema_nodes.specs.declared.instance.Instance.{Instance}
+use Rattle.nm_schema_nodes.specs.Expansion.{Expanded, row_in, row_of, owner_in, owner_of}
+use Rattle.nm_schema_nodes.specs.Named.{is_child_named, is_top_named, child_named, top_named}
+use Rattle.nm_schema_nodes.proofs.Unfolding.{split}
+use Rattle.nm_schema_tree.proofs.Positions.{first_passes}
 use Rattle.nm_schema_leafref.specs.declared.led.Led.{Led}
 use Rattle.nm_schema_leafref.specs.declared.led.Led.TheVariants as led
 use Rattle.nm_schema_leafref.specs.declared.led.Spot.{Spot}
@@ -36,8 +36,8 @@ use Rattle.nm_schema_leafref.specs.Walk.{spot_at, above, raised, begun, module_l
 use Rattle.nm_schema_leafref.specs.Target.{target_in, targets, plain_in, plain_type, plain_at, type_step, type_of_node}
 use Rattle.nm_schema_leafref.specs.Fault.{HasNoFault, HasFault, flaw_from, flaw_in}
 use Rattle.nm_schema_leafref.proofs.Faults.{leads_nowhere}
-use Rattle.nm_schema_flaws.specs.Facts.{Facts, AreFacts, definitions, tree}
-use Rattle.nm_schema_flaws.specs.Flaw.{path_flaw}
+use Rattle.nm_schema_faults.specs.Facts.{Facts, AreFacts, definitions, tree}
+use Rattle.nm_schema_faults.specs.Flaw.{path_flaw}
 use Rattle.nm_schema.specs.Faultless.{AreFaultless}
 use Rattle.nm_schema.proofs.Elements.{nothing, first_or_later}
 use Rattle.nm_schema.proofs.Faultless.{within}

@@ -4,9 +4,9 @@ use Rattle.std.specs.Prelude.{Contains}
 use Rattle.std.proofs.lemmas.Grind.{common_steps}
 use Rattle.std.proofs.lemmas.Bool.{and_parts}
 use Rattle.std.proofs.lemmas.Bool.Decides.{nat_tests}
-use Rattle.nm_schema_rows.specs.Rows.{same_parent}
-use Rattle.nm_schema_expansion.specs.declared.instance.Instance.{Instance}
-use Rattle.nm_schema_expansion.specs.Expansion.{places_of, is_below, is_top, children, tops}
+use Rattle.nm_schema_statements.specs.Rows.{same_parent}
+use Rattle.nm_schema_nodes.specs.declared.instance.Instance.{Instance}
+use Rattle.nm_schema_nodes.specs.Expansion.{places_of, is_below, is_top, children, tops}
 use Rattle.nm_schema.proofs.Elements.{here, later, nothing, first_or_later}
 use Rattle.nm_schema.proofs.Givens.{parent_is}
 

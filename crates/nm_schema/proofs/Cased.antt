@@ -4,20 +4,20 @@ use Rattle.std.specs.Prelude.{All, unwrap_or}
 use Rattle.std.specs.List.{filter_map, cons_option, position_from, range_with_len}
 use Rattle.std.proofs.lemmas.List.Elements.{All-nil, All-cons, All-append}
 use Rattle.nm_yang.specs.Tree.{Tree}
-use Rattle.nm_schema_rows.specs.declared.row.Row.{Row}
-use Rattle.nm_schema_rows.specs.Rows.{rows_of}
-use Rattle.nm_schema_shape.specs.Arguments.{argument_at}
-use Rattle.nm_schema_shape.specs.Sizes.{total_of}
-use Rattle.nm_tree.specs.declared.node.Node.{Node}
-use Rattle.nm_tree.specs.declared.node.NodeKind.{NodeKind}
-use Rattle.nm_tree.specs.Nodes.{SchemaTree, case_at}
-use Rattle.nm_schema_expansion.specs.declared.instance.Instance.{Instance}
-use Rattle.nm_schema_expansion.specs.Expansion.{IsExpansion}
-use Rattle.nm_schema_choice.specs.Forks.{Forking, no_forks, shifted, IsWalked}
-use Rattle.nm_schema_choice.specs.Choices.{forks_of}
-use Rattle.nm_schema_flaws.specs.declared.fault.Fault.{Fault}
-use Rattle.nm_schema_flaws.specs.Facts.{Facts, AreFacts, definitions}
-use Rattle.nm_schema_flaws.specs.Fault.{first_fault}
+use Rattle.nm_schema_statements.specs.declared.row.Row.{Row}
+use Rattle.nm_schema_statements.specs.Rows.{rows_of}
+use Rattle.nm_schema_uses.specs.Arguments.{argument_at}
+use Rattle.nm_schema_uses.specs.Sizes.{total_of}
+use Rattle.nm_schema_tree.specs.declared.node.Node.{Node}
+use Rattle.nm_schema_tree.specs.declared.node.NodeKind.{NodeKind}
+use Rattle.nm_schema_tree.specs.Nodes.{SchemaTree, case_at}
+use Rattle.nm_schema_nodes.specs.declared.instance.Instance.{Instance}
+use Rattle.nm_schema_nodes.specs.Expansion.{IsExpansion}
+use Rattle.nm_schema_nodes.specs.Forks.{Forking, no_forks, shifted, IsWalked}
+use Rattle.nm_schema_nodes.specs.Choices.{forks_of}
+use Rattle.nm_schema_faults.specs.declared.fault.Fault.{Fault}
+use Rattle.nm_schema_faults.specs.Facts.{Facts, AreFacts, definitions}
+use Rattle.nm_schema_faults.specs.Fault.{first_fault}
 use Rattle.nm_schema.specs.Kind.{kind_of}
 use Rattle.nm_schema.specs.Choices.{Place, places, forks_in, case_count, cases_before, spot_at, spots_in, spots_at, place_of, beside, case_of, tree_cases, module_name}
 use Rattle.nm_schema.specs.Node.{node_with, node_by, node_in, node_of, known_nodes}

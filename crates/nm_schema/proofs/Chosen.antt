@@ -6,18 +6,18 @@ use Rattle.std.proofs.lemmas.Bool.Decides.{nat_tests}
 use Rattle.std.proofs.lemmas.List.{length-map, length-set, length-replicate, get_or-set_same, get_or-set_other, get_or-replicate, append_assoc, take_more, take_all, drop_more, drop_all}
 use Rattle.std.proofs.lemmas.List.FromFn.{length-map-range_with_len, get_or-map-range_with_len}
 use Rattle.std.proofs.lemmas.Option.{slice_get-get_or}
-use Rattle.nm_schema_rows.specs.declared.row.Row.{Row}
-use Rattle.nm_schema_rows.specs.Rows.{roots}
-use Rattle.nm_schema_shape.specs.Sizes.{total_of}
-use Rattle.nm_tree.specs.declared.choice.ChoiceNode.{ChoiceNode}
-use Rattle.nm_tree.specs.declared.choice.CaseNode.{CaseNode}
-use Rattle.nm_tree.specs.Nodes.{SchemaTree}
-use Rattle.nm_schema_expansion.specs.declared.instance.Instance.{Instance}
-use Rattle.nm_schema_expansion.specs.Expansion.{IsExpansion, children, tops, owner_of}
-use Rattle.nm_schema_expansion.proofs.Places.{slice_get-left}
-use Rattle.nm_schema_choice.specs.Forks.{Forking, no_forks, shifted}
-use Rattle.nm_schema_choice.specs.Choices.{forks_of}
-use Rattle.nm_schema_flaws.specs.Facts.{Facts, definitions}
+use Rattle.nm_schema_statements.specs.declared.row.Row.{Row}
+use Rattle.nm_schema_statements.specs.Rows.{roots}
+use Rattle.nm_schema_uses.specs.Sizes.{total_of}
+use Rattle.nm_schema_tree.specs.declared.choice.ChoiceNode.{ChoiceNode}
+use Rattle.nm_schema_tree.specs.declared.choice.CaseNode.{CaseNode}
+use Rattle.nm_schema_tree.specs.Nodes.{SchemaTree}
+use Rattle.nm_schema_nodes.specs.declared.instance.Instance.{Instance}
+use Rattle.nm_schema_nodes.specs.Expansion.{IsExpansion, children, tops, owner_of}
+use Rattle.nm_schema_nodes.proofs.Places.{slice_get-left}
+use Rattle.nm_schema_nodes.specs.Forks.{Forking, no_forks, shifted}
+use Rattle.nm_schema_nodes.specs.Choices.{forks_of}
+use Rattle.nm_schema_faults.specs.Facts.{Facts, definitions}
 use Rattle.nm_schema.specs.Choices.{Place, top_place, place_in, node_place, place_for, places, forks_in, choice_count, case_count, choice_node, case_node, choices_in, cases_in, choices_from, cases_from, tree_choices, tree_cases, place_of, beside, spot_at, cases_before, spots_at, case_of, case_of_node, AreChosen, AreCases, with_forks, cased, with_spots}
 use Rattle.nm_schema.proofs.Elements.{here, later, nothing, first_or_later}
 use Rattle.nm_schema.proofs.Faultless.{within}

@@ -9,20 +9,20 @@ use Rattle.std.proofs.lemmas.Bool.Decides.{nat_tests}
 use Rattle.std.proofs.lemmas.Option.{same_Some}
 use Rattle.std.proofs.lemmas.List.{map-append}
 use Rattle.std.proofs.lemmas.List.Elements.{Contains-append_cases, Contains-append_left, Contains-append_right}
-use Rattle.nm_schema_rows.specs.declared.row.Row.{Row}
-use Rattle.nm_schema_rows.specs.declared.word.Word.{Word}
-use Rattle.nm_schema_rows.specs.declared.word.Word.TheVariants as word
-use Rattle.nm_schema_rows.specs.Flaw.{is_data}
-use Rattle.nm_schema_rows.specs.Rows.{same_parent, those_in, children}
+use Rattle.nm_schema_statements.specs.declared.row.Row.{Row}
+use Rattle.nm_schema_statements.specs.declared.word.Word.{Word}
+use Rattle.nm_schema_statements.specs.declared.word.Word.TheVariants as word
+use Rattle.nm_schema_statements.specs.Flaw.{is_data}
+use Rattle.nm_schema_statements.specs.Rows.{same_parent, those_in, children}
 use Rattle.nm_graph.specs.Value.{strict, all_there}
 use Rattle.nm_types.specs.Spells.{IsOnce}
-use Rattle.nm_schema_shape.specs.Arguments.{argument_at}
-use Rattle.nm_schema_shape.specs.Holding.{is_holder, is_part, is_part_row, is_part_at, is_fork, is_fork_row, is_fork_at, is_node, is_uses, grouping_at, holding, bringing}
-use Rattle.nm_schema_shape.specs.Config.{LeadsBy, one, further}
-use Rattle.nm_schema_shape.specs.Worth.{worth_within, worth_of}
-use Rattle.nm_schema_shape.specs.Members.{gathered, is_astray}
-use Rattle.nm_schema_clash.specs.Clash.{names_from, has_name, around_in, around, beyond, holder_of, is_taken, is_held, claiming_in, claiming, claim, claim_step, claimed}
-use Rattle.nm_schema_expansion.proofs.Unfolding.{split, unfold_one, unfold_within}
+use Rattle.nm_schema_uses.specs.Arguments.{argument_at}
+use Rattle.nm_schema_uses.specs.Holding.{is_holder, is_part, is_part_row, is_part_at, is_fork, is_fork_row, is_fork_at, is_node, is_uses, grouping_at, holding, bringing}
+use Rattle.nm_schema_uses.specs.Config.{LeadsBy, one, further}
+use Rattle.nm_schema_uses.specs.Worth.{worth_within, worth_of}
+use Rattle.nm_schema_uses.specs.Members.{gathered, is_astray}
+use Rattle.nm_schema_names.specs.Clash.{names_from, has_name, around_in, around, beyond, holder_of, is_taken, is_held, claiming_in, claiming, claim, claim_step, claimed}
+use Rattle.nm_schema_nodes.proofs.Unfolding.{split, unfold_one, unfold_within}
 use Rattle.nm_schema.proofs.Elements.{here, later, nothing, first_or_later, of_map, in_map, of_filter, in_range, finds_none}
 use Rattle.nm_schema.proofs.Onces.{once_both, has_named}
 use Rattle.nm_schema.proofs.Faultless.{within}

@@ -4,24 +4,24 @@ use Rattle.std.specs.Prelude.{Contains, not, unwrap_or}
 use Rattle.std.specs.Str.{bytes_eq}
 use Rattle.std.proofs.lemmas.Bool.{and_parts}
 use Rattle.std.proofs.lemmas.Option.{same_Some}
-use Rattle.nm_schema_rows.specs.declared.row.Row.{Row}
-use Rattle.nm_schema_rows.specs.declared.word.Word.{Word}
-use Rattle.nm_schema_rows.specs.declared.word.Word.TheVariants as word
-use Rattle.nm_schema_rows.specs.Flaw.{is_data}
-use Rattle.nm_schema_rows.specs.Rows.{roots, same_parent, first_below}
+use Rattle.nm_schema_statements.specs.declared.row.Row.{Row}
+use Rattle.nm_schema_statements.specs.declared.word.Word.{Word}
+use Rattle.nm_schema_statements.specs.declared.word.Word.TheVariants as word
+use Rattle.nm_schema_statements.specs.Flaw.{is_data}
+use Rattle.nm_schema_statements.specs.Rows.{roots, same_parent, first_below}
 use Rattle.nm_graph.specs.Value.{strict, all_there}
-use Rattle.nm_schema_shape.specs.Arguments.{argument_at}
-use Rattle.nm_schema_shape.specs.Holding.{is_fork, is_fork_row, is_fork_at, is_node, is_data_row, is_data_at, holding, bringing}
-use Rattle.nm_schema_shape.specs.Config.{says_false, state_in, is_state, is_kept, kept_of, configuring, LeadsBy, one, further, ReachesBy, IsConfiguration}
-use Rattle.nm_schema_shape.specs.Worth.{worth_within, worth_of}
-use Rattle.nm_schema_shape.specs.Members.{bring, bring_step}
-use Rattle.nm_schema_shape.specs.Passing.{is_plain, plain_of, brought_along, kept_members, plain_members}
-use Rattle.nm_schema_expansion.specs.declared.instance.Instance.{Instance}
-use Rattle.nm_schema_expansion.specs.Expansion.{kept_below, kept_in, module_row, is_grown, grown_members, children, tops, is_below, row_in, row_of, IsExpansion}
-use Rattle.nm_schema_expansion.specs.Named.{has_name, is_child_named, child_named}
-use Rattle.nm_schema_expansion.proofs.Unfolding.{unfold_one, unfold_within}
-use Rattle.nm_tree.proofs.Positions.{first_passes}
-use Rattle.nm_schema_flaws.specs.Facts.{Facts, definitions}
+use Rattle.nm_schema_uses.specs.Arguments.{argument_at}
+use Rattle.nm_schema_uses.specs.Holding.{is_fork, is_fork_row, is_fork_at, is_node, is_data_row, is_data_at, holding, bringing}
+use Rattle.nm_schema_uses.specs.Config.{says_false, state_in, is_state, is_kept, kept_of, configuring, LeadsBy, one, further, ReachesBy, IsConfiguration}
+use Rattle.nm_schema_uses.specs.Worth.{worth_within, worth_of}
+use Rattle.nm_schema_uses.specs.Members.{bring, bring_step}
+use Rattle.nm_schema_uses.specs.Passing.{is_plain, plain_of, brought_along, kept_members, plain_members}
+use Rattle.nm_schema_nodes.specs.declared.instance.Instance.{Instance}
+use Rattle.nm_schema_nodes.specs.Expansion.{kept_below, kept_in, module_row, is_grown, grown_members, children, tops, is_below, row_in, row_of, IsExpansion}
+use Rattle.nm_schema_nodes.specs.Named.{has_name, is_child_named, child_named}
+use Rattle.nm_schema_nodes.proofs.Unfolding.{unfold_one, unfold_within}
+use Rattle.nm_schema_tree.proofs.Positions.{first_passes}
+use Rattle.nm_schema_faults.specs.Facts.{Facts, definitions}
 use Rattle.nm_schema.specs.Faultless.{AreFaultless}
 use Rattle.nm_schema.proofs.Elements.{here, nothing, first_or_later, of_map, in_map, of_filter, in_list}
 use Rattle.nm_schema.proofs.Onces.{own_bytes, same_bytes}

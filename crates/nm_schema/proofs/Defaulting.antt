@@ -3,14 +3,14 @@ use Rattle.std.proofs.Common.{◌≡◌, ◌∙◌, ◌≤◌, ◌⊎◌, inl, i
 use Rattle.std.specs.Prelude.{Contains, is_some, not, unwrap_or}
 use Rattle.std.specs.List.{list_any, range_with_len}
 use Rattle.std.proofs.lemmas.Option.{same_Some}
-use Rattle.nm_schema_rows.specs.declared.row.Row.{Row}
-use Rattle.nm_schema_rows.specs.declared.word.Word.{Word}
-use Rattle.nm_schema_rows.specs.declared.word.Word.TheVariants as word
-use Rattle.nm_schema_rows.specs.declared.flaw.Flaw.TheVariants as flaw
-use Rattle.nm_schema_rows.specs.Word.{same_word}
-use Rattle.nm_schema_rows.specs.Flaw.{text_of}
-use Rattle.nm_schema_rows.specs.Rows.{has_word, first_below}
-use Rattle.nm_schema_rows.proofs.Words.{same_words, same_itself}
+use Rattle.nm_schema_statements.specs.declared.row.Row.{Row}
+use Rattle.nm_schema_statements.specs.declared.word.Word.{Word}
+use Rattle.nm_schema_statements.specs.declared.word.Word.TheVariants as word
+use Rattle.nm_schema_statements.specs.declared.flaw.Flaw.TheVariants as flaw
+use Rattle.nm_schema_statements.specs.Word.{same_word}
+use Rattle.nm_schema_statements.specs.Flaw.{text_of}
+use Rattle.nm_schema_statements.specs.Rows.{has_word, first_below}
+use Rattle.nm_schema_statements.proofs.Words.{same_words, same_itself}
 use Rattle.nm_graph.specs.Value.{strict, all_there}
 use Rattle.nm_types.specs.declared.value.Value.{Value}
 use Rattle.nm_types.specs.declared.fault.ValueFault.{ValueFault}
@@ -18,17 +18,17 @@ use Rattle.nm_types.specs.LeafType.{TypeOfLeaf}
 use Rattle.nm_types.specs.Reading.{reading}
 use Rattle.nm_schema_names.specs.Named.{parent_in, parent_of}
 use Rattle.nm_schema_names.specs.Leads.{leads_to}
-use Rattle.nm_schema_shape.specs.Worth.{worth_within}
+use Rattle.nm_schema_uses.specs.Worth.{worth_within}
 use Rattle.nm_schema_typing.specs.Restricting.{argument_at, argument_in, argument_below}
 use Rattle.nm_schema_typing.specs.TypeGraph.{is_typed, typedef_at, named_typedef, at_most_one, type_below, leads}
 use Rattle.nm_schema_typing.specs.Defaults.{is_empty, is_read, fits_type, is_default, default_in as flaw_in_default, default_by, default_flaw, own_or, default_at, joined, first_text, default_step, default_of}
 use Rattle.nm_schema_keys.specs.Keys.{IsKey}
-use Rattle.nm_schema_expansion.specs.declared.instance.Instance.{Instance}
-use Rattle.nm_schema_expansion.proofs.Unfolding.{split, unfold_one}
+use Rattle.nm_schema_nodes.specs.declared.instance.Instance.{Instance}
+use Rattle.nm_schema_nodes.proofs.Unfolding.{split, unfold_one}
 use Rattle.nm_schema_leafref.specs.Target.{type_of_node}
-use Rattle.nm_schema_flaws.specs.Facts.{Facts, AreFacts, definitions, is_marked, standing, tree}
-use Rattle.nm_schema_flaws.specs.Flaw.{bad_if, is_marked_in, own_flaw, is_defaulted, is_defaulted_in, is_narrowed, takes_over, inherited_flaw, misfit_flaw}
-use Rattle.nm_schema_flaws.specs.Misfit.{is_key_node, leads_in, base_of, base_takes, is_meant, suits, misfits, is_misfit, told_in, is_misfit_told, has_misfit}
+use Rattle.nm_schema_faults.specs.Facts.{Facts, AreFacts, definitions, is_marked, standing, tree}
+use Rattle.nm_schema_faults.specs.Flaw.{bad_if, is_marked_in, own_flaw, is_defaulted, is_defaulted_in, is_narrowed, takes_over, inherited_flaw, misfit_flaw}
+use Rattle.nm_schema_faults.specs.Misfit.{is_key_node, leads_in, base_of, base_takes, is_meant, suits, misfits, is_misfit, told_in, is_misfit_told, has_misfit}
 use Rattle.nm_schema.specs.Faultless.{AreFaultless}
 use Rattle.nm_schema.specs.Kind.{value_in, value_of, default_in}
 use Rattle.nm_schema.proofs.Elements.{nothing, first_or_later, in_range}

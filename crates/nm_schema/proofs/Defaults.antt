@@ -6,8 +6,8 @@ use Rattle.std.proofs.lemmas.Bool.Decides.{nat_tests}
 use Rattle.std.proofs.lemmas.Grind.{common_steps}
 use Rattle.std.proofs.lemmas.Option.{same_Some}
 use Rattle.nm_base.specs.Numbers.{is_among}
-use Rattle.nm_schema_rows.specs.declared.row.Row.{Row}
-use Rattle.nm_schema_rows.specs.declared.word.Word.{Word}
+use Rattle.nm_schema_statements.specs.declared.row.Row.{Row}
+use Rattle.nm_schema_statements.specs.declared.word.Word.{Word}
 use Rattle.nm_types.specs.declared.value.Value.{Value}
 use Rattle.nm_types.specs.declared.fault.ValueFault.TheVariants.{OutOfRange}
 use Rattle.nm_types.specs.LeafType.{TypeOfLeaf}
@@ -16,13 +16,13 @@ use Rattle.nm_types.specs.Reading.{spelled, judged}
 use Rattle.nm_types.proofs.Readings.{spelled-sound, limits-sound}
 use Rattle.nm_schema_typing.specs.Defaults.{default_of as default_of_row}
 use Rattle.nm_schema_keys.specs.Keys.{has_row, has_known, keys_of}
-use Rattle.nm_schema_expansion.specs.declared.instance.Instance.{Instance}
-use Rattle.nm_schema_expansion.specs.Expansion.{row_in, row_of, IsExpansion}
-use Rattle.nm_tree.specs.declared.node.Node.{Node}
-use Rattle.nm_tree.specs.declared.node.NodeKind.{NodeKind}
-use Rattle.nm_tree.specs.Nodes.{parent_of as above_of, parent_in, type_of, type_in, default_of, keys_of as keys_of_node, keys_in as keys_in_node, keys_at, is_key}
-use Rattle.nm_schema_flaws.specs.Facts.{Facts, definitions, standing}
-use Rattle.nm_schema_flaws.specs.Misfit.{keys_above, row_above, is_key_node}
+use Rattle.nm_schema_nodes.specs.declared.instance.Instance.{Instance}
+use Rattle.nm_schema_nodes.specs.Expansion.{row_in, row_of, IsExpansion}
+use Rattle.nm_schema_tree.specs.declared.node.Node.{Node}
+use Rattle.nm_schema_tree.specs.declared.node.NodeKind.{NodeKind}
+use Rattle.nm_schema_tree.specs.Nodes.{parent_of as above_of, parent_in, type_of, type_in, default_of, keys_of as keys_of_node, keys_in as keys_in_node, keys_at, is_key}
+use Rattle.nm_schema_faults.specs.Facts.{Facts, definitions, standing}
+use Rattle.nm_schema_faults.specs.Misfit.{keys_above, row_above, is_key_node}
 use Rattle.nm_schema.specs.Kind.{value_in, value_of, default_in, nodes_named, keys_in}
 use Rattle.nm_schema.specs.Node.{node_of}
 use Rattle.nm_schema.specs.Whole.{IsValueOf, IsDefault}

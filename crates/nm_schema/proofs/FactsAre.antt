@@ -7,29 +7,29 @@ use Rattle.std.proofs.lemmas.Grind.{common_steps}
 use Rattle.std.proofs.lemmas.List.FromFn.{get_or-map-range_with_len, length-map-range_with_len}
 use Rattle.std.proofs.lemmas.List.Elements.{All-contains}
 use Rattle.std.proofs.lemmas.Option.{same_Some}
-use Rattle.nm_schema_rows.specs.declared.row.Row.{Row}
-use Rattle.nm_schema_rows.specs.declared.word.Word.TheVariants as word
-use Rattle.nm_schema_rows.specs.Rows.{has_word, first_below, same_parent, roots, AreRows}
+use Rattle.nm_schema_statements.specs.declared.row.Row.{Row}
+use Rattle.nm_schema_statements.specs.declared.word.Word.TheVariants as word
+use Rattle.nm_schema_statements.specs.Rows.{has_word, first_below, same_parent, roots, AreRows}
 use Rattle.nm_schema_names.specs.Graph.{leading}
 use Rattle.nm_schema_names.proofs.Within.{leading-within}
-use Rattle.nm_schema_shape.specs.Holding.{holding}
-use Rattle.nm_schema_shape.specs.Config.{state_in, is_state, configuring, LeadsBy, IsConfiguration, IsInState, Marks}
-use Rattle.nm_schema_shape.proofs.Graphs.{holding-within}
+use Rattle.nm_schema_uses.specs.Holding.{holding}
+use Rattle.nm_schema_uses.specs.Config.{state_in, is_state, configuring, LeadsBy, IsConfiguration, IsInState, Marks}
+use Rattle.nm_schema_uses.proofs.Graphs.{holding-within}
 use Rattle.nm_schema_keys.specs.Keys.{has_row, has_known, keys_at, keys_of, IsKey}
-use Rattle.nm_schema_expansion.specs.declared.instance.Instance.{Instance}
-use Rattle.nm_schema_expansion.specs.Expansion.{Expanded, kept_below, grown_members, IsExpansion}
-use Rattle.nm_schema_expansion.specs.Growing.{instance, IsGrowing}
-use Rattle.nm_schema_expansion.proofs.Growth.{seeds_none, seeded, members-added, grown, weigh-next}
-use Rattle.nm_schema_expansion.proofs.Depths.{grown_all}
+use Rattle.nm_schema_nodes.specs.declared.instance.Instance.{Instance}
+use Rattle.nm_schema_nodes.specs.Expansion.{Expanded, kept_below, grown_members, IsExpansion}
+use Rattle.nm_schema_nodes.specs.Growing.{instance, IsGrowing}
+use Rattle.nm_schema_nodes.proofs.Growth.{seeds_none, seeded, members-added, grown, weigh-next}
+use Rattle.nm_schema_nodes.proofs.Depths.{grown_all}
 use Rattle.nm_schema_leafref.specs.declared.fault.PathFault.{PathFault}
 use Rattle.nm_schema_leafref.specs.Walk.{path_row, led_to}
 use Rattle.nm_schema_leafref.specs.Target.{targets}
 use Rattle.nm_schema_leafref.specs.Fault.{IsFaulty, HasFault}
 use Rattle.nm_schema_leafref.proofs.Targets.{path_row-past, led_to-within}
 use Rattle.nm_schema_leafref.proofs.Faults.{IsFaultOf, fault-is}
-use Rattle.nm_schema_flaws.specs.Fault.{first_some}
-use Rattle.nm_schema_flaws.specs.Facts.{AreFacts, IsCycle, definitions, tree}
-use Rattle.nm_schema_flaws.proofs.Defining.{definitions-named}
+use Rattle.nm_schema_faults.specs.Fault.{first_some}
+use Rattle.nm_schema_faults.specs.Facts.{AreFacts, IsCycle, definitions, tree}
+use Rattle.nm_schema_faults.proofs.Defining.{definitions-named}
 use Rattle.nm_schema.proofs.Orderly.{leads_before}
 use Rattle.nm_schema.specs.FactsOf.{leads_within, reaches_within, cycle_of, is_configured, stands_in_state, marks_of, standing_of, is_key_leaf, tops_of, below_of, filled_from, nodes_of, node_fault, fault_for, path_fault, facts_in}
 use Rattle.nm_schema.proofs.Elements.{here, later, in_range, finds_none, finds_some}

@@ -1,14 +1,14 @@
 -- Modules give a tree where nothing is wrong with them, and there alone.
 use Rattle.std.proofs.Common.{◌≡◌, ◌↔◌, ◌∙◌, List, Option, Some, None, Result, Ok, Err, OnOk, refl, sym, ap, subst}
 use Rattle.nm_yang.specs.Tree.{Tree}
-use Rattle.nm_schema_rows.specs.declared.row.Row.{Row}
-use Rattle.nm_schema_rows.specs.Rows.{rows_of}
-use Rattle.nm_tree.specs.Nodes.{SchemaTree}
-use Rattle.nm_schema_flaws.specs.declared.fault.Fault.{Fault}
-use Rattle.nm_schema_flaws.specs.declared.fault.Fault.TheVariants as fault
-use Rattle.nm_schema_flaws.specs.Facts.{Facts, AreFacts}
-use Rattle.nm_schema_flaws.proofs.Single.{one_truth}
-use Rattle.nm_schema_flaws.specs.Fault.{first_fault}
+use Rattle.nm_schema_statements.specs.declared.row.Row.{Row}
+use Rattle.nm_schema_statements.specs.Rows.{rows_of}
+use Rattle.nm_schema_tree.specs.Nodes.{SchemaTree}
+use Rattle.nm_schema_faults.specs.declared.fault.Fault.{Fault}
+use Rattle.nm_schema_faults.specs.declared.fault.Fault.TheVariants as fault
+use Rattle.nm_schema_faults.specs.Facts.{Facts, AreFacts}
+use Rattle.nm_schema_faults.proofs.Single.{one_truth}
+use Rattle.nm_schema_faults.specs.Fault.{first_fault}
 use Rattle.nm_schema.specs.declared.fault.SchemaFault.{SchemaFault}
 use Rattle.nm_schema.specs.declared.fault.SchemaFault.TheVariants as schema
 use Rattle.nm_schema.specs.FactsOf.{facts_in}

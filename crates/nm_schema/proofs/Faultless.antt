@@ -3,20 +3,20 @@ use Rattle.std.proofs.Common.{◌≡◌, ◌∙◌, ◌<◌, ◌⊎◌, inl, inr
 use Rattle.std.specs.Prelude.{Contains}
 use Rattle.std.specs.Option.{option_or}
 use Rattle.std.specs.List.{range_with_len}
-use Rattle.nm_schema_rows.specs.declared.row.Row.{Row}
-use Rattle.nm_schema_rows.specs.declared.flaw.Flaw.{Flaw}
-use Rattle.nm_schema_rows.specs.Flaw.{grammar_flaw}
+use Rattle.nm_schema_statements.specs.declared.row.Row.{Row}
+use Rattle.nm_schema_statements.specs.declared.flaw.Flaw.{Flaw}
+use Rattle.nm_schema_statements.specs.Flaw.{grammar_flaw}
 use Rattle.nm_schema_names.specs.Flaw.{name_flaw}
 use Rattle.nm_schema_names.specs.Named.{top, row_at}
-use Rattle.nm_schema_clash.specs.Clash.{clash_flaw}
+use Rattle.nm_schema_names.specs.Clash.{clash_flaw}
 use Rattle.nm_schema_typing.specs.TypeFlaw.{type_flaw, cycle_flaw}
 use Rattle.nm_schema_typing.specs.Listing.{is_at}
 use Rattle.nm_schema_keys.specs.Keys.{key_flaw}
 use Rattle.nm_schema_keys.specs.Uniques.{unique_flaw}
-use Rattle.nm_schema_expansion.specs.Expansion.{first_large}
-use Rattle.nm_schema_flaws.specs.Facts.{Facts, definitions, standing}
-use Rattle.nm_schema_flaws.specs.Flaw.{config_flaw, list_flaw, own_flaw, inherited_flaw, path_flaw, misfit_flaw, said_flaw, placed_flaw, listed_flaw, valued_flaw, flaw_at}
-use Rattle.nm_schema_flaws.specs.Fault.{first_some, flawed, is_last, large_by, large_in, large_at, fault_at, first_fault}
+use Rattle.nm_schema_nodes.specs.Expansion.{first_large}
+use Rattle.nm_schema_faults.specs.Facts.{Facts, definitions, standing}
+use Rattle.nm_schema_faults.specs.Flaw.{config_flaw, list_flaw, own_flaw, inherited_flaw, path_flaw, misfit_flaw, said_flaw, placed_flaw, listed_flaw, valued_flaw, flaw_at}
+use Rattle.nm_schema_faults.specs.Fault.{first_some, flawed, is_last, large_by, large_in, large_at, fault_at, first_fault}
 use Rattle.nm_schema.specs.Faultless.{IsFaultless, AreFaultless}
 use Rattle.nm_schema.proofs.Elements.{nothing, first_or_later, in_range}
 

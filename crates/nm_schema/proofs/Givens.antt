@@ -4,20 +4,20 @@ use Rattle.std.specs.Prelude.{Contains}
 use Rattle.std.specs.List.{position_from}
 use Rattle.std.proofs.lemmas.Grind.{common_steps}
 use Rattle.std.proofs.lemmas.List.Elements.{Contains-get_or}
-use Rattle.nm_schema_rows.specs.declared.row.Row.{Row}
-use Rattle.nm_schema_rows.specs.declared.word.Word.{Word}
-use Rattle.nm_schema_rows.specs.declared.word.Word.TheVariants as word
-use Rattle.nm_schema_rows.specs.declared.flaw.Flaw.{Flaw}
-use Rattle.nm_schema_rows.specs.declared.flaw.Flaw.TheVariants as flaw
-use Rattle.nm_schema_rows.specs.Flaw.{is_module, is_before, text_of, form_fault}
-use Rattle.nm_schema_rows.specs.Rows.{same_parent, those_in, roots}
+use Rattle.nm_schema_statements.specs.declared.row.Row.{Row}
+use Rattle.nm_schema_statements.specs.declared.word.Word.{Word}
+use Rattle.nm_schema_statements.specs.declared.word.Word.TheVariants as word
+use Rattle.nm_schema_statements.specs.declared.flaw.Flaw.{Flaw}
+use Rattle.nm_schema_statements.specs.declared.flaw.Flaw.TheVariants as flaw
+use Rattle.nm_schema_statements.specs.Flaw.{is_module, is_before, text_of, form_fault}
+use Rattle.nm_schema_statements.specs.Rows.{same_parent, those_in, roots}
 use Rattle.nm_schema_names.specs.declared.key.Reach.TheVariants as reach
 use Rattle.nm_schema_names.specs.Named.{has_key, first_keyed, named, is_marker}
 use Rattle.nm_schema_names.specs.Flaw.{again_flaw, module_flaw, text_flaw, argument_flaw, row_flaw, name_flaw}
 use Rattle.nm_types.specs.Spells.{IsOnce}
-use Rattle.nm_schema_shape.specs.Arguments.{argument_at}
+use Rattle.nm_schema_uses.specs.Arguments.{argument_at}
 use Rattle.nm_path.specs.Form as form
-use Rattle.nm_schema_flaws.specs.Facts.{Facts}
+use Rattle.nm_schema_faults.specs.Facts.{Facts}
 use Rattle.nm_schema.specs.Choices.{module_names, module_name}
 use Rattle.nm_schema.proofs.Elements.{nothing, first_or_later, of_map}
 use Rattle.nm_schema.proofs.Onces.{own_bytes}

@@ -4,18 +4,18 @@ use Rattle.std.specs.List.{range_with_len}
 use Rattle.std.proofs.lemmas.Option.{same_Some}
 use Rattle.nm_yang.specs.Tree.{Tree, Trees, statement, none, more}
 use Rattle.nm_yang.specs.Grammar.{keyword_of}
-use Rattle.nm_schema_rows.specs.declared.row.Row.{Row}
-use Rattle.nm_schema_rows.specs.Word.{word_of}
-use Rattle.nm_schema_rows.specs.Rows.{is_opened, is_skipped, row_for, rows_from, rows_within, rows_after, rows_of, roots, module_in, AreRows}
+use Rattle.nm_schema_statements.specs.declared.row.Row.{Row}
+use Rattle.nm_schema_statements.specs.Word.{word_of}
+use Rattle.nm_schema_statements.specs.Rows.{is_opened, is_skipped, row_for, rows_from, rows_within, rows_after, rows_of, roots, module_in, AreRows}
 use Rattle.nm_schema_names.specs.Named.{top, row_at}
-use Rattle.nm_schema_shape.specs.Config.{LeadsBy}
-use Rattle.nm_schema_shape.specs.Holding.{holding}
+use Rattle.nm_schema_uses.specs.Config.{LeadsBy}
+use Rattle.nm_schema_uses.specs.Holding.{holding}
 use Rattle.nm_schema_typing.specs.Listing.{is_at}
-use Rattle.nm_schema_expansion.specs.Expansion.{module_row, first_large, is_large, comes_before, has_count, is_grown}
-use Rattle.nm_schema_expansion.proofs.Growth.{module_row-is}
-use Rattle.nm_schema_expansion.proofs.Scanning.{root-within}
-use Rattle.nm_schema_flaws.specs.Facts.{definitions}
-use Rattle.nm_schema_flaws.specs.Fault.{is_outermost, is_last, large_by, large_in, large_at}
+use Rattle.nm_schema_nodes.specs.Expansion.{module_row, first_large, is_large, comes_before, has_count, is_grown}
+use Rattle.nm_schema_nodes.proofs.Growth.{module_row-is}
+use Rattle.nm_schema_nodes.proofs.Scanning.{root-within}
+use Rattle.nm_schema_faults.specs.Facts.{definitions}
+use Rattle.nm_schema_faults.specs.Fault.{is_outermost, is_last, large_by, large_in, large_at}
 use Rattle.nm_schema.proofs.Elements.{of_range, finds_some}
 use Rattle.nm_schema.proofs.Claims.{AreOrderly}
 use Rattle.nm_schema.proofs.Orderly.{row_there}

@@ -4,12 +4,12 @@ use Rattle.std.specs.Prelude.{Contains}
 use Rattle.std.specs.List.{range_with_len}
 use Rattle.std.proofs.lemmas.Grind.{common_steps}
 use Rattle.std.proofs.lemmas.Option.{same_Some}
-use Rattle.nm_schema_rows.specs.declared.row.Row.{Row}
-use Rattle.nm_schema_rows.specs.declared.word.Word.{Word}
-use Rattle.nm_schema_rows.specs.declared.word.Word.TheVariants as word
-use Rattle.nm_schema_rows.specs.Rows.{same_parent, those_in, children}
-use Rattle.nm_schema_shape.specs.Holding.{is_fork, is_fork_row, is_fork_at, is_part, is_part_row, is_part_at}
-use Rattle.nm_schema_clash.specs.Clash.{around_in, around, beyond, holder_of}
+use Rattle.nm_schema_statements.specs.declared.row.Row.{Row}
+use Rattle.nm_schema_statements.specs.declared.word.Word.{Word}
+use Rattle.nm_schema_statements.specs.declared.word.Word.TheVariants as word
+use Rattle.nm_schema_statements.specs.Rows.{same_parent, those_in, children}
+use Rattle.nm_schema_uses.specs.Holding.{is_fork, is_fork_row, is_fork_at, is_part, is_part_row, is_part_at}
+use Rattle.nm_schema_names.specs.Clash.{around_in, around, beyond, holder_of}
 use Rattle.nm_schema.proofs.Elements.{nothing, first_or_later}
 
 -- ---- numbers that ascend, from n on

@@ -4,17 +4,17 @@ use Rattle.std.specs.Prelude.{Contains, is_some, not, unwrap_or, ⊤, option_map
 use Rattle.std.specs.List.{find}
 use Rattle.std.proofs.lemmas.Bool.Decides.{nat_tests}
 use Rattle.std.proofs.lemmas.Option.{same_Some}
-use Rattle.nm_schema_rows.specs.declared.row.Row.{Row}
-use Rattle.nm_schema_rows.specs.declared.word.Word.{Word}
-use Rattle.nm_schema_rows.specs.declared.word.Word.TheVariants as word
-use Rattle.nm_schema_rows.specs.declared.flaw.Flaw.TheVariants as flaw
-use Rattle.nm_schema_rows.specs.Word.{same_word}
-use Rattle.nm_schema_rows.specs.Flaw.{is_there, text_of}
-use Rattle.nm_schema_rows.specs.Rows.{has_word, children, first_below}
-use Rattle.nm_schema_rows.proofs.Words.{same_itself}
-use Rattle.nm_schema_shape.specs.Config.{IsConfiguration, is_state, is_keyless_in, is_keyless}
-use Rattle.nm_schema_shape.specs.Members.{members}
-use Rattle.nm_schema_shape.specs.Passing.{kept_members, plain_members}
+use Rattle.nm_schema_statements.specs.declared.row.Row.{Row}
+use Rattle.nm_schema_statements.specs.declared.word.Word.{Word}
+use Rattle.nm_schema_statements.specs.declared.word.Word.TheVariants as word
+use Rattle.nm_schema_statements.specs.declared.flaw.Flaw.TheVariants as flaw
+use Rattle.nm_schema_statements.specs.Word.{same_word}
+use Rattle.nm_schema_statements.specs.Flaw.{is_there, text_of}
+use Rattle.nm_schema_statements.specs.Rows.{has_word, children, first_below}
+use Rattle.nm_schema_statements.proofs.Words.{same_itself}
+use Rattle.nm_schema_uses.specs.Config.{IsConfiguration, is_state, is_keyless_in, is_keyless}
+use Rattle.nm_schema_uses.specs.Members.{members}
+use Rattle.nm_schema_uses.specs.Passing.{kept_members, plain_members}
 use Rattle.nm_schema_keys.specs.declared.found.Found.{Found}
 use Rattle.nm_schema_keys.specs.declared.found.Found.TheVariants as found
 use Rattle.nm_schema_keys.specs.declared.passage.Passage.{Passage}
@@ -25,10 +25,10 @@ use Rattle.nm_schema_keys.specs.Found.{is_called, row_or_missing, found_among, a
 use Rattle.nm_schema_keys.specs.Said.{said_within, said_in, said_at}
 use Rattle.nm_schema_keys.specs.Keys.{key_leaf, key_words_flaw, key_words_leafs, leafs_named, said_key_flaw, key_flaw, said_keys, keys_at, keys_of}
 use Rattle.nm_schema_keys.specs.Uniques.{word_before, next_row, behind, passage_from, passage_along, passage_of, is_missing, leads_nowhere, way_through, way_of, unique_words_flaw, unique_words_ways, said_unique_flaw, unique_flaw, said_unique, unique_at, is_unique, uniques_of}
-use Rattle.nm_schema_expansion.specs.declared.instance.Instance.{Instance}
-use Rattle.nm_schema_expansion.specs.Expansion.{kept_below, IsExpansion}
-use Rattle.nm_schema_flaws.specs.Facts.{Facts, AreFacts, definitions, is_marked, standing}
-use Rattle.nm_schema_flaws.specs.Flaw.{bad_if, list_flaw}
+use Rattle.nm_schema_nodes.specs.declared.instance.Instance.{Instance}
+use Rattle.nm_schema_nodes.specs.Expansion.{kept_below, IsExpansion}
+use Rattle.nm_schema_faults.specs.Facts.{Facts, AreFacts, definitions, is_marked, standing}
+use Rattle.nm_schema_faults.specs.Flaw.{bad_if, list_flaw}
 use Rattle.nm_schema.specs.Faultless.{AreFaultless}
 use Rattle.nm_schema.specs.Kind.{named_as, nodes_named, keys_in, further as further_node, reached, group_in, groups_of, groups_in}
 use Rattle.nm_schema.proofs.Elements.{of_filter, finds_none, finds_some}

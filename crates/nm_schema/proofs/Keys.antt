@@ -4,16 +4,16 @@ use Rattle.std.specs.Prelude.{Contains, is_some, is_none}
 use Rattle.std.specs.List.{find}
 use Rattle.std.proofs.lemmas.Grind.{common_steps}
 use Rattle.std.proofs.lemmas.Bool.{and_parts}
-use Rattle.nm_schema_rows.specs.declared.row.Row.{Row}
-use Rattle.nm_schema_rows.specs.declared.word.Word.{Word}
-use Rattle.nm_schema_rows.specs.declared.word.Word.TheVariants as word
-use Rattle.nm_schema_rows.specs.declared.flaw.Flaw.{Flaw}
-use Rattle.nm_schema_rows.specs.Word.{same_word}
-use Rattle.nm_schema_rows.specs.Flaw.{text_of}
-use Rattle.nm_schema_rows.specs.Rows.{has_word, first_with, first_below, children}
+use Rattle.nm_schema_statements.specs.declared.row.Row.{Row}
+use Rattle.nm_schema_statements.specs.declared.word.Word.{Word}
+use Rattle.nm_schema_statements.specs.declared.word.Word.TheVariants as word
+use Rattle.nm_schema_statements.specs.declared.flaw.Flaw.{Flaw}
+use Rattle.nm_schema_statements.specs.Word.{same_word}
+use Rattle.nm_schema_statements.specs.Flaw.{text_of}
+use Rattle.nm_schema_statements.specs.Rows.{has_word, first_with, first_below, children}
 use Rattle.nm_types.specs.Spells.{IsOnce}
-use Rattle.nm_schema_shape.specs.Arguments.{argument_at}
-use Rattle.nm_schema_shape.specs.Passing.{plain_members}
+use Rattle.nm_schema_uses.specs.Arguments.{argument_at}
+use Rattle.nm_schema_uses.specs.Passing.{plain_members}
 use Rattle.nm_schema_keys.specs.declared.found.Found.{Found}
 use Rattle.nm_schema_keys.specs.declared.found.Found.TheVariants as found
 use Rattle.nm_schema_keys.specs.ConfigUse.{ConfigUse, loses_state, is_lost}

@@ -2,9 +2,9 @@
 use Rattle.std.proofs.Common.{◌≡◌, ◌<◌, ℕ, ℤ, zero, suc, List, [], ◌∷◌, length, map, Bool, true, false, cond, Option, Some, None, Result, Ok, Err, slice_get, refl, sym, subst}
 use Rattle.std.specs.Prelude.{is_some, is_none, ⊤}
 use Rattle.std.specs.Option.{option_and_then}
-use Rattle.nm_schema_rows.specs.declared.row.Row.{Row}
-use Rattle.nm_schema_rows.specs.declared.word.Word.TheVariants as word
-use Rattle.nm_schema_rows.specs.Rows.{first_below}
+use Rattle.nm_schema_statements.specs.declared.row.Row.{Row}
+use Rattle.nm_schema_statements.specs.declared.word.Word.TheVariants as word
+use Rattle.nm_schema_statements.specs.Rows.{first_below}
 use Rattle.nm_graph.specs.Value.{strict, all_there}
 use Rattle.nm_types.specs.LeafType.{Kind, TypeOfLeaf}
 use Rattle.nm_schema_derive.specs.declared.names.BuiltIn.{BuiltIn}
@@ -25,7 +25,7 @@ use Rattle.nm_schema_typing.specs.Restricting.{TypeRestrictions, restrictions_of
 use Rattle.nm_schema_typing.specs.TypeGraph.{is_typed, is_type, leads}
 use Rattle.nm_schema_typing.specs.Meaning.{Meaning, plain, reference, then_bits, then_names, then_length, then_range, restricted, is_unrestricted, whole, restricted_at, is_path, leads_to, leafref_at, kept_at, narrowed_at, is_leafref, bare, built_in_at, built_in_named, type_meaning, meaning_from, meaning_at, first_known, meaning_step}
 use Rattle.nm_schema_typing.specs.Along.{within as within_steps, meaning_of}
-use Rattle.nm_schema_expansion.proofs.Unfolding.{split}
+use Rattle.nm_schema_nodes.proofs.Unfolding.{split}
 use Rattle.nm_schema.proofs.Faultless.{within}
 use Rattle.nm_schema.proofs.Listings.{first_stands}
 

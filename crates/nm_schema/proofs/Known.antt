@@ -3,33 +3,33 @@ use Rattle.std.proofs.Common.{◌≡◌, ◌∙◌, ◌<◌, ◌⊎◌, inl, inr
 use Rattle.std.specs.Prelude.{Contains, is_some}
 use Rattle.std.proofs.lemmas.Option.{same_Some}
 use Rattle.nm_yang.specs.Tree.{Tree}
-use Rattle.nm_schema_rows.specs.declared.row.Row.{Row}
-use Rattle.nm_schema_rows.specs.declared.word.Word.{Word}
-use Rattle.nm_schema_rows.specs.declared.word.Word.TheVariants as word
-use Rattle.nm_schema_rows.specs.Flaw.{is_data}
-use Rattle.nm_schema_rows.specs.Rows.{has_word, first_below, rows_of, roots, module_in, module_at, AreRows, FromModules}
-use Rattle.nm_schema_rows.proofs.Laws.{are_rows}
-use Rattle.nm_schema_rows.proofs.Modules.{count_of_tops}
+use Rattle.nm_schema_statements.specs.declared.row.Row.{Row}
+use Rattle.nm_schema_statements.specs.declared.word.Word.{Word}
+use Rattle.nm_schema_statements.specs.declared.word.Word.TheVariants as word
+use Rattle.nm_schema_statements.specs.Flaw.{is_data}
+use Rattle.nm_schema_statements.specs.Rows.{has_word, first_below, rows_of, roots, module_in, module_at, AreRows, FromModules}
+use Rattle.nm_schema_statements.proofs.Laws.{are_rows}
+use Rattle.nm_schema_statements.proofs.Modules.{count_of_tops}
 use Rattle.nm_schema_names.specs.Leads.{leads_to}
 use Rattle.nm_schema_names.specs.Graph.{listed, word_leading, row_leading, leading}
 use Rattle.nm_types.specs.declared.value.Value.{Value}
 use Rattle.nm_types.specs.LeafType.{TypeOfLeaf}
-use Rattle.nm_schema_shape.specs.Holding.{is_data_row, holding}
-use Rattle.nm_schema_shape.specs.Config.{LeadsBy, one, further}
-use Rattle.nm_schema_shape.specs.Members.{members}
+use Rattle.nm_schema_uses.specs.Holding.{is_data_row, holding}
+use Rattle.nm_schema_uses.specs.Config.{LeadsBy, one, further}
+use Rattle.nm_schema_uses.specs.Members.{members}
 use Rattle.nm_schema_typing.specs.TypeGraph.{is_typed, is_type, typedef_at, named_typedef, at_most_one, type_below, leads_from, leads}
-use Rattle.nm_tree.specs.declared.node.NodeKind.{NodeKind}
-use Rattle.nm_tree.specs.declared.node.NodeKind.TheVariants as kind
-use Rattle.nm_tree.specs.declared.node.Reference.{Reference}
-use Rattle.nm_schema_expansion.specs.declared.instance.Instance.{Instance}
-use Rattle.nm_schema_expansion.specs.Expansion.{Expanded, row_in, row_of, owner_of, module_row, is_grown}
-use Rattle.nm_schema_expansion.proofs.Growth.{module_row-is}
+use Rattle.nm_schema_tree.specs.declared.node.NodeKind.{NodeKind}
+use Rattle.nm_schema_tree.specs.declared.node.NodeKind.TheVariants as kind
+use Rattle.nm_schema_tree.specs.declared.node.Reference.{Reference}
+use Rattle.nm_schema_nodes.specs.declared.instance.Instance.{Instance}
+use Rattle.nm_schema_nodes.specs.Expansion.{Expanded, row_in, row_of, owner_of, module_row, is_grown}
+use Rattle.nm_schema_nodes.proofs.Growth.{module_row-is}
 use Rattle.nm_schema_leafref.specs.declared.led.Led.TheVariants as led
 use Rattle.nm_schema_leafref.specs.Place.{is_leaf, is_known, is_known_node, is_known_module}
 use Rattle.nm_schema_leafref.specs.Walk.{led_to}
 use Rattle.nm_schema_leafref.specs.Target.{up_of}
-use Rattle.nm_schema_flaws.specs.Facts.{Facts, AreFacts, definitions, tree}
-use Rattle.nm_schema_flaws.specs.Fault.{first_fault}
+use Rattle.nm_schema_faults.specs.Facts.{Facts, AreFacts, definitions, tree}
+use Rattle.nm_schema_faults.specs.Fault.{first_fault}
 use Rattle.nm_schema.specs.Faultless.{AreFaultless}
 use Rattle.nm_schema.specs.Kind.{is_mandatory, referred, reference_of, leaf_with, leaf_typed, leaf_of, elements_of, leaf_list_with, leaf_list_of, keys_in, groups_in, list_with, is_filled, list_of, container_of, kind_of}
 use Rattle.nm_schema.specs.Node.{node_with, node_by, node_in, node_of, AreKnown}

@@ -3,25 +3,25 @@ use Rattle.std.proofs.Common.{◌≡◌, ◌∙◌, ◌<◌, ℕ, zero, suc, Lis
 use Rattle.std.specs.Option.{option_and_then}
 use Rattle.std.proofs.lemmas.Bool.{and_parts}
 use Rattle.std.proofs.lemmas.Option.{same_Some}
-use Rattle.nm_schema_rows.specs.declared.row.Row.{Row}
-use Rattle.nm_schema_rows.specs.declared.word.Word.TheVariants as word
-use Rattle.nm_schema_rows.specs.Word.{same_word}
-use Rattle.nm_schema_rows.specs.Flaw.{text_of}
-use Rattle.nm_schema_rows.specs.Rows.{same_parent, module_at}
+use Rattle.nm_schema_statements.specs.declared.row.Row.{Row}
+use Rattle.nm_schema_statements.specs.declared.word.Word.TheVariants as word
+use Rattle.nm_schema_statements.specs.Word.{same_word}
+use Rattle.nm_schema_statements.specs.Flaw.{text_of}
+use Rattle.nm_schema_statements.specs.Rows.{same_parent, module_at}
 use Rattle.nm_graph.specs.Value.{strict, all_there}
 use Rattle.nm_types.specs.LeafType.{TypeOfLeaf}
 use Rattle.nm_schema_typing.specs.declared.leafref.NodeName.{NodeName}
 use Rattle.nm_schema_typing.specs.declared.leafref.Start.{Start}
 use Rattle.nm_schema_typing.specs.declared.leafref.Start.TheVariants.{Root, Up}
 use Rattle.nm_schema_typing.specs.Leafref.{LeafrefPath, pieces, node_named, before, nodes_named, ups, path_from, path_along, up_along, relative_path, path_of_pieces, path_read}
-use Rattle.nm_schema_shape.specs.Worth.{worth_within, worth_of}
-use Rattle.nm_schema_expansion.specs.declared.instance.Instance.{Instance}
-use Rattle.nm_schema_expansion.specs.Expansion.{Expanded, is_below, is_top, owner_of}
-use Rattle.nm_schema_expansion.specs.Named.{has_name, is_child_named, is_top_named, child_named, top_named}
-use Rattle.nm_schema_expansion.proofs.Unfolding.{split, unfold_one, unfold_within}
-use Rattle.nm_tree.specs.declared.node.Node.{Node}
-use Rattle.nm_tree.specs.Nodes.{parent_of as above_of}
-use Rattle.nm_tree.proofs.Positions.{first_passes}
+use Rattle.nm_schema_uses.specs.Worth.{worth_within, worth_of}
+use Rattle.nm_schema_nodes.specs.declared.instance.Instance.{Instance}
+use Rattle.nm_schema_nodes.specs.Expansion.{Expanded, is_below, is_top, owner_of}
+use Rattle.nm_schema_nodes.specs.Named.{has_name, is_child_named, is_top_named, child_named, top_named}
+use Rattle.nm_schema_nodes.proofs.Unfolding.{split, unfold_one, unfold_within}
+use Rattle.nm_schema_tree.specs.declared.node.Node.{Node}
+use Rattle.nm_schema_tree.specs.Nodes.{parent_of as above_of}
+use Rattle.nm_schema_tree.proofs.Positions.{first_passes}
 use Rattle.nm_schema_leafref.specs.declared.led.Led.TheVariants as led
 use Rattle.nm_schema_leafref.specs.declared.led.Spot.{Spot}
 use Rattle.nm_schema_leafref.specs.declared.led.Spot.TheVariants as spot

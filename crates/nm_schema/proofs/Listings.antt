@@ -2,11 +2,11 @@
 use Rattle.std.proofs.Common.{◌≡◌, ◌∙◌, inl, inr, ℕ, ℤ, zero, suc, ◌+◌, List, [], ◌∷◌, ◌++◌, length, map, fold, Bool, true, false, cond, ◌==◌, Option, Some, None, Result, Ok, Err, slice_get, refl, sym, ap, subst, arith, length-append}
 use Rattle.std.specs.Prelude.{Contains, is_some}
 use Rattle.std.proofs.lemmas.Option.{same_Some}
-use Rattle.nm_schema_rows.specs.declared.row.Row.{Row}
-use Rattle.nm_schema_rows.specs.declared.word.Word.{Word}
-use Rattle.nm_schema_rows.specs.declared.word.Word.TheVariants as word
-use Rattle.nm_schema_rows.specs.Rows.{has_word, children, first_with, first_below}
-use Rattle.nm_schema_rows.proofs.Words.{same_words}
+use Rattle.nm_schema_statements.specs.declared.row.Row.{Row}
+use Rattle.nm_schema_statements.specs.declared.word.Word.{Word}
+use Rattle.nm_schema_statements.specs.declared.word.Word.TheVariants as word
+use Rattle.nm_schema_statements.specs.Rows.{has_word, children, first_with, first_below}
+use Rattle.nm_schema_statements.proofs.Words.{same_words}
 use Rattle.nm_schema_derive.specs.declared.members.Listed.{Listed}
 use Rattle.nm_schema_derive.specs.declared.members.Member.{Member}
 use Rattle.nm_schema_derive.specs.declared.members.Numbering.{Numbering}
@@ -19,14 +19,14 @@ use Rattle.nm_schema_derive.specs.declared.derived.StepFault.TheVariants.{Mispla
 use Rattle.nm_schema_derive.specs.Members.{within, next_after, highest_in, number_in, left, new_number, based_number, number_for, one_more, with_statement, members_of}
 use Rattle.nm_schema_derive.specs.Built.{Built, Derivation, names, bare_names, bits, bare_bits}
 use Rattle.nm_schema_derive.specs.Step.{names_on, bits_on, named, flagged}
-use Rattle.nm_schema_clash.specs.Clash.{around_in}
+use Rattle.nm_schema_names.specs.Clash.{around_in}
 use Rattle.nm_schema_typing.specs.declared.listing.Judged.{Judged}
 use Rattle.nm_schema_typing.specs.declared.listing.Judged.TheVariants as judged
 use Rattle.nm_schema_typing.specs.Restricting.{argument_at, argument_below, those_with, rows_with, listed_at}
 use Rattle.nm_schema_typing.specs.Flaws.{base_above}
 use Rattle.nm_schema_typing.specs.Listing.{lister, numberer, with_listed, flawed_at, judged_of, judged_on, judged_if, judged_at, judgement_at, own_flaw, lister_flaw, number_flaw, numberer_flaw, is_at, parent_in, judged_above, flaw_of_lister, flaw_of_numberer, listed_by, listed_in, listed_flaw}
 use Rattle.nm_schema_typing.specs.TypeFlaw.{flaw_by, flaw_in, type_flaw}
-use Rattle.nm_schema_flaws.specs.Facts.{Facts, definitions}
+use Rattle.nm_schema_faults.specs.Facts.{Facts, definitions}
 use Rattle.nm_schema.specs.Faultless.{AreFaultless}
 use Rattle.nm_schema.proofs.Elements.{here, later, nothing, first_or_later, in_list}
 use Rattle.nm_schema.proofs.Holders.{stands_in}

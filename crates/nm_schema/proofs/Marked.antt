@@ -1,13 +1,13 @@
 -- The nodes of the marker module stand in the tree that modules give.
 use Rattle.std.proofs.Common.{◌≡◌, ◌∙◌, ◌+◌, ℕ, List, ◌++◌, length, Option, Some, None, Result, Ok, Err, IfOk, slice_get, sym, ap, subst, arith}
 use Rattle.nm_yang.specs.Tree.{Tree}
-use Rattle.nm_schema_rows.specs.declared.row.Row.{Row}
-use Rattle.nm_schema_rows.specs.Rows.{rows_of}
-use Rattle.nm_tree.specs.declared.node.Node.{Node}
-use Rattle.nm_tree.specs.Nodes.{SchemaTree}
-use Rattle.nm_schema_flaws.specs.declared.fault.Fault.{Fault}
-use Rattle.nm_schema_flaws.specs.Facts.{Facts}
-use Rattle.nm_schema_flaws.specs.Fault.{first_fault}
+use Rattle.nm_schema_statements.specs.declared.row.Row.{Row}
+use Rattle.nm_schema_statements.specs.Rows.{rows_of}
+use Rattle.nm_schema_tree.specs.declared.node.Node.{Node}
+use Rattle.nm_schema_tree.specs.Nodes.{SchemaTree}
+use Rattle.nm_schema_faults.specs.declared.fault.Fault.{Fault}
+use Rattle.nm_schema_faults.specs.Facts.{Facts}
+use Rattle.nm_schema_faults.specs.Fault.{first_fault}
 use Rattle.nm_schema.specs.declared.fault.SchemaFault.{SchemaFault}
 use Rattle.nm_schema.specs.Node.{known_nodes}
 use Rattle.nm_schema.specs.Marker.{changes_node, marker_nodes, HasMarker}

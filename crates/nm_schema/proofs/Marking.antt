@@ -1,7 +1,7 @@
 -- Where the nodes of the marker module may stand.
 use Rattle.std.proofs.Common.{◌≡◌, ℕ, ◌+◌, List, [], ◌∷◌, ◌++◌, length, Some, slice_get, refl, ap, arith, length-append}
-use Rattle.nm_tree.specs.declared.node.Node.{Node}
-use Rattle.nm_tree.specs.Nodes.{may_follow, module_in}
+use Rattle.nm_schema_tree.specs.declared.node.Node.{Node}
+use Rattle.nm_schema_tree.specs.Nodes.{may_follow, module_in}
 use Rattle.nm_schema.specs.Marker.{changes_node, applied_node, change_node}
 
 -- the node that was put last

@@ -3,22 +3,22 @@ use Rattle.std.proofs.Common.{◌≡◌, ◌∙◌, ◌<◌, ◌⊎◌, inl, inr
 use Rattle.std.specs.Prelude.{Contains, is_some, is_none}
 use Rattle.std.specs.Option.{option_map, option_and_then}
 use Rattle.std.specs.Str.{bytes_eq}
-use Rattle.nm_schema_rows.specs.declared.row.Row.{Row}
-use Rattle.nm_schema_rows.specs.declared.word.Word.{Word}
-use Rattle.nm_schema_rows.specs.declared.word.Word.TheVariants as word
-use Rattle.nm_schema_rows.specs.declared.flaw.Flaw.TheVariants as flaw
-use Rattle.nm_schema_rows.specs.declared.fault.Fault.{Fault}
-use Rattle.nm_schema_rows.specs.declared.fault.Fault.TheVariants as fault
-use Rattle.nm_schema_rows.specs.Word.{word_text}
-use Rattle.nm_schema_rows.specs.Text.{is_number_type, is_plain_type, is_left_out_type, is_builtin}
-use Rattle.nm_schema_rows.specs.Flaw.{is_there, lack, lack_fault, text_of, left_out, word_above}
-use Rattle.nm_schema_rows.specs.Rows.{has_word, children, first_below}
-use Rattle.nm_schema_rows.proofs.Words.{same_words, same_itself}
+use Rattle.nm_schema_statements.specs.declared.row.Row.{Row}
+use Rattle.nm_schema_statements.specs.declared.word.Word.{Word}
+use Rattle.nm_schema_statements.specs.declared.word.Word.TheVariants as word
+use Rattle.nm_schema_statements.specs.declared.flaw.Flaw.TheVariants as flaw
+use Rattle.nm_schema_statements.specs.declared.fault.Fault.{Fault}
+use Rattle.nm_schema_statements.specs.declared.fault.Fault.TheVariants as fault
+use Rattle.nm_schema_statements.specs.Word.{word_text}
+use Rattle.nm_schema_statements.specs.Text.{is_number_type, is_plain_type, is_left_out_type, is_builtin}
+use Rattle.nm_schema_statements.specs.Flaw.{is_there, lack, lack_fault, text_of, left_out, word_above}
+use Rattle.nm_schema_statements.specs.Rows.{has_word, children, first_below}
+use Rattle.nm_schema_statements.proofs.Words.{same_words, same_itself}
 use Rattle.nm_graph.specs.Value.{strict, all_there}
 use Rattle.nm_schema_names.specs.Leads.{definition, argument_leads, row_leads, leads_to as names_to}
 use Rattle.nm_schema_names.specs.Flaw.{type_flaw as name_type_flaw, reference_flaw, text_flaw, argument_flaw, row_flaw, name_flaw}
-use Rattle.nm_schema_shape.specs.Config.{LeadsBy}
-use Rattle.nm_schema_shape.specs.Worth.{worth_within}
+use Rattle.nm_schema_uses.specs.Config.{LeadsBy}
+use Rattle.nm_schema_uses.specs.Worth.{worth_within}
 use Rattle.nm_schema_derive.specs.declared.names.BuiltIn.{BuiltIn}
 use Rattle.nm_schema_derive.specs.declared.names.BuiltIn.TheVariants.{Leafref}
 use Rattle.nm_schema_derive.specs.declared.members.Listed.{Listed}
@@ -38,9 +38,9 @@ use Rattle.nm_schema_typing.specs.Along.{within as within_steps, meaning_of}
 use Rattle.nm_schema_typing.specs.Flaws.{to_restrict, base_by, base_of, base_above, flaw_on, kept, after_digits, restricted_by, restriction_in, restriction_flaw, takes_path, takes_path_by, is_built_in_leafref, path_form, form_flaw, path_in, path_below, path_flaw, needs, needs_what, lacking_in, lacking_flaw}
 use Rattle.nm_schema_typing.specs.Listing.{with_listed}
 use Rattle.nm_schema_typing.specs.TypeFlaw.{flaw_by, flaw_in, type_flaw}
-use Rattle.nm_schema_flaws.specs.Facts.{Facts, definitions}
+use Rattle.nm_schema_faults.specs.Facts.{Facts, definitions}
 use Rattle.nm_schema.specs.Faultless.{AreFaultless}
-use Rattle.nm_schema_expansion.proofs.Unfolding.{split}
+use Rattle.nm_schema_nodes.proofs.Unfolding.{split}
 use Rattle.nm_schema.proofs.Elements.{nothing, first_or_later}
 use Rattle.nm_schema.proofs.Faultless.{within}
 use Rattle.nm_schema.proofs.Naming.{grammar_parts}

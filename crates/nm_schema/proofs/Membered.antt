@@ -3,16 +3,16 @@ use Rattle.std.proofs.Common.{◌≡◌, ◌∙◌, ◌<◌, ◌+◌, ℕ, List,
 use Rattle.std.specs.Prelude.{Contains, is_some, not}
 use Rattle.std.specs.Option.{option_and_then}
 use Rattle.std.specs.List.{concat}
-use Rattle.nm_schema_rows.specs.declared.row.Row.{Row}
-use Rattle.nm_schema_rows.specs.Flaw.{is_data}
+use Rattle.nm_schema_statements.specs.declared.row.Row.{Row}
+use Rattle.nm_schema_statements.specs.Flaw.{is_data}
 use Rattle.nm_graph.specs.Value.{strict, all_there}
-use Rattle.nm_schema_shape.specs.Arguments.{argument_at}
-use Rattle.nm_schema_shape.specs.Holding.{is_uses, is_part_row, is_part_at, is_data_row, grouping_at, holding, bringing}
-use Rattle.nm_schema_shape.specs.Config.{LeadsBy, one, further, kept_of, configuring}
-use Rattle.nm_schema_shape.specs.Worth.{worth_within, worth_of}
-use Rattle.nm_schema_shape.specs.Members.{gathered, is_astray, bring, bring_step, brought, members}
-use Rattle.nm_schema_shape.specs.Passing.{plain_of, brought_along, kept_members, plain_members}
-use Rattle.nm_schema_shape.specs.Sizes.{unit_at, total_of, count_step, count_of}
+use Rattle.nm_schema_uses.specs.Arguments.{argument_at}
+use Rattle.nm_schema_uses.specs.Holding.{is_uses, is_part_row, is_part_at, is_data_row, grouping_at, holding, bringing}
+use Rattle.nm_schema_uses.specs.Config.{LeadsBy, one, further, kept_of, configuring}
+use Rattle.nm_schema_uses.specs.Worth.{worth_within, worth_of}
+use Rattle.nm_schema_uses.specs.Members.{gathered, is_astray, bring, bring_step, brought, members}
+use Rattle.nm_schema_uses.specs.Passing.{plain_of, brought_along, kept_members, plain_members}
+use Rattle.nm_schema_uses.specs.Sizes.{unit_at, total_of, count_step, count_of}
 use Rattle.nm_schema.proofs.Faultless.{within}
 use Rattle.nm_schema.proofs.Valued.{all_known, few_distinct, distinct, IsFounded, is_known}
 use Rattle.nm_schema.proofs.Claims.{AreOrderly, of_concat, concat_once, gathered_few}

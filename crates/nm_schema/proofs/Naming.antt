@@ -1,16 +1,16 @@
 -- The names of nodes and modules are identifiers.
 use Rattle.std.proofs.Common.{◌≡◌, ◌∙◌, ℕ, List, [], ◌∷◌, Bool, true, false, cond, ◌&&◌, Option, Some, None, slice_get, refl, sym, ap}
 use Rattle.std.specs.Option.{option_or}
-use Rattle.nm_schema_rows.specs.declared.row.Row.{Row}
-use Rattle.nm_schema_rows.specs.declared.word.Word.{Word}
-use Rattle.nm_schema_rows.specs.declared.word.Word.TheVariants as word
-use Rattle.nm_schema_rows.specs.declared.fault.Fault.{Fault}
-use Rattle.nm_schema_rows.specs.declared.fault.Fault.TheVariants as fault
-use Rattle.nm_schema_rows.specs.Text.{is_identifier, are_names}
-use Rattle.nm_schema_rows.specs.Flaw.{is_data, is_module, is_unsupported, may_stand, word_above, place_fault, times_fault, lack_fault, has_form, form_fault, left_out, text_of, row_fault, flaw_from, flaw_at, grammar_flaw}
-use Rattle.nm_schema_shape.specs.Arguments.{argument_at}
+use Rattle.nm_schema_statements.specs.declared.row.Row.{Row}
+use Rattle.nm_schema_statements.specs.declared.word.Word.{Word}
+use Rattle.nm_schema_statements.specs.declared.word.Word.TheVariants as word
+use Rattle.nm_schema_statements.specs.declared.fault.Fault.{Fault}
+use Rattle.nm_schema_statements.specs.declared.fault.Fault.TheVariants as fault
+use Rattle.nm_schema_statements.specs.Text.{is_identifier, are_names}
+use Rattle.nm_schema_statements.specs.Flaw.{is_data, is_module, is_unsupported, may_stand, word_above, place_fault, times_fault, lack_fault, has_form, form_fault, left_out, text_of, row_fault, flaw_from, flaw_at, grammar_flaw}
+use Rattle.nm_schema_uses.specs.Arguments.{argument_at}
 use Rattle.nm_path.specs.Form as form
-use Rattle.nm_schema_flaws.specs.Facts.{Facts}
+use Rattle.nm_schema_faults.specs.Facts.{Facts}
 use Rattle.nm_schema.specs.Faultless.{IsFaultless}
 use Rattle.nm_schema.proofs.Faultless.{or_none}
 

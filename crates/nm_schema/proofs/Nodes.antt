@@ -5,28 +5,28 @@ use Rattle.std.proofs.lemmas.Bool.{and_parts}
 use Rattle.std.proofs.lemmas.Option.{same_Some}
 use Rattle.nm_types.specs.LeafType.{TypeOfLeaf}
 use Rattle.nm_types.specs.Spells.{IsOnce, HasDistinctNames}
-use Rattle.nm_schema_rows.specs.declared.row.Row.{Row}
-use Rattle.nm_schema_rows.specs.declared.word.Word.{Word}
-use Rattle.nm_schema_rows.specs.declared.word.Word.TheVariants as word
-use Rattle.nm_schema_rows.specs.Flaw.{is_data}
-use Rattle.nm_schema_rows.specs.Rows.{has_word}
+use Rattle.nm_schema_statements.specs.declared.row.Row.{Row}
+use Rattle.nm_schema_statements.specs.declared.word.Word.{Word}
+use Rattle.nm_schema_statements.specs.declared.word.Word.TheVariants as word
+use Rattle.nm_schema_statements.specs.Flaw.{is_data}
+use Rattle.nm_schema_statements.specs.Rows.{has_word}
 use Rattle.nm_graph.specs.Value.{all_there}
-use Rattle.nm_schema_shape.specs.Arguments.{argument_at}
-use Rattle.nm_schema_shape.specs.Holding.{is_holder as is_holder_word, is_uses, holding}
-use Rattle.nm_schema_expansion.specs.declared.instance.Instance.{Instance}
-use Rattle.nm_schema_expansion.specs.Expansion.{kept_below, kept_in, is_grown, module_row, grown_members, is_below, children, tops, row_in, row_of, owner_in, owner_of, IsExpansion}
-use Rattle.nm_schema_expansion.specs.Named.{has_name, is_child_named, child_named}
-use Rattle.nm_schema_expansion.proofs.Unfolding.{split}
-use Rattle.nm_tree.specs.declared.node.Node.{Node}
-use Rattle.nm_tree.specs.declared.node.NodeKind.{NodeKind}
-use Rattle.nm_tree.specs.Nodes.{type_of, keys_of as keys_of_node}
-use Rattle.nm_tree.proofs.Positions.{first_passes}
+use Rattle.nm_schema_uses.specs.Arguments.{argument_at}
+use Rattle.nm_schema_uses.specs.Holding.{is_holder as is_holder_word, is_uses, holding}
+use Rattle.nm_schema_nodes.specs.declared.instance.Instance.{Instance}
+use Rattle.nm_schema_nodes.specs.Expansion.{kept_below, kept_in, is_grown, module_row, grown_members, is_below, children, tops, row_in, row_of, owner_in, owner_of, IsExpansion}
+use Rattle.nm_schema_nodes.specs.Named.{has_name, is_child_named, child_named}
+use Rattle.nm_schema_nodes.proofs.Unfolding.{split}
+use Rattle.nm_schema_tree.specs.declared.node.Node.{Node}
+use Rattle.nm_schema_tree.specs.declared.node.NodeKind.{NodeKind}
+use Rattle.nm_schema_tree.specs.Nodes.{type_of, keys_of as keys_of_node}
+use Rattle.nm_schema_tree.proofs.Positions.{first_passes}
 use Rattle.nm_path.specs.Form as form
 use Rattle.nm_path.specs.Spelling.{name_in, name_at}
 use Rattle.nm_path.specs.Sound.{HaveOneName, is_holder, is_leaf, IsLeafIn, AreKeys, HasKeys, HasLow, HasHeldBounds}
 use Rattle.nm_schema_keys.specs.Keys.{keys_of}
 use Rattle.nm_schema_names.specs.Named.{is_marker}
-use Rattle.nm_schema_flaws.specs.Facts.{Facts, definitions, standing, tree}
+use Rattle.nm_schema_faults.specs.Facts.{Facts, definitions, standing, tree}
 use Rattle.nm_schema.specs.Kind.{kind_of, named_as, nodes_named, keys_in}
 use Rattle.nm_schema.specs.Choices.{module_name, case_of}
 use Rattle.nm_schema.specs.Node.{node_with, node_by, node_in, node_of}

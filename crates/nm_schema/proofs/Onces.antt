@@ -5,7 +5,7 @@ use Rattle.std.specs.Str.{bytes_eq}
 use Rattle.std.proofs.lemmas.List.Elements.{Contains-append_cases}
 use Rattle.std.proofs.lemmas.Slice.Eq.{bytes_eq-Decides}
 use Rattle.nm_types.specs.Spells.{IsOnce}
-use Rattle.nm_schema_clash.specs.Clash.{has_name}
+use Rattle.nm_schema_names.specs.Clash.{has_name}
 use Rattle.nm_schema.proofs.Elements.{here, later, nothing, first_or_later, of_map, in_map, of_filter}
 
 pub once_both : (xs ys : List (List ℕ)) → IsOnce xs → IsOnce ys → ((w : List ℕ) → Contains xs w → Contains ys w → ⊥) → IsOnce (xs ++ ys)

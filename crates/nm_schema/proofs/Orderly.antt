@@ -9,31 +9,31 @@ use Rattle.std.proofs.lemmas.List.FromFn.{get_or-map-range_with_len}
 use Rattle.std.proofs.lemmas.Option.{same_Some}
 use Rattle.nm_yang.specs.Tree.{Tree, Trees, statement, none, more}
 use Rattle.nm_yang.specs.Grammar.{keyword_of}
-use Rattle.nm_schema_rows.specs.declared.row.Row.{Row}
-use Rattle.nm_schema_rows.specs.declared.word.Word.{Word}
-use Rattle.nm_schema_rows.specs.declared.word.Word.TheVariants as word
-use Rattle.nm_schema_rows.specs.declared.flaw.Flaw.{Flaw}
-use Rattle.nm_schema_rows.specs.declared.flaw.Flaw.TheVariants as flaw
-use Rattle.nm_schema_rows.specs.Word.{word_of, word_number}
-use Rattle.nm_schema_rows.specs.Text.{prefix_of, name_of}
-use Rattle.nm_schema_rows.specs.Flaw.{is_module, text_of, form_fault}
-use Rattle.nm_schema_rows.specs.Rows.{is_opened, is_skipped, row_for, rows_from, rows_within, rows_after, rows_of, stands_before, ParentsBefore, same_parent, children}
-use Rattle.nm_schema_rows.proofs.Words.{same_words}
+use Rattle.nm_schema_statements.specs.declared.row.Row.{Row}
+use Rattle.nm_schema_statements.specs.declared.word.Word.{Word}
+use Rattle.nm_schema_statements.specs.declared.word.Word.TheVariants as word
+use Rattle.nm_schema_statements.specs.declared.flaw.Flaw.{Flaw}
+use Rattle.nm_schema_statements.specs.declared.flaw.Flaw.TheVariants as flaw
+use Rattle.nm_schema_statements.specs.Word.{word_of, word_number}
+use Rattle.nm_schema_statements.specs.Text.{prefix_of, name_of}
+use Rattle.nm_schema_statements.specs.Flaw.{is_module, text_of, form_fault}
+use Rattle.nm_schema_statements.specs.Rows.{is_opened, is_skipped, row_for, rows_from, rows_within, rows_after, rows_of, stands_before, ParentsBefore, same_parent, children}
+use Rattle.nm_schema_statements.proofs.Words.{same_words}
 use Rattle.nm_schema_names.specs.declared.key.Reach.TheVariants as reach
 use Rattle.nm_schema_names.specs.Named.{has_key, is_called, first_keyed, named, named_in, is_own, prefix_leads}
 use Rattle.nm_schema_names.specs.Leads.{enclosing, innermost, scoped, definition_by, definition_for, definition, argument_leads, row_leads, leads_to}
 use Rattle.nm_schema_names.specs.Flaw.{text_flaw, argument_flaw, row_flaw, name_flaw}
 use Rattle.nm_schema_names.specs.Graph.{is_part as makes_nodes, is_part_in as named_part_in, is_part_at as named_part_at, parts, listed, word_leading, row_leading, leading}
-use Rattle.nm_tree.proofs.Positions.{first_passes}
+use Rattle.nm_schema_tree.proofs.Positions.{first_passes}
 use Rattle.nm_schema_typing.specs.Listing.{is_at}
 use Rattle.nm_schema_typing.specs.Restricting.{argument_at}
 use Rattle.nm_schema_typing.specs.TypeFlaw.{cycle_flaw}
-use Rattle.nm_schema_shape.specs.Holding.{is_holder, is_part, is_part_row, is_part_at, is_uses, grouping_at, holding, bringing}
-use Rattle.nm_schema_shape.specs.Config.{LeadsBy, one, further}
-use Rattle.nm_schema_clash.specs.Clash.{names_from, around_in, around, holder_of, is_taken, claimed, clash_in, clash_by, case_clash, duplicate, clash_flaw}
+use Rattle.nm_schema_uses.specs.Holding.{is_holder, is_part, is_part_row, is_part_at, is_uses, grouping_at, holding, bringing}
+use Rattle.nm_schema_uses.specs.Config.{LeadsBy, one, further}
+use Rattle.nm_schema_names.specs.Clash.{names_from, around_in, around, holder_of, is_taken, claimed, clash_in, clash_by, case_clash, duplicate, clash_flaw}
 use Rattle.nm_schema_leafref.proofs.Faults.{leads_nowhere}
-use Rattle.nm_schema_flaws.specs.Facts.{Facts, definitions, IsLeastCycle, IsAcyclic, IsCycle}
-use Rattle.nm_schema_flaws.proofs.Cycling.{leading_past}
+use Rattle.nm_schema_faults.specs.Facts.{Facts, definitions, IsLeastCycle, IsAcyclic, IsCycle}
+use Rattle.nm_schema_faults.proofs.Cycling.{leading_past}
 use Rattle.nm_schema.proofs.Elements.{here}
 use Rattle.nm_schema.specs.Faultless.{AreFaultless}
 use Rattle.nm_schema.proofs.Faultless.{or_none, within}

@@ -4,13 +4,13 @@ use Rattle.std.specs.Prelude.{nat_lt}
 use Rattle.std.proofs.lemmas.Bool.Decides.{nat_tests}
 use Rattle.std.proofs.lemmas.List.{length-map, length-take, get_or-take, get_or-drop, map-append, append_assoc, take_more, take_all}
 use Rattle.std.proofs.lemmas.Option.{slice_get-get_or}
-use Rattle.nm_schema_rows.specs.declared.row.Row.{Row}
-use Rattle.nm_tree.specs.declared.choice.ChoiceNode.{ChoiceNode}
-use Rattle.nm_tree.specs.declared.choice.CaseNode.{CaseNode}
-use Rattle.nm_tree.specs.Nodes.{SchemaTree, with_choice}
-use Rattle.nm_schema_choice.specs.declared.fork.Fork.{Fork}
-use Rattle.nm_schema_choice.specs.declared.fork.Branch.{Branch}
-use Rattle.nm_schema_choice.specs.Forks.{Forking, IsWalked, IsRoom, shifted, case_in_of, choice_of}
+use Rattle.nm_schema_statements.specs.declared.row.Row.{Row}
+use Rattle.nm_schema_tree.specs.declared.choice.ChoiceNode.{ChoiceNode}
+use Rattle.nm_schema_tree.specs.declared.choice.CaseNode.{CaseNode}
+use Rattle.nm_schema_tree.specs.Nodes.{SchemaTree, with_choice}
+use Rattle.nm_schema_nodes.specs.declared.fork.Fork.{Fork}
+use Rattle.nm_schema_nodes.specs.declared.fork.Branch.{Branch}
+use Rattle.nm_schema_nodes.specs.Forks.{Forking, IsWalked, IsRoom, shifted, case_in_of, choice_of}
 use Rattle.nm_schema.specs.Choices.{Place, choice_node, case_node, with_cases, with_place, until, AreOfChoices, AreRoom}
 
 -- a tree has so many choices of a place more, and so many of their cases

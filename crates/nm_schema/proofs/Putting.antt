@@ -5,17 +5,17 @@ use Rattle.std.proofs.lemmas.Bool.Decides.{nat_tests}
 use Rattle.std.proofs.lemmas.List.FromFn.{map-range_with_len_more}
 use Rattle.std.proofs.lemmas.List.{map-id}
 use Rattle.std.proofs.lemmas.List.Elements.{filter_map-append}
-use Rattle.nm_schema_rows.specs.declared.row.Row.{Row}
-use Rattle.nm_tree.specs.declared.node.Node.{Node}
-use Rattle.nm_tree.specs.declared.node.NodeKind.{NodeKind}
-use Rattle.nm_tree.specs.Nodes.{may_follow, module_in}
-use Rattle.nm_schema_expansion.specs.declared.instance.Instance.{Instance}
-use Rattle.nm_schema_shape.specs.Arguments.{argument_at}
+use Rattle.nm_schema_statements.specs.declared.row.Row.{Row}
+use Rattle.nm_schema_tree.specs.declared.node.Node.{Node}
+use Rattle.nm_schema_tree.specs.declared.node.NodeKind.{NodeKind}
+use Rattle.nm_schema_tree.specs.Nodes.{may_follow, module_in}
+use Rattle.nm_schema_nodes.specs.declared.instance.Instance.{Instance}
+use Rattle.nm_schema_uses.specs.Arguments.{argument_at}
 use Rattle.std.proofs.lemmas.Option.{slice_get-get_or}
-use Rattle.nm_schema_expansion.specs.Expansion.{IsExpansion, owner_of, owner_in}
+use Rattle.nm_schema_nodes.specs.Expansion.{IsExpansion, owner_of, owner_in}
 use Rattle.nm_schema.specs.Kind.{kind_of}
-use Rattle.nm_schema_expansion.proofs.Places.{slice_get-left}
-use Rattle.nm_schema_flaws.specs.Facts.{Facts, definitions}
+use Rattle.nm_schema_nodes.proofs.Places.{slice_get-left}
+use Rattle.nm_schema_faults.specs.Facts.{Facts, definitions}
 use Rattle.nm_schema.specs.Choices.{module_name, case_of}
 use Rattle.nm_schema.specs.Node.{AreNodes, node_of, node_in, node_by, node_with, known_nodes}
 

@@ -4,7 +4,7 @@ use Rattle.std.specs.Prelude.{Contains, eqb}
 use Rattle.std.specs.List.{list_any, IsDistinct}
 use Rattle.std.proofs.lemmas.Bool.Decides.{nat_tests}
 use Rattle.std.proofs.lemmas.Grind.{common_steps}
-use Rattle.nm_schema_shape.specs.Config.{LeadsBy, one, further, ReachesBy}
+use Rattle.nm_schema_uses.specs.Config.{LeadsBy, one, further, ReachesBy}
 use Rattle.nm_schema.specs.FactsOf.{leads_within, reaches_within}
 use Rattle.nm_schema.proofs.Elements.{here, later, nothing, first_or_later}
 use Rattle.nm_schema.proofs.Valued.{all_apart, any_in, few_distinct}

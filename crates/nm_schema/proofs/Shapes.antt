@@ -1,19 +1,19 @@
 -- What nodes are, by the words of their rows.
 use Rattle.std.proofs.Common.{◌≡◌, ℕ, List, Bool, true, false, cond, Option, Some, None, refl}
 use Rattle.std.specs.Prelude.{is_some}
-use Rattle.nm_schema_rows.specs.declared.row.Row.{Row}
-use Rattle.nm_schema_rows.specs.declared.word.Word.{Word}
-use Rattle.nm_schema_rows.specs.declared.word.Word.TheVariants as word
-use Rattle.nm_schema_rows.specs.Rows.{first_below}
+use Rattle.nm_schema_statements.specs.declared.row.Row.{Row}
+use Rattle.nm_schema_statements.specs.declared.word.Word.{Word}
+use Rattle.nm_schema_statements.specs.declared.word.Word.TheVariants as word
+use Rattle.nm_schema_statements.specs.Rows.{first_below}
 use Rattle.nm_types.specs.declared.value.Value.{Value}
 use Rattle.nm_types.specs.LeafType.{TypeOfLeaf}
-use Rattle.nm_tree.specs.declared.node.Elements.{Elements}
-use Rattle.nm_tree.specs.declared.node.NodeKind.{NodeKind}
-use Rattle.nm_tree.specs.declared.node.NodeKind.TheVariants as kind
-use Rattle.nm_tree.specs.declared.node.Reference.{Reference}
-use Rattle.nm_schema_expansion.specs.declared.instance.Instance.{Instance}
+use Rattle.nm_schema_tree.specs.declared.node.Elements.{Elements}
+use Rattle.nm_schema_tree.specs.declared.node.NodeKind.{NodeKind}
+use Rattle.nm_schema_tree.specs.declared.node.NodeKind.TheVariants as kind
+use Rattle.nm_schema_tree.specs.declared.node.Reference.{Reference}
+use Rattle.nm_schema_nodes.specs.declared.instance.Instance.{Instance}
 use Rattle.nm_schema_leafref.specs.Target.{type_of_node}
-use Rattle.nm_schema_flaws.specs.Facts.{Facts, definitions, tree}
+use Rattle.nm_schema_faults.specs.Facts.{Facts, definitions, tree}
 use Rattle.nm_schema.specs.Kind.{kind_of, container_of, is_filled, leaf_of, leaf_typed, leaf_with, default_in, is_mandatory, reference_of, leaf_list_of, leaf_list_with, elements_of, list_of, list_with, keys_in, groups_in}
 
 -- the word of a row, and what its node is

@@ -3,22 +3,22 @@ use Rattle.std.proofs.Common.{◌≡◌, ◌∙◌, ◌⊎◌, inl, inr, ℕ, ze
 use Rattle.std.specs.Prelude.{Contains, option_to_list, unwrap_or, nat_le}
 use Rattle.std.specs.List.{concat}
 use Rattle.std.proofs.lemmas.Option.{same_Some}
-use Rattle.nm_schema_rows.specs.declared.row.Row.{Row}
-use Rattle.nm_schema_rows.specs.declared.word.Word.{Word}
-use Rattle.nm_schema_rows.specs.declared.word.Word.TheVariants as word
-use Rattle.nm_schema_rows.specs.Flaw.{is_data}
-use Rattle.nm_schema_rows.specs.Rows.{children}
+use Rattle.nm_schema_statements.specs.declared.row.Row.{Row}
+use Rattle.nm_schema_statements.specs.declared.word.Word.{Word}
+use Rattle.nm_schema_statements.specs.declared.word.Word.TheVariants as word
+use Rattle.nm_schema_statements.specs.Flaw.{is_data}
+use Rattle.nm_schema_statements.specs.Rows.{children}
 use Rattle.nm_graph.specs.Value.{strict, all_there}
 use Rattle.nm_types.specs.Spells.{IsOnce}
-use Rattle.nm_schema_shape.specs.Arguments.{argument_at}
-use Rattle.nm_schema_shape.specs.Holding.{is_holder, is_part_at, is_fork, is_fork_row, is_fork_at, is_node, is_uses, grouping_at, led_to, holding, is_data_row, is_data_at, bringing}
-use Rattle.nm_schema_shape.specs.Config.{is_kept, kept_of, configuring}
-use Rattle.nm_schema_shape.specs.Worth.{worth_within, worth_of}
-use Rattle.nm_schema_shape.specs.Members.{gathered, is_astray, bring, bring_step, brought, members}
-use Rattle.nm_schema_shape.specs.Passing.{is_plain, plain_of, brought_along, kept_members, plain_members}
-use Rattle.nm_schema_clash.specs.Clash.{around, holder_of}
-use Rattle.nm_schema_expansion.specs.Expansion.{kept_below}
-use Rattle.nm_schema_expansion.proofs.Unfolding.{unfold_one}
+use Rattle.nm_schema_uses.specs.Arguments.{argument_at}
+use Rattle.nm_schema_uses.specs.Holding.{is_holder, is_part_at, is_fork, is_fork_row, is_fork_at, is_node, is_uses, grouping_at, led_to, holding, is_data_row, is_data_at, bringing}
+use Rattle.nm_schema_uses.specs.Config.{is_kept, kept_of, configuring}
+use Rattle.nm_schema_uses.specs.Worth.{worth_within, worth_of}
+use Rattle.nm_schema_uses.specs.Members.{gathered, is_astray, bring, bring_step, brought, members}
+use Rattle.nm_schema_uses.specs.Passing.{is_plain, plain_of, brought_along, kept_members, plain_members}
+use Rattle.nm_schema_names.specs.Clash.{around, holder_of}
+use Rattle.nm_schema_nodes.specs.Expansion.{kept_below}
+use Rattle.nm_schema_nodes.proofs.Unfolding.{unfold_one}
 use Rattle.nm_schema.proofs.Elements.{nothing, first_or_later, of_filter}
 use Rattle.nm_schema.proofs.Holders.{Ascend, ascend_filter, ascend_those, stands_in, held_inner, held_directly, held, fork_part, Under, under_up, under_one, itself}
 use Rattle.nm_schema.proofs.Claims.{AreOrderly, IsClaimer, part_claimer, AreSeparate, separate, of_concat, concat_once, few, of_option, Claims, claims_up, claims_own, rests_on_held, rests_on_used, one_claims, uses_word}

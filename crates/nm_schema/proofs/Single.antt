@@ -1,10 +1,10 @@
 -- What modules give is one.
 use Rattle.std.proofs.Common.{◌≡◌, List, Result, ap, sym, ◌∙◌}
 use Rattle.nm_yang.specs.Tree.{Tree}
-use Rattle.nm_schema_rows.specs.Rows.{rows_of}
-use Rattle.nm_tree.specs.Nodes.{SchemaTree}
-use Rattle.nm_schema_flaws.specs.declared.fault.Fault.{Fault}
-use Rattle.nm_schema_flaws.proofs.Single.{one_truth}
+use Rattle.nm_schema_statements.specs.Rows.{rows_of}
+use Rattle.nm_schema_tree.specs.Nodes.{SchemaTree}
+use Rattle.nm_schema_faults.specs.declared.fault.Fault.{Fault}
+use Rattle.nm_schema_faults.proofs.Single.{one_truth}
 use Rattle.nm_schema.specs.Built.{Builds, built}
 
 pub one_given : (modules : List Tree) (given other : Result SchemaTree Fault) → Builds modules given → Builds modules other → given ≡ other

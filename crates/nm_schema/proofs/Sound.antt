@@ -7,20 +7,20 @@ use Rattle.std.proofs.lemmas.Option.{same_Some}
 use Rattle.nm_yang.specs.Tree.{Tree}
 use Rattle.nm_types.specs.LeafType.{TypeOfLeaf}
 use Rattle.nm_types.specs.Spells.{IsOnce, HasDistinctNames}
-use Rattle.nm_schema_rows.specs.declared.row.Row.{Row}
-use Rattle.nm_schema_rows.specs.Rows.{rows_of}
+use Rattle.nm_schema_statements.specs.declared.row.Row.{Row}
+use Rattle.nm_schema_statements.specs.Rows.{rows_of}
 use Rattle.nm_schema_names.specs.Named.{is_marker}
-use Rattle.nm_tree.specs.declared.node.Node.{Node}
-use Rattle.nm_tree.specs.Nodes.{SchemaTree, module_in, module_at, type_of, type_in, keys_of}
-use Rattle.nm_schema_expansion.specs.Expansion.{IsExpansion}
-use Rattle.nm_schema_expansion.proofs.Places.{slice_get-left}
+use Rattle.nm_schema_tree.specs.declared.node.Node.{Node}
+use Rattle.nm_schema_tree.specs.Nodes.{SchemaTree, module_in, module_at, type_of, type_in, keys_of}
+use Rattle.nm_schema_nodes.specs.Expansion.{IsExpansion}
+use Rattle.nm_schema_nodes.proofs.Places.{slice_get-left}
 use Rattle.nm_path.specs.Form as form
 use Rattle.nm_path.specs.Spelling.{name_at}
 use Rattle.nm_path.specs.Written.{IsWellNamed}
 use Rattle.nm_path.specs.Sound.{HaveOneName, IsHolder, IsLeafIn, AreKeys, HasKeys, HasLow, HasHeldBounds, IsSound}
-use Rattle.nm_schema_flaws.specs.declared.fault.Fault.{Fault}
-use Rattle.nm_schema_flaws.specs.Facts.{Facts, AreFacts, definitions}
-use Rattle.nm_schema_flaws.specs.Fault.{first_fault}
+use Rattle.nm_schema_faults.specs.declared.fault.Fault.{Fault}
+use Rattle.nm_schema_faults.specs.Facts.{Facts, AreFacts, definitions}
+use Rattle.nm_schema_faults.specs.Fault.{first_fault}
 use Rattle.nm_schema.specs.declared.fault.SchemaFault.{SchemaFault}
 use Rattle.nm_schema.specs.Node.{node_of, known_nodes, AreNodes}
 use Rattle.nm_base.specs.Words.{marker_name}

@@ -2,21 +2,21 @@
 use Rattle.std.proofs.Common.{◌≡◌, ◌∙◌, ◌<◌, ℕ, List, length, true, Option, Some, None, slice_get, refl, sym, ap}
 use Rattle.std.specs.Prelude.{is_some}
 use Rattle.std.proofs.lemmas.Option.{same_Some}
-use Rattle.nm_schema_rows.specs.declared.row.Row.{Row}
-use Rattle.nm_schema_rows.specs.declared.word.Word.{Word}
+use Rattle.nm_schema_statements.specs.declared.row.Row.{Row}
+use Rattle.nm_schema_statements.specs.declared.word.Word.{Word}
 use Rattle.nm_types.specs.LeafType.{TypeOfLeaf}
-use Rattle.nm_schema_expansion.specs.declared.instance.Instance.{Instance}
-use Rattle.nm_schema_expansion.specs.Expansion.{row_in, row_of, IsExpansion}
-use Rattle.nm_tree.specs.declared.node.Node.{Node}
-use Rattle.nm_tree.specs.declared.node.NodeKind.{NodeKind}
-use Rattle.nm_tree.specs.declared.node.Reference.{Reference}
-use Rattle.nm_tree.specs.Nodes.{parent_of as above_of, parent_in, type_of, type_in, reference_of as reference_of_node}
+use Rattle.nm_schema_nodes.specs.declared.instance.Instance.{Instance}
+use Rattle.nm_schema_nodes.specs.Expansion.{row_in, row_of, IsExpansion}
+use Rattle.nm_schema_tree.specs.declared.node.Node.{Node}
+use Rattle.nm_schema_tree.specs.declared.node.NodeKind.{NodeKind}
+use Rattle.nm_schema_tree.specs.declared.node.Reference.{Reference}
+use Rattle.nm_schema_tree.specs.Nodes.{parent_of as above_of, parent_in, type_of, type_in, reference_of as reference_of_node}
 use Rattle.nm_schema_leafref.specs.declared.led.Led.{Led}
 use Rattle.nm_schema_leafref.specs.declared.led.Led.TheVariants as led
 use Rattle.nm_schema_leafref.specs.Place.{is_leaf, is_leaf_in, is_leaf_at, is_leaf_node}
 use Rattle.nm_schema_leafref.specs.Walk.{led_to}
 use Rattle.nm_schema_leafref.specs.Target.{type_of_node, up_of}
-use Rattle.nm_schema_flaws.specs.Facts.{Facts, definitions, tree}
+use Rattle.nm_schema_faults.specs.Facts.{Facts, definitions, tree}
 use Rattle.nm_schema.specs.Kind.{referred, reference_of}
 use Rattle.nm_schema.specs.Node.{node_of}
 use Rattle.nm_schema.specs.Whole.{risen, IsLed}

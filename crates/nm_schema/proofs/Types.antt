@@ -8,9 +8,9 @@ use Rattle.std.proofs.lemmas.Int.{ints}
 use Rattle.std.proofs.lemmas.List.{map-append}
 use Rattle.nm_types.specs.LeafType.{Kind, integer, decimal, boolean, string, enumeration, bits, empty, TypeOfLeaf}
 use Rattle.nm_types.specs.Spells.{IsOnce, HasDistinctNames}
-use Rattle.nm_schema_rows.specs.declared.row.Row.{Row}
-use Rattle.nm_schema_rows.specs.declared.word.Word.TheVariants as word
-use Rattle.nm_schema_rows.specs.Rows.{first_below}
+use Rattle.nm_schema_statements.specs.declared.row.Row.{Row}
+use Rattle.nm_schema_statements.specs.declared.word.Word.TheVariants as word
+use Rattle.nm_schema_statements.specs.Rows.{first_below}
 use Rattle.nm_graph.specs.Value.{strict, all_there}
 use Rattle.nm_schema_derive.specs.declared.names.BuiltIn.{BuiltIn}
 use Rattle.nm_schema_derive.specs.declared.members.Listed.{Listed}
@@ -35,9 +35,9 @@ use Rattle.nm_schema_typing.specs.TypeGraph.{leads, is_typed, is_type}
 use Rattle.nm_schema_typing.specs.Meaning.{Meaning, plain, reference, then_bits, then_names, then_length, then_range, restricted, is_unrestricted, whole, restricted_at, is_path, leads_to, leafref_at, kept_at, narrowed_at, is_leafref, bare, built_in_at, built_in_named, named_built_in, type_meaning, meaning_from, meaning_at, first_known, meaning_step}
 use Rattle.nm_schema_typing.specs.Restricting.{argument_at}
 use Rattle.nm_schema_typing.specs.Along.{within, meaning_of}
-use Rattle.nm_schema_shape.specs.Worth.{worth_within, worth_of}
-use Rattle.nm_schema_expansion.specs.Expansion.{Expanded, row_of}
-use Rattle.nm_schema_expansion.proofs.Unfolding.{split, unfold_one}
+use Rattle.nm_schema_uses.specs.Worth.{worth_within, worth_of}
+use Rattle.nm_schema_nodes.specs.Expansion.{Expanded, row_of}
+use Rattle.nm_schema_nodes.proofs.Unfolding.{split, unfold_one}
 use Rattle.nm_schema_leafref.specs.Target.{targets, plain_in, plain_type, plain_at, type_step, type_of_node}
 use Rattle.nm_path.specs.Sound.{HasLow, HasHeldBounds}
 use Rattle.nm_schema.proofs.Elements.{first_or_later, nothing}

@@ -5,13 +5,13 @@ use Rattle.std.specs.List.{find, slice_split}
 use Rattle.std.proofs.lemmas.Bool.{and_parts}
 use Rattle.std.proofs.lemmas.Option.{same_Some}
 use Rattle.std.proofs.lemmas.List.Splits.{length-slice_split}
-use Rattle.nm_schema_rows.specs.declared.row.Row.{Row}
-use Rattle.nm_schema_rows.specs.declared.word.Word.{Word}
-use Rattle.nm_schema_rows.specs.declared.word.Word.TheVariants as word
-use Rattle.nm_schema_rows.specs.Rows.{has_word, children}
+use Rattle.nm_schema_statements.specs.declared.row.Row.{Row}
+use Rattle.nm_schema_statements.specs.declared.word.Word.{Word}
+use Rattle.nm_schema_statements.specs.declared.word.Word.TheVariants as word
+use Rattle.nm_schema_statements.specs.Rows.{has_word, children}
 use Rattle.nm_graph.specs.Value.{all_there}
-use Rattle.nm_schema_shape.specs.Members.{members}
-use Rattle.nm_schema_shape.specs.Passing.{kept_members}
+use Rattle.nm_schema_uses.specs.Members.{members}
+use Rattle.nm_schema_uses.specs.Passing.{kept_members}
 use Rattle.nm_schema_keys.specs.declared.found.Found.{Found}
 use Rattle.nm_schema_keys.specs.declared.found.Found.TheVariants as found
 use Rattle.nm_schema_keys.specs.declared.passage.Passage.{Passage}
@@ -21,12 +21,12 @@ use Rattle.nm_schema_keys.specs.Words.{words_of, pieces_of, own_name}
 use Rattle.nm_schema_keys.specs.Found.{is_called, row_or_missing, found_among, agreed, seen_among, is_fit, fitting, member_called, fit_member}
 use Rattle.nm_schema_keys.specs.Said.{Said, said_at}
 use Rattle.nm_schema_keys.specs.Uniques.{word_before, next_row, behind, passage_from, passage_along, passage_of, way_through, way_of, unique_words_ways, said_unique, unique_at, is_unique, uniques_of}
-use Rattle.nm_schema_expansion.specs.declared.instance.Instance.{Instance}
-use Rattle.nm_schema_expansion.specs.Expansion.{IsExpansion}
-use Rattle.nm_tree.specs.declared.node.Node.{Node}
-use Rattle.nm_tree.specs.declared.node.NodeKind.{NodeKind}
-use Rattle.nm_tree.specs.Nodes.{uniques_of as uniques_of_node}
-use Rattle.nm_schema_flaws.specs.Facts.{Facts, definitions, standing}
+use Rattle.nm_schema_nodes.specs.declared.instance.Instance.{Instance}
+use Rattle.nm_schema_nodes.specs.Expansion.{IsExpansion}
+use Rattle.nm_schema_tree.specs.declared.node.Node.{Node}
+use Rattle.nm_schema_tree.specs.declared.node.NodeKind.{NodeKind}
+use Rattle.nm_schema_tree.specs.Nodes.{uniques_of as uniques_of_node}
+use Rattle.nm_schema_faults.specs.Facts.{Facts, definitions, standing}
 use Rattle.nm_schema.specs.Kind.{named_as, further, reached, group_in, groups_of, groups_in}
 use Rattle.nm_schema.specs.Node.{node_of}
 use Rattle.nm_schema.specs.Whole.{is_container, IsThrough, directly, within, IsLeafBelow}

@@ -7,9 +7,9 @@ use Rattle.std.proofs.lemmas.Bool.Decides.{nat_tests}
 use Rattle.std.proofs.lemmas.Map.Steps.{length-le_from_distinct_below}
 use Rattle.nm_graph.specs.Value.{strict, all_there}
 use Rattle.nm_types.specs.Spells.{IsOnce}
-use Rattle.nm_schema_shape.specs.Config.{LeadsBy, one, further}
-use Rattle.nm_schema_shape.specs.Worth.{worth_within}
-use Rattle.nm_schema_expansion.proofs.Unfolding.{unfold_within}
+use Rattle.nm_schema_uses.specs.Config.{LeadsBy, one, further}
+use Rattle.nm_schema_uses.specs.Worth.{worth_within}
+use Rattle.nm_schema_nodes.proofs.Unfolding.{unfold_within}
 use Rattle.nm_schema.proofs.Elements.{here, later, nothing, first_or_later, in_map}
 
 -- ---- numbers that come once

@@ -3,19 +3,19 @@ use Rattle.std.proofs.Common.{◌≡◌, ◌∙◌, ◌<◌, inl, inr, ℕ, zero
 use Rattle.std.specs.Prelude.{Contains}
 use Rattle.std.specs.Option.{option_and_then}
 use Rattle.std.proofs.lemmas.List.Elements.{All-nil, All-cons}
-use Rattle.nm_schema_rows.specs.declared.row.Row.{Row}
-use Rattle.nm_schema_rows.specs.declared.word.Word.TheVariants as word
-use Rattle.nm_schema_rows.specs.Word.{same_word}
-use Rattle.nm_schema_rows.specs.Flaw.{is_data}
+use Rattle.nm_schema_statements.specs.declared.row.Row.{Row}
+use Rattle.nm_schema_statements.specs.declared.word.Word.TheVariants as word
+use Rattle.nm_schema_statements.specs.Word.{same_word}
+use Rattle.nm_schema_statements.specs.Flaw.{is_data}
 use Rattle.nm_graph.specs.Value.{strict, all_there}
-use Rattle.nm_schema_shape.specs.Holding.{bringing}
-use Rattle.nm_schema_shape.specs.Config.{kept_of, configuring}
-use Rattle.nm_schema_shape.specs.Members.{is_astray}
-use Rattle.nm_schema_shape.specs.Worth.{worth_within, worth_of}
-use Rattle.nm_schema_expansion.proofs.Unfolding.{split, unfold_one}
-use Rattle.nm_schema_choice.specs.Forks.{Forking, no_forks, lone_node, joined, with_case, with_cases, choice_alone, choice_with, is_within, limited, all_joined, case_in_of, inner_fork, IsWalked}
-use Rattle.nm_schema_choice.specs.Choices.{fork_in, fork_step, forked, forks_of}
-use Rattle.nm_schema_choice.proofs.Walks.{joined-walked, case-walked}
+use Rattle.nm_schema_uses.specs.Holding.{bringing}
+use Rattle.nm_schema_uses.specs.Config.{kept_of, configuring}
+use Rattle.nm_schema_uses.specs.Members.{is_astray}
+use Rattle.nm_schema_uses.specs.Worth.{worth_within, worth_of}
+use Rattle.nm_schema_nodes.proofs.Unfolding.{split, unfold_one}
+use Rattle.nm_schema_nodes.specs.Forks.{Forking, no_forks, lone_node, joined, with_case, with_cases, choice_alone, choice_with, is_within, limited, all_joined, case_in_of, inner_fork, IsWalked}
+use Rattle.nm_schema_nodes.specs.Choices.{fork_in, fork_step, forked, forks_of}
+use Rattle.nm_schema_nodes.proofs.Walks.{joined-walked, case-walked}
 use Rattle.nm_schema.proofs.Elements.{here, later, nothing, first_or_later}
 
 -- ---- some of them

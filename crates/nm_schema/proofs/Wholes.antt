@@ -2,16 +2,16 @@
 use Rattle.std.proofs.Common.{◌≡◌, ◌<◌, ℕ, List, ◌++◌, length, true, Option, Some, None, Result, Ok, Err, IfOk, slice_get, refl, sym, subst}
 use Rattle.std.specs.Prelude.{Contains, is_some}
 use Rattle.nm_yang.specs.Tree.{Tree}
-use Rattle.nm_schema_rows.specs.declared.row.Row.{Row}
-use Rattle.nm_schema_rows.specs.Rows.{rows_of}
-use Rattle.nm_schema_expansion.specs.Expansion.{IsExpansion}
+use Rattle.nm_schema_statements.specs.declared.row.Row.{Row}
+use Rattle.nm_schema_statements.specs.Rows.{rows_of}
+use Rattle.nm_schema_nodes.specs.Expansion.{IsExpansion}
 use Rattle.nm_types.specs.declared.value.Value.{Value}
-use Rattle.nm_tree.specs.declared.node.Node.{Node}
-use Rattle.nm_tree.specs.declared.node.Reference.{Reference}
-use Rattle.nm_tree.specs.Nodes.{SchemaTree, reference_of, reference_in, uniques_of, uniques_in, default_of, default_in, is_key}
-use Rattle.nm_schema_flaws.specs.declared.fault.Fault.{Fault}
-use Rattle.nm_schema_flaws.specs.Facts.{Facts, AreFacts, definitions}
-use Rattle.nm_schema_flaws.specs.Fault.{first_fault}
+use Rattle.nm_schema_tree.specs.declared.node.Node.{Node}
+use Rattle.nm_schema_tree.specs.declared.node.Reference.{Reference}
+use Rattle.nm_schema_tree.specs.Nodes.{SchemaTree, reference_of, reference_in, uniques_of, uniques_in, default_of, default_in, is_key}
+use Rattle.nm_schema_faults.specs.declared.fault.Fault.{Fault}
+use Rattle.nm_schema_faults.specs.Facts.{Facts, AreFacts, definitions}
+use Rattle.nm_schema_faults.specs.Fault.{first_fault}
 use Rattle.nm_schema.specs.declared.fault.SchemaFault.{SchemaFault}
 use Rattle.nm_schema.specs.Node.{node_of, known_nodes}
 use Rattle.nm_schema.specs.Marker.{changes_node, applied_node, change_node, marker_nodes}

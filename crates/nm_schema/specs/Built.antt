@@ -1,13 +1,13 @@
 -- The schema tree of modules.
 use Rattle.std.specs.Prelude.{◌≡◌, List, ◌++◌, length, Option, Some, None, Result, Ok, Err}
 use Rattle.nm_yang.specs.Tree.{Tree}
-use Rattle.nm_schema_rows.specs.declared.row.Row.{Row}
-use Rattle.nm_schema_rows.specs.Rows.{rows_of}
-use Rattle.nm_tree.specs.Nodes.{SchemaTree}
-use Rattle.nm_schema_flaws.specs.declared.fault.Fault.{Fault}
-use Rattle.nm_schema_flaws.specs.declared.fault.Fault.TheVariants as fault
-use Rattle.nm_schema_flaws.specs.Facts.{Facts, AreFacts}
-use Rattle.nm_schema_flaws.specs.Fault.{first_fault}
+use Rattle.nm_schema_statements.specs.declared.row.Row.{Row}
+use Rattle.nm_schema_statements.specs.Rows.{rows_of}
+use Rattle.nm_schema_tree.specs.Nodes.{SchemaTree}
+use Rattle.nm_schema_faults.specs.declared.fault.Fault.{Fault}
+use Rattle.nm_schema_faults.specs.declared.fault.Fault.TheVariants as fault
+use Rattle.nm_schema_faults.specs.Facts.{Facts, AreFacts}
+use Rattle.nm_schema_faults.specs.Fault.{first_fault}
 use Rattle.nm_schema.specs.declared.fault.SchemaFault.{SchemaFault}
 use Rattle.nm_schema.specs.declared.fault.SchemaFault.TheVariants as schema
 use Rattle.nm_schema.specs.FactsOf.{facts_in}
@@ -20,8 +20,14 @@ use Rattle.nm_schema.specs.Marker.{marker_nodes}
 -- the nodes of the given modules with their choices and cases, and the nodes of the marker module after them
 abbrev pub tree_of : List Row → Facts → SchemaTree
 tree_of rows facts =
-    record { modules = module_names rows; nodes = known_nodes rows facts ++ marker_nodes (length (known_nodes rows facts)); choices = tree_choices rows facts; cases = tree_cases rows facts }
+    record {
+      modules = module_names rows;
+      nodes = known_nodes rows facts ++ marker_nodes (length (known_nodes rows facts));
+      choices = tree_choices rows facts;
+      cases = tree_cases rows facts;
+    }
 
+-- the schema tree of modules without a fault, or the fault
 abbrev pub outcome : List Row → Facts → Option Fault → Result SchemaTree Fault
 outcome rows facts (Some f) = Err f
 outcome rows facts None = Ok (tree_of rows facts)

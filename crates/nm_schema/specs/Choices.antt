@@ -1,23 +1,23 @@
 -- The choices of a schema tree and their cases, and the case of each node (RFC 7950 sections 7.9, 7.13 and 7.21.1).
 use Rattle.std.specs.Prelude.{◌≡◌, ℕ, ◌+◌, ◌<◌, ◌≤◌, List, [], ◌∷◌, ◌++◌, length, map, take, ◌==◌, Option, Some, None, All, nat_lt, if◌then◌else◌, unwrap_or, slice_set, get_or, slice_get, slice_index_or}
 use Rattle.std.specs.List.{position_from, range_with_len}
-use Rattle.nm_schema_rows.specs.declared.row.Row.{Row}
-use Rattle.nm_schema_rows.specs.declared.word.Word.TheVariants as word
-use Rattle.nm_schema_rows.specs.Rows.{roots}
-use Rattle.nm_schema_shape.specs.Arguments.{argument_at}
-use Rattle.nm_schema_shape.specs.Sizes.{total_of}
-use Rattle.nm_tree.specs.declared.choice.ChoiceNode.{ChoiceNode}
-use Rattle.nm_tree.specs.declared.choice.CaseNode.{CaseNode}
-use Rattle.nm_tree.specs.Nodes.{SchemaTree}
+use Rattle.nm_schema_statements.specs.declared.row.Row.{Row}
+use Rattle.nm_schema_statements.specs.declared.word.Word.TheVariants as word
+use Rattle.nm_schema_statements.specs.Rows.{roots}
+use Rattle.nm_schema_uses.specs.Arguments.{argument_at}
+use Rattle.nm_schema_uses.specs.Sizes.{total_of}
+use Rattle.nm_schema_tree.specs.declared.choice.ChoiceNode.{ChoiceNode}
+use Rattle.nm_schema_tree.specs.declared.choice.CaseNode.{CaseNode}
+use Rattle.nm_schema_tree.specs.Nodes.{SchemaTree}
 use Rattle.nm_schema_typing.specs.Restricting.{argument_below}
-use Rattle.nm_schema_expansion.specs.declared.instance.Instance.{Instance}
-use Rattle.nm_schema_expansion.specs.Expansion.{children, tops}
-use Rattle.nm_schema_choice.specs.declared.fork.Fork.{Fork}
-use Rattle.nm_schema_choice.specs.declared.fork.Branch.{Branch}
-use Rattle.nm_schema_choice.specs.Forks.{Forking, no_forks, shifted, IsRoom}
-use Rattle.nm_schema_choice.specs.Choices.{forks_of}
-use Rattle.nm_schema_flaws.specs.Facts.{Facts, definitions}
-use Rattle.nm_schema_flaws.specs.Grounded.{Grounded}
+use Rattle.nm_schema_nodes.specs.declared.instance.Instance.{Instance}
+use Rattle.nm_schema_nodes.specs.Expansion.{children, tops}
+use Rattle.nm_schema_nodes.specs.declared.fork.Fork.{Fork}
+use Rattle.nm_schema_nodes.specs.declared.fork.Branch.{Branch}
+use Rattle.nm_schema_nodes.specs.Forks.{Forking, no_forks, shifted, IsRoom}
+use Rattle.nm_schema_nodes.specs.Choices.{forks_of}
+use Rattle.nm_schema_faults.specs.Facts.{Facts, definitions}
+use Rattle.nm_schema_faults.specs.Grounded.{Grounded}
 use Rattle.nm_schema.specs.Kind.{says_true}
 
 -- the names of the given modules, in order
@@ -36,16 +36,20 @@ pub record Place : Type 0 where
   pub owner : ℕ
   pub row : ℕ
 
+-- the top of module m
 unfoldable pub top_place : List Row → ℕ → Place
 top_place rows m = record { parent = None; owner = m; row = get_or (roots rows) m 0 }
 
+-- the place within node x
 abbrev pub place_in : ℕ → Option Instance → Place
 place_in x None = record { parent = Some x; owner = 0; row = 0 }
 place_in x (Some node) = record { parent = Some x; owner = node.owner; row = node.row }
 
+-- the place within node x, by its instance
 unfoldable pub node_place : Facts → ℕ → Place
 node_place facts x = place_in x (slice_get facts.nodes x)
 
+-- a place by its three parts
 abbrev pub place_for : Option ℕ → ℕ → ℕ → Place
 place_for parent owner row = record { parent = parent; owner = owner; row = row }
 
@@ -59,9 +63,11 @@ forks_in rows i = unwrap_or (forks_of rows (definitions rows) i) no_forks
 
 -- ---- the tables
 
+-- how many choices stand in a place
 unfoldable pub choice_count : List Row → Place → ℕ
 choice_count rows p = length (forks_in rows p.row).choices
 
+-- how many cases stand in a place
 unfoldable pub case_count : List Row → Place → ℕ
 case_count rows p = length (forks_in rows p.row).cases
 
@@ -72,15 +78,23 @@ cases_before rows facts n = total_of (map (case_count rows) (take n (places rows
 -- a choice of a place, behind so many cases (RFC 7950 section 7.9)
 unfoldable pub choice_node : List Row → Place → ℕ → Fork → ChoiceNode
 choice_node rows p cases f =
-    record { parent = p.parent; case_in = shifted cases f.case_in; «module» = module_name rows p.owner; name = argument_at rows f.row; mandatory = says_true (argument_below rows f.row word.Mandatory) }
+    record {
+      parent = p.parent;
+      case_in = shifted cases f.case_in;
+      «module» = module_name rows p.owner;
+      name = argument_at rows f.row;
+      mandatory = says_true (argument_below rows f.row word.Mandatory);
+    }
 
 -- a case of a choice behind so many choices (RFC 7950 section 7.9.2)
 unfoldable pub case_node : List Row → ℕ → Branch → CaseNode
 case_node rows choices b = record { choice = choices + b.choice; name = argument_at rows b.row }
 
+-- the choices of a place, behind so many cases
 abbrev pub choices_in : List Row → ℕ → Place → List ChoiceNode
 choices_in rows cases p = map (choice_node rows p cases) (forks_in rows p.row).choices
 
+-- the cases of a place, behind so many choices
 abbrev pub cases_in : List Row → ℕ → Place → List CaseNode
 cases_in rows choices p = map (case_node rows choices) (forks_in rows p.row).cases
 
@@ -114,10 +128,12 @@ abbrev pub beside : Facts → Instance → Option ℕ → List ℕ
 beside facts node None = tops facts.nodes node.owner
 beside facts node (Some p) = children facts.nodes p
 
+-- the case of the node that is k-th in its place
 abbrev pub spot_at : List (Option ℕ) → Option ℕ → Option ℕ
 spot_at spots None = None
 spot_at spots (Some k) = slice_index_or spots k None
 
+-- for each node of a place the innermost case that it stands in
 abbrev pub spots_in : List Row → Option Place → List (Option ℕ)
 spots_in rows None = []
 spots_in rows (Some p) = (forks_in rows p.row).spots
@@ -129,8 +145,10 @@ spots_at rows facts n = spots_in rows (slice_get (places rows facts) n)
 -- the innermost case that node x stands in, among the choices of its place (RFC 7950 section 7.9.2)
 unfoldable pub case_of : List Row → Facts → ℕ → Instance → Option ℕ
 case_of rows facts x node =
-    shifted (cases_before rows facts (place_of rows node node.parent)) (spot_at (spots_at rows facts (place_of rows node node.parent)) (position_from (λ y. y == x) 0 (beside facts node node.parent)))
+    shifted (cases_before rows facts (place_of rows node node.parent))
+    (spot_at (spots_at rows facts (place_of rows node node.parent)) (position_from (λ y. y == x) 0 (beside facts node node.parent)))
 
+-- the innermost case of a node, where there is such a node
 abbrev pub case_of_node : List Row → Facts → ℕ → Option Instance → Option ℕ
 case_of_node rows facts x None = None
 case_of_node rows facts x (Some node) = case_of rows facts x node
@@ -140,7 +158,8 @@ pub record AreChosen (rows : List Row) (facts : Facts) (n : ℕ) (choices : List
   pub size : length case_in ≡ length facts.nodes
   pub choices_are : choices ≡ choices_from rows 0 (take n (places rows facts))
   pub cases_are : cases ≡ cases_from rows 0 (take n (places rows facts))
-  pub done : (x : ℕ) (node : Instance) → slice_get facts.nodes x ≡ Some node → place_of rows node node.parent < n → slice_index_or case_in x None ≡ case_of rows facts x node
+  pub done : (x : ℕ) (node : Instance) → slice_get facts.nodes x ≡ Some node → place_of rows node node.parent < n
+      → slice_index_or case_in x None ≡ case_of rows facts x node
   pub rest : (x : ℕ) (node : Instance) → slice_get facts.nodes x ≡ Some node → n ≤ place_of rows node node.parent → slice_index_or case_in x None ≡ None
 
 -- the case of each node
@@ -156,7 +175,12 @@ with_cases t cases = record { modules = t.modules; nodes = t.nodes; choices = t.
 -- a tree with the choices and cases of a place more
 abbrev pub with_place : List Row → Place → Forking → SchemaTree → SchemaTree
 with_place rows p f t =
-    record { modules = t.modules; nodes = t.nodes; choices = t.choices ++ map (choice_node rows p (length t.cases)) f.choices; cases = t.cases ++ map (case_node rows (length t.choices)) f.cases }
+    record {
+      modules = t.modules;
+      nodes = t.nodes;
+      choices = t.choices ++ map (choice_node rows p (length t.cases)) f.choices;
+      cases = t.cases ++ map (case_node rows (length t.choices)) f.cases;
+    }
 
 -- how many cases come before a choice, of which so many are there already
 abbrev pub until : ℕ → Option ℕ → ℕ
@@ -197,5 +221,6 @@ HasChosen g n t case_in = AreChosen g.rows g.facts n t.choices t.cases case_in
 abbrev pub top_count : Grounded → ℕ
 top_count g = length (roots g.rows)
 
+-- how many places there are: the tops of the modules, and the inside of each node
 abbrev pub place_count : Grounded → ℕ
 place_count g = length (roots g.rows) + length g.facts.nodes

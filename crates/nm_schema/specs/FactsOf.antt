@@ -1,22 +1,22 @@
 -- What is so in rows, as a function of them.
 use Rattle.std.specs.Prelude.{ℕ, zero, suc, ◌+◌, List, [], ◌++◌, length, map, Bool, false, ◌==◌, ◌&&◌, ◌||◌, Option, Some, None, if◌then◌else◌, slice_get}
 use Rattle.std.specs.List.{find, list_any, range_with_len}
-use Rattle.nm_schema_rows.specs.declared.row.Row.{Row}
-use Rattle.nm_schema_rows.specs.Rows.{roots, same_parent}
+use Rattle.nm_schema_statements.specs.declared.row.Row.{Row}
+use Rattle.nm_schema_statements.specs.Rows.{roots, same_parent}
 use Rattle.nm_schema_names.specs.Graph.{leading}
-use Rattle.nm_schema_shape.specs.Holding.{holding}
-use Rattle.nm_schema_shape.specs.Config.{is_state, configuring}
+use Rattle.nm_schema_uses.specs.Holding.{holding}
+use Rattle.nm_schema_uses.specs.Config.{is_state, configuring}
 use Rattle.nm_schema_keys.specs.ConfigUse.{ConfigUse}
 use Rattle.nm_schema_keys.specs.Keys.{has_known, keys_of}
-use Rattle.nm_schema_expansion.specs.declared.instance.Instance.{Instance}
-use Rattle.nm_schema_expansion.specs.Expansion.{Expanded, expanded, kept_below, grown_members}
-use Rattle.nm_schema_expansion.specs.Growing.{instance}
+use Rattle.nm_schema_nodes.specs.declared.instance.Instance.{Instance}
+use Rattle.nm_schema_nodes.specs.Expansion.{Expanded, expanded, kept_below, grown_members}
+use Rattle.nm_schema_nodes.specs.Growing.{instance}
 use Rattle.nm_schema_leafref.specs.declared.fault.PathFault.{PathFault}
 use Rattle.nm_schema_leafref.specs.Walk.{path_row, led_to}
 use Rattle.nm_schema_leafref.specs.Target.{targets}
 use Rattle.nm_schema_leafref.specs.Known.{fault_of}
-use Rattle.nm_schema_flaws.specs.Fault.{first_some}
-use Rattle.nm_schema_flaws.specs.Facts.{Facts, facts_of, definitions, is_marked}
+use Rattle.nm_schema_faults.specs.Fault.{first_some}
+use Rattle.nm_schema_faults.specs.Facts.{Facts, facts_of, definitions, is_marked}
 
 -- ---- what leads where
 
@@ -43,6 +43,7 @@ is_configured rows i = list_any (reaches_within (configuring rows (definitions r
 unfoldable pub stands_in_state : List Row → ℕ → Bool
 stands_in_state rows i = list_any (λ k. is_state rows k && reaches_within (holding rows (definitions rows)) (length rows) i k) (range_with_len 0 (length rows))
 
+-- for each row whether it passes a test
 abbrev pub marks_of : List Row → (ℕ → Bool) → List Bool
 marks_of rows test = map test (range_with_len 0 (length rows))
 
@@ -91,6 +92,7 @@ path_fault typedefs t p = first_some (map (fault_for typedefs t p) (range_with_l
 
 -- ---- all of it
 
+-- all that the checks of modules go by, as the definitions give it
 unfoldable pub facts_in : List Row → Facts
 facts_in rows =
     facts_of (cycle_of rows) (marks_of rows (is_configured rows)) (marks_of rows (stands_in_state rows)) (marks_of rows (is_key_leaf rows)) (nodes_of rows)

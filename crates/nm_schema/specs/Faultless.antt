@@ -1,17 +1,17 @@
 -- Modules in which nothing is wrong.
 use Rattle.std.specs.Prelude.{◌≡◌, ℕ, List, Some, None, slice_get}
 use Rattle.nm_yang.specs.Tree.{Tree}
-use Rattle.nm_schema_rows.specs.declared.row.Row.{Row}
-use Rattle.nm_schema_rows.specs.Flaw.{grammar_flaw}
-use Rattle.nm_schema_rows.specs.Rows.{rows_of}
+use Rattle.nm_schema_statements.specs.declared.row.Row.{Row}
+use Rattle.nm_schema_statements.specs.Flaw.{grammar_flaw}
+use Rattle.nm_schema_statements.specs.Rows.{rows_of}
 use Rattle.nm_schema_names.specs.Flaw.{name_flaw}
-use Rattle.nm_schema_clash.specs.Clash.{clash_flaw}
+use Rattle.nm_schema_names.specs.Clash.{clash_flaw}
 use Rattle.nm_schema_typing.specs.TypeFlaw.{type_flaw, cycle_flaw}
 use Rattle.nm_schema_keys.specs.Keys.{key_flaw}
 use Rattle.nm_schema_keys.specs.Uniques.{unique_flaw}
-use Rattle.nm_schema_expansion.specs.Expansion.{first_large}
-use Rattle.nm_schema_flaws.specs.Facts.{Facts, definitions, standing}
-use Rattle.nm_schema_flaws.specs.Flaw.{config_flaw, list_flaw, own_flaw, inherited_flaw, path_flaw, misfit_flaw}
+use Rattle.nm_schema_nodes.specs.Expansion.{first_large}
+use Rattle.nm_schema_faults.specs.Facts.{Facts, definitions, standing}
+use Rattle.nm_schema_faults.specs.Flaw.{config_flaw, list_flaw, own_flaw, inherited_flaw, path_flaw, misfit_flaw}
 use Rattle.nm_schema.specs.FactsOf.{facts_in}
 
 -- nothing is wrong with the statement of row i

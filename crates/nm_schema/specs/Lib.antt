@@ -1,3 +1,4 @@
+-- What nodes are and in which cases they stand, the marker module, what is so in a tree, and all as one in `Built`.
 pub mod Kind
 pub mod Choices
 pub mod Node

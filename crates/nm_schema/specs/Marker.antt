@@ -2,15 +2,16 @@
 use Rattle.std.specs.Prelude.{◌≡◌, ℕ, ◌+◌, pos, List, [], ◌∷◌, codes, Option, Some, None, false, slice_get}
 use Rattle.nm_base.specs.Words.{marker_name}
 use Rattle.nm_types.specs.LeafType.{TypeOfLeaf, integer}
-use Rattle.nm_tree.specs.declared.node.Node.{Node}
-use Rattle.nm_tree.specs.declared.node.NodeKind.{NodeKind}
-use Rattle.nm_tree.specs.declared.node.NodeKind.TheVariants as kind
-use Rattle.nm_tree.specs.Nodes.{SchemaTree}
+use Rattle.nm_schema_tree.specs.declared.node.Node.{Node}
+use Rattle.nm_schema_tree.specs.declared.node.NodeKind.{NodeKind}
+use Rattle.nm_schema_tree.specs.declared.node.NodeKind.TheVariants as kind
+use Rattle.nm_schema_tree.specs.Nodes.{SchemaTree}
 
 -- the numbers of changes: `uint32` (RFC 7950 section 9.2)
 abbrev pub change_type : TypeOfLeaf
 change_type = record { kind = integer (pos 0) (pos 4294967295); limits = None }
 
+-- a node of the module that is added
 abbrev pub marker_node : Option ℕ → List ℕ → NodeKind → Node
 marker_node parent name k = record { parent = parent; case_in = None; «module» = marker_name; name = name; kind = k }
 

@@ -1,24 +1,33 @@
 -- The nodes of a schema tree (RFC 7950 section 3).
 use Rattle.std.specs.Prelude.{◌≡◌, ◌<◌, ℕ, List, length, true, Option, Some, None, is_some, slice_get}
 use Rattle.std.specs.List.{filter_map, range_with_len}
-use Rattle.nm_schema_rows.specs.declared.row.Row.{Row}
-use Rattle.nm_schema_shape.specs.Arguments.{argument_at}
-use Rattle.nm_tree.specs.declared.node.Node.{Node}
-use Rattle.nm_tree.specs.declared.node.NodeKind.{NodeKind}
-use Rattle.nm_schema_expansion.specs.declared.instance.Instance.{Instance}
-use Rattle.nm_schema_flaws.specs.Facts.{Facts}
+use Rattle.nm_schema_statements.specs.declared.row.Row.{Row}
+use Rattle.nm_schema_uses.specs.Arguments.{argument_at}
+use Rattle.nm_schema_tree.specs.declared.node.Node.{Node}
+use Rattle.nm_schema_tree.specs.declared.node.NodeKind.{NodeKind}
+use Rattle.nm_schema_nodes.specs.declared.instance.Instance.{Instance}
+use Rattle.nm_schema_faults.specs.Facts.{Facts}
 use Rattle.nm_schema.specs.Kind.{kind_of}
 use Rattle.nm_schema.specs.Choices.{module_name, case_of}
 
+-- a node by what it is, where that is known
 abbrev pub node_with : List Row → Facts → ℕ → Instance → Option NodeKind → Option Node
 node_with rows facts x node None = None
 node_with rows facts x node (Some k) =
-    Some (record { parent = node.parent; case_in = case_of rows facts x node; «module» = module_name rows node.owner; name = argument_at rows node.row; kind = k })
+    Some (record {
+      parent = node.parent;
+      case_in = case_of rows facts x node;
+      «module» = module_name rows node.owner;
+      name = argument_at rows node.row;
+      kind = k;
+    })
 
+-- a node by its row, where there is one
 abbrev pub node_by : List Row → Facts → ℕ → Instance → Option Row → Option Node
 node_by rows facts x node None = None
 node_by rows facts x node (Some r) = node_with rows facts x node (kind_of rows facts x node r.word)
 
+-- the node of an instance, where there is one
 abbrev pub node_in : List Row → Facts → ℕ → Option Instance → Option Node
 node_in rows facts x None = None
 node_in rows facts x (Some node) = node_by rows facts x node (slice_get rows node.row)

@@ -1,14 +1,15 @@
--- What is whole in the schema tree that modules give: where leafrefs lead, what is unique in lists, and defaults (RFC 7950 sections 7.6.4, 7.8.2, 7.8.3 and 9.9).
+-- What is whole in the schema tree that modules give: where leafrefs lead, what is unique in lists, and defaults (RFC 7950
+-- sections 7.6.4, 7.8.2, 7.8.3 and 9.9).
 use Rattle.std.specs.Prelude.{◌≡◌, ℕ, zero, suc, List, Bool, true, false, Contains, Option, Some, None, slice_get}
 use Rattle.nm_types.specs.declared.value.Value.{Value}
 use Rattle.nm_types.specs.LeafType.{TypeOfLeaf}
 use Rattle.nm_types.specs.Limits.{MeetsLimits}
 use Rattle.nm_types.specs.Spells.{SpellsValue}
-use Rattle.nm_tree.specs.declared.node.Node.{Node}
-use Rattle.nm_tree.specs.declared.node.NodeKind.{NodeKind}
-use Rattle.nm_tree.specs.declared.node.NodeKind.TheVariants as kind
-use Rattle.nm_tree.specs.declared.node.Reference.{Reference}
-use Rattle.nm_tree.specs.Nodes.{parent_of, type_at, reference_at, uniques_at, default_at, is_key}
+use Rattle.nm_schema_tree.specs.declared.node.Node.{Node}
+use Rattle.nm_schema_tree.specs.declared.node.NodeKind.{NodeKind}
+use Rattle.nm_schema_tree.specs.declared.node.NodeKind.TheVariants as kind
+use Rattle.nm_schema_tree.specs.declared.node.Reference.{Reference}
+use Rattle.nm_schema_tree.specs.Nodes.{parent_of, type_at, reference_at, uniques_at, default_at, is_key}
 use Rattle.nm_path.specs.Sound.{is_leaf}
 
 -- ---- leafrefs
@@ -29,11 +30,13 @@ pub record IsLed (nodes : List Node) (i : ℕ) (r : Reference) : Type 0 where
   pub up : risen nodes r.up (Some i) ≡ Some turn
   pub above : risen nodes (suc down) (Some r.target) ≡ Some turn
 
+-- each leafref leads to a node that it may lead to (RFC 7950 section 9.9)
 abbrev pub HaveTargets : List Node → Type 0
 HaveTargets nodes = (i : ℕ) (r : Reference) → reference_at nodes i ≡ Some r → IsLed nodes i r
 
 -- ---- what is unique
 
+-- a container, with presence or without
 abbrev pub is_container : NodeKind → Bool
 is_container (kind.Container p) = true
 is_container _ = false

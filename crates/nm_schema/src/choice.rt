@@ -1,18 +1,18 @@
 //! The choices of the given modules and their cases, and the case of each node.
 
 ghost use Rattle.std.specs.Prelude.{◌≡◌, ◌<◌, ◌≤◌, ◌^◌, [], IfOk, OnOk, None, Some, length, map, replicate, slice_range, slice_set};
-ghost use Rattle.nm_schema_choice.specs.Forks as forks;
-ghost use Rattle.nm_schema_shape.specs.Outline.{outline};
-ghost use Rattle.nm_schema_flaws.specs.Facts.{definitions};
+ghost use Rattle.nm_schema_nodes.specs.Forks as forks;
+ghost use Rattle.nm_schema_uses.specs.Outline.{outline};
+ghost use Rattle.nm_schema_faults.specs.Facts.{definitions};
 ghost use Rattle.nm_schema.specs.Choices as spec;
 
 use crate::kind::says_true;
 use crate::node::{argument_at, name_of};
 use nm_base::{Label, NoMemory};
-use nm_schema_choice::{Branch, Choices, Fork, Forks, choices_of};
-use nm_schema_flaws::Grounds;
-use nm_schema_rows::{Rows, Word};
-use nm_tree::{CaseNode, ChoiceNode, Schema};
+use nm_schema_faults::Grounds;
+use nm_schema_nodes::{Branch, Choices, Fork, Forks, choices_of};
+use nm_schema_statements::{Rows, Word};
+use nm_schema_tree::{CaseNode, ChoiceNode, Schema};
 use std::alloc::Global;
 
 // A place in which nodes stand: in which node, of which module's tree, with which row.

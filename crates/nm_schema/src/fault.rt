@@ -1,7 +1,7 @@
 //! Why modules give no schema tree.
 
 use nm_base::NoMemory;
-use nm_schema_rows::Flaw;
+use nm_schema_statements::Flaw;
 use std::alloc::{AllocError, AllocFailed};
 
 /// Why modules give no schema tree.

@@ -2,15 +2,15 @@
 
 ghost use Rattle.std.specs.Prelude.{◌≡◌, IfOk, MatchOption, Some, None};
 ghost use Rattle.nm_schema_typing.specs.Restricting.{argument_below};
-ghost use Rattle.nm_schema_shape.specs.Config.{is_true};
+ghost use Rattle.nm_schema_uses.specs.Config.{is_true};
 ghost use Rattle.nm_schema.specs.Kind as spec;
 
 use nm_base::{Label, NoMemory, read_decimal};
-use nm_schema_expansion::Instance;
-use nm_schema_flaws::Grounds;
+use nm_schema_faults::Grounds;
 use nm_schema_leafref::Led;
-use nm_schema_rows::{Rows, Word};
-use nm_tree::{Elements, NodeKind, Reference, SharedType};
+use nm_schema_nodes::Instance;
+use nm_schema_statements::{Rows, Word};
+use nm_schema_tree::{Elements, NodeKind, Reference, SharedType};
 use nm_types::{Value, ValueFault, read_value};
 use std::alloc::Global;
 
@@ -96,7 +96,7 @@ fn default_in(
     }
 }
 
-#[tactic(auto, unfolding(nm_schema_shape::specs::Config::is_true))]
+#[tactic(auto, unfolding(nm_schema_uses::specs::Config::is_true))]
 fn is_true(text: &str) -> bool
     ensures { result ≡ is_true text.now }
 {

@@ -2,11 +2,11 @@
 
 ghost use Rattle.std.specs.Prelude.{◌≡◌, ◌↔◌, ◌<◌, ℕ, List, length, Some, Result, Ok};
 ghost use Rattle.nm_yang.specs.Tree.{Tree};
-ghost use Rattle.nm_tree.specs.Nodes.{SchemaTree, case_at};
+ghost use Rattle.nm_schema_tree.specs.Nodes.{SchemaTree, case_at};
 ghost use Rattle.nm_path.specs.Sound.{IsSound};
-ghost use Rattle.nm_schema_flaws.specs.declared.fault.Fault.{Fault};
-ghost use Rattle.nm_schema_rows.specs.Rows.{rows_of};
-ghost use Rattle.nm_schema_flaws.specs.Facts.{AreFacts};
+ghost use Rattle.nm_schema_faults.specs.declared.fault.Fault.{Fault};
+ghost use Rattle.nm_schema_statements.specs.Rows.{rows_of};
+ghost use Rattle.nm_schema_faults.specs.Facts.{AreFacts};
 ghost use Rattle.nm_schema.specs.FactsOf.{facts_in};
 ghost use Rattle.nm_schema.specs.Built as spec;
 ghost use Rattle.nm_schema.specs.Faultless.{HaveNoFault};

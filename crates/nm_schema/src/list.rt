@@ -2,20 +2,20 @@
 
 ghost use Rattle.std.specs.Prelude.{◌≡◌, IfOk, Some, map};
 ghost use Rattle.nm_graph.specs.Value.{all_there};
-ghost use Rattle.nm_schema_shape.specs.Arguments.{argument_at};
+ghost use Rattle.nm_schema_uses.specs.Arguments.{argument_at};
 ghost use Rattle.nm_schema.specs.Kind as spec;
 
 use crate::kind::{elements_of, is_filled};
 use nm_base::{Groups, NoMemory, Numbers};
-use nm_schema_expansion::Instance;
-use nm_schema_flaws::Grounds;
+use nm_schema_faults::Grounds;
 use nm_schema_keys::Unique;
-use nm_schema_rows::Rows;
-use nm_tree::NodeKind;
+use nm_schema_nodes::Instance;
+use nm_schema_statements::Rows;
+use nm_schema_tree::NodeKind;
 use std::alloc::Global;
 
 // The argument of a row, and an empty text without one.
-#[tactic(auto, unfolding(nm_schema_shape::specs::Arguments::argument_at))]
+#[tactic(auto, unfolding(nm_schema_uses::specs::Arguments::argument_at))]
 fn name_at(rows: &Rows, at: usize) -> &str
     ensures { result.now ≡ argument_at rows.now at }
 {

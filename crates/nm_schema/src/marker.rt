@@ -5,7 +5,7 @@ ghost use Rattle.nm_base.specs.Words as words;
 ghost use Rattle.nm_schema.specs.Marker as spec;
 
 use nm_base::{Groups, Label, MARKER, NoMemory, Numbers};
-use nm_tree::{Elements, Node, NodeKind, Schema, SharedType};
+use nm_schema_tree::{Elements, Node, NodeKind, Schema, SharedType};
 use nm_types::{LeafType, TypeKind};
 use std::alloc::Global;
 

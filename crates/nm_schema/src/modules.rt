@@ -1,11 +1,11 @@
 //! From the statements of modules to their schema tree.
 
 ghost use Rattle.std.specs.Prelude.{◌≡◌, IfOk, OnOk};
-ghost use Rattle.nm_schema_rows.specs.Rows.{FromModules};
-ghost use Rattle.nm_schema_shape.specs.Holding.{AreNamed};
-ghost use Rattle.nm_schema_shape.specs.Outline.{outline};
+ghost use Rattle.nm_schema_statements.specs.Rows.{FromModules};
+ghost use Rattle.nm_schema_uses.specs.Holding.{AreNamed};
+ghost use Rattle.nm_schema_uses.specs.Outline.{outline};
 ghost use Rattle.nm_schema_leafref.specs.Known.{ArePaths};
-ghost use Rattle.nm_schema_flaws.specs.Facts as facts;
+ghost use Rattle.nm_schema_faults.specs.Facts as facts;
 ghost use Rattle.nm_path.specs.Written.{IsWellNamed};
 ghost use Rattle.nm_path.specs.Sound.{IsSound};
 ghost use Rattle.nm_schema.specs.Built as spec;
@@ -16,13 +16,13 @@ ghost use Rattle.nm_schema.specs.Whole.{AreWhole};
 use crate::fault::SchemaFault;
 use crate::tree::schema_of;
 use nm_base::NoMemory;
-use nm_schema_expansion::expand;
-use nm_schema_flaws::{Grounds, definitions};
+use nm_schema_faults::{Grounds, definitions};
 use nm_schema_leafref::{Paths, paths_of};
 use nm_schema_names::RowNames;
-use nm_schema_rows::{Rows, rows_of};
-use nm_schema_shape::{Shape, shape_of};
-use nm_tree::Schema;
+use nm_schema_nodes::expand;
+use nm_schema_statements::{Rows, rows_of};
+use nm_schema_tree::Schema;
+use nm_schema_uses::{Shape, shape_of};
 use nm_yang::Statement;
 use std::alloc::Global;
 

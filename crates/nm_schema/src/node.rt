@@ -1,7 +1,7 @@
 //! The nodes of the given modules.
 
 ghost use Rattle.std.specs.Prelude.{◌≡◌, IfOk, [], None, get_or, slice_get, slice_index_or, map};
-ghost use Rattle.nm_schema_shape.specs.Arguments.{argument_at};
+ghost use Rattle.nm_schema_uses.specs.Arguments.{argument_at};
 ghost use Rattle.nm_schema.specs.Kind as kinds;
 ghost use Rattle.nm_schema.specs.Choices as choices;
 ghost use Rattle.nm_schema.specs.Node as spec;
@@ -9,14 +9,14 @@ ghost use Rattle.nm_schema.specs.Node as spec;
 use crate::kind::{container_of, leaf_list_of, leaf_of};
 use crate::list::list_of;
 use nm_base::{Label, NoMemory};
-use nm_schema_expansion::Instance;
-use nm_schema_flaws::Grounds;
-use nm_schema_rows::{Rows, Word};
-use nm_tree::{Node, NodeKind};
+use nm_schema_faults::Grounds;
+use nm_schema_nodes::Instance;
+use nm_schema_statements::{Rows, Word};
+use nm_schema_tree::{Node, NodeKind};
 use std::alloc::Global;
 
 /// The argument of a row, and an empty text without one.
-#[tactic(auto, unfolding(nm_schema_shape::specs::Arguments::argument_at))]
+#[tactic(auto, unfolding(nm_schema_uses::specs::Arguments::argument_at))]
 pub(crate) fn argument_at(alloc: Global, rows: &Rows, at: usize) -> Result<Label, NoMemory>
     ensures { IfOk result (λ text. text ≡ argument_at rows.now at) }
 {

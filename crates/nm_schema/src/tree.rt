@@ -1,9 +1,9 @@
 //! The tree of modules in which no fault is found.
 
 ghost use Rattle.std.specs.Prelude.{◌≡◌, ◌+◌, [], ◌≤◌, IfOk, OnOk, true, is_some, length};
-ghost use Rattle.nm_schema_rows.specs.Rows.{FromModules};
-ghost use Rattle.nm_schema_expansion.specs.Expansion.{IsExpansion};
-ghost use Rattle.nm_schema_flaws.specs.Facts.{definitions};
+ghost use Rattle.nm_schema_statements.specs.Rows.{FromModules};
+ghost use Rattle.nm_schema_nodes.specs.Expansion.{IsExpansion};
+ghost use Rattle.nm_schema_faults.specs.Facts.{definitions};
 ghost use Rattle.nm_schema.specs.Choices as choices;
 ghost use Rattle.nm_schema.specs.Node as nodes;
 ghost use Rattle.nm_schema.specs.Built as spec;
@@ -13,8 +13,8 @@ use crate::fault::SchemaFault;
 use crate::marker::put_marker;
 use crate::node::{module_names, node_of};
 use nm_base::{Label, NoMemory};
-use nm_schema_flaws::{Fault, Grounds};
-use nm_tree::Schema;
+use nm_schema_faults::{Fault, Grounds};
+use nm_schema_tree::Schema;
 use std::alloc::Global;
 
 // That modules give no tree, for a fault.

@@ -10,9 +10,11 @@ abbrev pub dots_at : List ℕ → ℕ
 dots_at [] = 0
 dots_at (b ∷ bs) = if b == 46 && slice_index bs 0 == 46 then 0 else dots_at bs + 1
 
+-- the least number of a part
 abbrev pub low_end : ℤ × ℤ → ℤ
 low_end part = part.0
 
+-- the greatest number of a part
 abbrev pub high_end : ℤ × ℤ → ℤ
 high_end part = part.1
 

@@ -29,6 +29,7 @@ fits_point digits (b ∷ bs) = nat_lt (length bs) digits
 unfoldable pub pointed_of : ℕ → List ℕ → List ℕ → Option ℕ
 pointed_of digits whole part = if fits_point digits part then moved_if (digits - length part) (behind part (digits_of whole)) else None
 
+-- the byte `.`
 abbrev pub is_point : ℕ → Bool
 is_point b = b == 46
 
@@ -52,6 +53,7 @@ may_be_signed Integer = true
 may_be_signed (Decimal digits) = true
 may_be_signed Length = false
 
+-- a number with a minus sign before it
 abbrev pub negated : ℕ → ℤ
 negated magnitude = neg_ℤ (pos magnitude)
 

@@ -6,6 +6,7 @@ use Rattle.nm_schema_derive.specs.Order.{names_in_order}
 use Rattle.nm_schema_derive.specs.Built as built
 use Rattle.nm_schema_derive.specs.Built.{Built, Derivation}
 
+-- the name of a member of an enumeration or of a bits type
 abbrev pub member_name : Member → List ℕ
 member_name member = member.name
 

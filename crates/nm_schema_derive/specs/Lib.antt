@@ -1,3 +1,4 @@
+-- What a type is built of, piece by piece; `Step` and `Restricted` have the steps of a derivation.
 pub mod BuiltIn
 pub mod Form
 pub mod Blank

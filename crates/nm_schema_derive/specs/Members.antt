@@ -48,6 +48,7 @@ given_number numbering text = within_if numbering (number_of (form_of numbering)
 abbrev pub later_number : List ℕ → Option ℤ → Member → Option ℤ
 later_number name found member = if bytes_eq member.name name then Some member.number else found
 
+-- the number of a name among members, the last one's where it comes twice; none where it isn't there
 unfoldable pub number_in : List ℕ → List Member → Option ℤ
 number_in name members = fold (later_number name) None members
 
@@ -55,6 +56,7 @@ number_in name members = fold (later_number name) None members
 abbrev pub is_numbered : ℤ → Member → Bool
 is_numbered number member = int_eq member.number number
 
+-- one of the members has this number
 unfoldable pub has_number : ℤ → List Member → Bool
 has_number number members = list_any (is_numbered number) members
 
@@ -63,6 +65,7 @@ abbrev pub higher : Option ℤ → ℤ → Option ℤ
 higher None number = Some number
 higher (Some before) number = Some (int_max before number)
 
+-- the higher of the highest number so far and the next member's
 abbrev pub higher_of : Option ℤ → Member → Option ℤ
 higher_of highest member = higher highest member.number
 
@@ -134,5 +137,6 @@ Gives (Err NoMemory) made = ⊤
 abbrev pub IsPosition : Member → Type 0
 IsPosition member = is_within member.number (limits_of Positions) ≡ true
 
+-- the name that an `enum` or a `bit` statement gives
 abbrev pub listed_name : Listed → List ℕ
 listed_name listed = listed.name

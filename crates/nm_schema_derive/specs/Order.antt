@@ -6,6 +6,7 @@ use Rattle.nm_schema_derive.specs.declared.members.Member.{Member}
 abbrev pub bit_of : Member → List ℕ × ℕ
 bit_of member = (member.name, nat_abs member.number)
 
+-- the name of a bit
 abbrev pub bit_name : List ℕ × ℕ → List ℕ
 bit_name bit = bit.0
 

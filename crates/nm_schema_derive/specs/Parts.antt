@@ -6,6 +6,7 @@ use Rattle.nm_schema_derive.specs.Bound.{part_of}
 use Rattle.nm_types.specs.Parts.{is_ascending}
 use Rattle.nm_schema_derive.specs.Cover.{is_inside}
 
+-- the byte `|`, which parts ranges and lengths (RFC 7950 section 14: range-arg)
 abbrev pub is_bar : ℕ → Bool
 is_bar b = b == 124
 

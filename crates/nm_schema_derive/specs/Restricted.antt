@@ -11,18 +11,22 @@ abbrev pub digits_if : Derivation → Option (List ℕ) → Result Derivation St
 digits_if d None = Ok d
 digits_if d (Some text) = with_digits d text
 
+-- a type with the range of a `range` statement, where there is one
 abbrev pub range_if : Derivation → Option (List ℕ) → Result Derivation StepFault
 range_if d None = Ok d
 range_if d (Some text) = with_range d text
 
+-- a type with the length of a `length` statement, where there is one
 abbrev pub length_if : Derivation → Option (List ℕ) → Result Derivation StepFault
 length_if d None = Ok d
 length_if d (Some text) = with_length d text
 
+-- a type with the names of `enum` statements, where there are any
 abbrev pub names_if : Derivation → List Listed → Result Derivation StepFault
 names_if d [] = Ok d
 names_if d (s ∷ ss) = with_names d (s ∷ ss)
 
+-- a type with the names of `bit` statements, where there are any
 abbrev pub bits_if : Derivation → List Listed → Result Derivation StepFault
 bits_if d [] = Ok d
 bits_if d (s ∷ ss) = with_bits d (s ∷ ss)
@@ -32,14 +36,17 @@ abbrev pub then_bits : Restrictions → Result Derivation StepFault → Result D
 then_bits r (Err fault) = Err fault
 then_bits r (Ok d) = bits_if d r.bits.items
 
+-- after the length: the names of an enumeration, then bits
 abbrev pub then_names : Restrictions → Result Derivation StepFault → Result Derivation StepFault
 then_names r (Err fault) = Err fault
 then_names r (Ok d) = then_bits r (names_if d r.names.items)
 
+-- after the range: the length, then names and bits
 abbrev pub then_length : Restrictions → Result Derivation StepFault → Result Derivation StepFault
 then_length r (Err fault) = Err fault
 then_length r (Ok d) = then_names r (length_if d r.length)
 
+-- after fraction digits: the range, then all that follows it
 abbrev pub then_range : Restrictions → Result Derivation StepFault → Result Derivation StepFault
 then_range r (Err fault) = Err fault
 then_range r (Ok d) = then_length r (range_if d r.range)

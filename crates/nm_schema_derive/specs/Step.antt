@@ -63,6 +63,7 @@ abbrev pub digits_on : Derivation → List ℕ → Built → Result Derivation S
 digits_on d text bare_decimal = digits_put d (digits_read text)
 digits_on d text _ = Err Misplaced
 
+-- a type with the fraction digits that a text says, or why they don't stand there or are wrong
 abbrev pub with_digits : Derivation → List ℕ → Result Derivation StepFault
 with_digits d text = digits_on d text d.built
 
@@ -73,6 +74,7 @@ range_on d text (decimal digits) = limited d (narrowed (Decimal digits) i64_part
 range_on d text bare_decimal = Ok d
 range_on d text _ = Err Misplaced
 
+-- a type with the range that a text says, or why it doesn't stand there or is wrong
 abbrev pub with_range : Derivation → List ℕ → Result Derivation StepFault
 with_range d text = range_on d text d.built
 
@@ -81,6 +83,7 @@ abbrev pub length_on : Derivation → List ℕ → Built → Result Derivation S
 length_on d text string = limited d (narrowed Length (pos 0, pos 18446744073709551615) d.limits text)
 length_on d text _ = Err Misplaced
 
+-- a type with the length that a text says, or why it doesn't stand there or is wrong
 abbrev pub with_length : Derivation → List ℕ → Result Derivation StepFault
 with_length d text = length_on d text d.built
 
@@ -100,6 +103,7 @@ names_on d statements bare_names = named d.limits (members_of Values None statem
 names_on d statements (names base) = named d.limits (members_of Values (Some base) statements)
 names_on d statements _ = Err Misplaced
 
+-- a type with the names of `enum` statements, or why they don't stand there or which is wrong
 abbrev pub with_names : Derivation → List Listed → Result Derivation StepFault
 with_names d statements = names_on d statements d.built
 
@@ -114,6 +118,7 @@ bits_on d statements bare_bits = flagged d.limits (members_of Positions None sta
 bits_on d statements (bits base) = flagged d.limits (members_of Positions (Some base) statements)
 bits_on d statements _ = Err Misplaced
 
+-- a type with the names of `bit` statements, or why they don't stand there or which is wrong
 abbrev pub with_bits : Derivation → List Listed → Result Derivation StepFault
 with_bits d statements = bits_on d statements d.built
 

@@ -1,3 +1,6 @@
+//! The numbers of the names in an enumeration or a bits type: given, those of the base, or the next ones (RFC 7950 sections
+//! 9.6.4.2 and 9.7.4.2).
+
 ghost use Rattle.std.specs.Prelude.{◌≡◌, Some, None, IfOk, map, option_map};
 ghost use Rattle.nm_types.specs.Spells.{IsOnce};
 ghost use Rattle.nm_schema_derive.specs.Kinds.{member_name};

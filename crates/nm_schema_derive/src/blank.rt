@@ -1,3 +1,5 @@
+//! Blanks around the pieces of an argument, which ranges, lengths and numbers may all have.
+
 ghost use Rattle.std.specs.Prelude.{◌≡◌, ◌≤◌, length, reverse};
 ghost use Rattle.std.specs.List.{position_or_len};
 ghost use Rattle.nm_schema_derive.specs.Blank.{is_solid, trimmed};

@@ -1,3 +1,5 @@
+//! The two bounds of one part of a range or a length, with `min` and `max` by the base.
+
 ghost use Rattle.std.specs.Prelude.{◌≡◌, ◌≤◌, ◌<◌, ◌+◌, length};
 ghost use Rattle.nm_schema_derive.specs.Bound.{dots_at, lowest, highest, bound_of, part_of};
 

@@ -1,3 +1,5 @@
+//! A type on the way of its derivation, and what each restriction makes of it.
+
 ghost use Rattle.std.specs.Prelude.{◌≡◌, List, Result, None, IfOk, All, map};
 ghost use Rattle.nm_schema_derive.specs.declared.members.Member.{Member};
 ghost use Rattle.nm_schema_derive.specs.declared.members.ListFault.{ListFault};

@@ -1,3 +1,5 @@
+//! Numbers as ranges, lengths, values and positions write them: one reader for all of their forms.
+
 ghost use Rattle.std.specs.Prelude.{◌≡◌, ◌≤◌, ◌^◌, ◌<◌, ℕ, length, IsTrue, IfSome};
 ghost use Rattle.nm_base.specs.Decimal.{digits_after, number_of as digits_of};
 ghost use Rattle.nm_schema_derive.specs.Form.{moved, moved_if, behind, fits_point, pointed_of, scaled_of, magnitude_of, signed_of, unsigned_of, may_be_signed, number_of, is_point};

@@ -1,3 +1,5 @@
+//! The statements and the members of enumerations and bits, and what may be wrong with them: the words of the layers above.
+
 use nm_base::{Label, NoMemory};
 
 /// An `enum` or a `bit` statement: its name, and the argument of its `value` or its `position`.

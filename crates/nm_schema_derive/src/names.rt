@@ -1,3 +1,5 @@
+//! The built-in types by their names: those that this project has, in one table.
+
 ghost use Rattle.std.specs.Prelude.{◌≡◌};
 ghost use Rattle.nm_schema_derive.specs.BuiltIn.{built_in_of, integer_named, other_named};
 

@@ -1,3 +1,5 @@
+//! The parts of a range or a length: that they ascend, and that they lie within the base.
+
 ghost use Rattle.std.specs.Prelude.{◌≡◌, ℤ, List, true, Some, map, option_map, All, IfOk, IfSome};
 ghost use Rattle.nm_schema_derive.specs.Bound.{part_of};
 ghost use Rattle.nm_types.specs.Parts.{is_ascending};
@@ -122,7 +124,8 @@ pub fn read_parts(
     ensures ascending { IfOk result (λ found. IfSome found (λ parts. is_ascending parts ≡ true)) }
     ensures inside { IfOk result (λ found. IfSome found (λ parts. All (IsInside base.now) parts)) }
     // What the text gives is answered, if it ascends and each number of it is a number of the base.
-    ensures found { (parts : List (ℤ × ℤ)) → is_ascending base.now ≡ true → parts_of form.now base.now text.now ≡ Some parts → is_ascending parts ≡ true → All (IsInside base.now) parts → IfOk result (λ found. found ≡ Some parts) }
+    ensures found { (parts : List (ℤ × ℤ)) → is_ascending base.now ≡ true → parts_of form.now base.now text.now ≡ Some parts
+        → is_ascending parts ≡ true → All (IsInside base.now) parts → IfOk result (λ found. found ≡ Some parts) }
 {
     if !is_ascending(base) {
         return Ok(None);

@@ -1,3 +1,5 @@
+//! All restrictions of a `type` statement, made one after the other: the order decides which fault is told.
+
 ghost use Rattle.std.specs.Prelude.{◌≡◌, Result};
 ghost use Rattle.nm_schema_derive.specs.declared.derived.StepFault.{StepFault};
 ghost use Rattle.nm_schema_derive.specs.Built.{Derivation};

@@ -1,3 +1,5 @@
+//! The names and numbers that an enumeration or a bits type has so far, found without a search through all.
+
 ghost use Rattle.std.specs.Prelude.{◌≡◌, ◌++◌, ◌∷◌, [], length, IfOk};
 ghost use Rattle.nm_schema_derive.specs.Members.{number_in, has_number, highest_in, next_after, higher};
 
@@ -29,7 +31,9 @@ impl Model for Taken {
 
     ghost view = { λ t. t.members.items };
 
-    ghost invariant = { λ t. ((name : List ℕ) → tree.get (slice_cmp nat_cmp) t.names name ≡ number_in name t.members.items) × ((number : ℤ) → is_some (tree.get int_cmp t.numbers number) ≡ has_number number t.members.items) × (t.highest ≡ highest_in t.members.items) };
+    ghost invariant = { λ t. ((name : List ℕ) → tree.get (slice_cmp nat_cmp) t.names name ≡ number_in name t.members.items)
+        × ((number : ℤ) → is_some (tree.get int_cmp t.numbers number) ≡ has_number number t.members.items)
+        × (t.highest ≡ highest_in t.members.items) };
 }
 
 // The higher of a number and one that may be missing.

@@ -3,9 +3,9 @@ use Rattle.std.proofs.Common.{◌≡◌, ◌∙◌, ℕ, List, [], ◌∷◌, �
 use Rattle.std.specs.Option.{option_map, option_or}
 use Rattle.std.specs.List.{find}
 use Rattle.nm_graph.specs.Value.{all_there}
-use Rattle.nm_schema_shape.specs.Outline.{Outline}
-use Rattle.nm_schema_rows.specs.declared.flaw.Flaw.{Flaw}
-use Rattle.nm_schema_rows.specs.declared.flaw.Flaw.TheVariants as flaw
+use Rattle.nm_schema_uses.specs.Outline.{Outline}
+use Rattle.nm_schema_statements.specs.declared.flaw.Flaw.{Flaw}
+use Rattle.nm_schema_statements.specs.declared.flaw.Flaw.TheVariants as flaw
 use Rattle.nm_schema_keys.specs.declared.found.Found.{Found}
 use Rattle.nm_schema_keys.specs.Keys.{row_found, word_flaw, words_flaw, leafs_named}
 use Rattle.nm_schema_keys.specs.ConfigUse.{ConfigUse, IsConfigUse}

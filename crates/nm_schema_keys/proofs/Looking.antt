@@ -4,8 +4,8 @@ use Rattle.std.proofs.lemmas.Grind.{common_steps}
 use Rattle.std.specs.List.{find}
 use Rattle.std.specs.Str.{bytes_eq}
 use Rattle.std.specs.BTreeMap.{BTreeMap}
-use Rattle.nm_schema_rows.specs.declared.row.Row.{Row}
-use Rattle.nm_schema_shape.specs.Arguments.{argument_at}
+use Rattle.nm_schema_statements.specs.declared.row.Row.{Row}
+use Rattle.nm_schema_uses.specs.Arguments.{argument_at}
 use Rattle.nm_schema_keys.specs.declared.found.Found.TheVariants as found
 use Rattle.nm_schema_keys.specs.Found.{is_called, row_or_missing, found_among}
 use Rattle.nm_schema_keys.specs.Membership.{Membership, membership, Leads, led}

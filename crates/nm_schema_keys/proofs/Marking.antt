@@ -5,10 +5,10 @@ use Rattle.std.proofs.lemmas.Bool.Decides.{nat_tests}
 use Rattle.std.proofs.lemmas.Grind.{common_steps}
 use Rattle.std.proofs.lemmas.List.{take_more, get_or-set_same, get_or-set_other}
 use Rattle.std.proofs.lemmas.Option.{same_Some}
-use Rattle.nm_schema_rows.specs.declared.word.Word.TheVariants as word
-use Rattle.nm_schema_rows.specs.declared.row.Row.{Row}
-use Rattle.nm_schema_rows.specs.Rows.{AreRows, children, first_with, first_below}
-use Rattle.nm_schema_shape.specs.Config.{Marks}
+use Rattle.nm_schema_statements.specs.declared.word.Word.TheVariants as word
+use Rattle.nm_schema_statements.specs.declared.row.Row.{Row}
+use Rattle.nm_schema_statements.specs.Rows.{AreRows, children, first_with, first_below}
+use Rattle.nm_schema_uses.specs.Config.{Marks}
 use Rattle.nm_schema_keys.specs.ConfigUse.{ConfigUse}
 use Rattle.nm_schema_keys.specs.Keys.{has_row, has_known, keys_at, keys_of, IsKey}
 use Rattle.nm_schema_keys.proofs.Having.{has_row-append}

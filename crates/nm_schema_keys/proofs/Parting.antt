@@ -4,7 +4,7 @@ use Rattle.std.specs.List.{slice_split, onto_first, flat_map}
 use Rattle.std.proofs.Common.{◌<◌, ◌+◌, Bor, eqb, filter, map, take, get_or, length}
 use Rattle.std.proofs.lemmas.List.{take_more, map-append, append-nil}
 use Rattle.std.proofs.lemmas.List.Concat.{flat_map-append}
-use Rattle.nm_schema_rows.specs.Text.{is_some_text}
+use Rattle.nm_schema_statements.specs.Text.{is_some_text}
 use Rattle.nm_schema_keys.specs.Words.{words_of}
 
 -- a list of parts has a first one

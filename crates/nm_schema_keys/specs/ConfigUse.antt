@@ -1,7 +1,7 @@
 -- Which rows are used as configuration and which stand in state, and which nodes are lost for it.
 use Rattle.std.specs.Prelude.{◌≡◌, ◌↔◌, ℕ, List, Bool, true, not, ◌&&◌, ◌||◌, Option}
-use Rattle.nm_schema_rows.specs.declared.row.Row.{Row}
-use Rattle.nm_schema_shape.specs.Config.{IsConfiguration, IsInState, is_state}
+use Rattle.nm_schema_statements.specs.declared.row.Row.{Row}
+use Rattle.nm_schema_uses.specs.Config.{IsConfiguration, IsInState, is_state}
 
 -- which rows are used as configuration, and which stand in state
 pub record ConfigUse : Type 0 where

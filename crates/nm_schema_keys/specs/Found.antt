@@ -2,12 +2,12 @@
 use Rattle.std.specs.Prelude.{ℕ, List, Bool, not, ◌==◌, ◌&&◌, Option, Some, None, if◌then◌else◌, slice_get}
 use Rattle.std.specs.List.{find}
 use Rattle.std.specs.Str.{bytes_eq}
-use Rattle.nm_schema_rows.specs.declared.word.Word.{Word}
-use Rattle.nm_schema_rows.specs.declared.row.Row.{Row}
-use Rattle.nm_schema_rows.specs.Rows.{has_word}
-use Rattle.nm_schema_shape.specs.Arguments.{argument_at}
-use Rattle.nm_schema_shape.specs.Members.{members}
-use Rattle.nm_schema_shape.specs.Passing.{kept_members}
+use Rattle.nm_schema_statements.specs.declared.word.Word.{Word}
+use Rattle.nm_schema_statements.specs.declared.row.Row.{Row}
+use Rattle.nm_schema_statements.specs.Rows.{has_word}
+use Rattle.nm_schema_uses.specs.Arguments.{argument_at}
+use Rattle.nm_schema_uses.specs.Members.{members}
+use Rattle.nm_schema_uses.specs.Passing.{kept_members}
 use Rattle.nm_schema_keys.specs.declared.found.Found.{Found}
 use Rattle.nm_schema_keys.specs.declared.found.Found.TheVariants as found
 use Rattle.nm_schema_keys.specs.ConfigUse.{is_lost}
@@ -17,6 +17,7 @@ use Rattle.nm_schema_keys.specs.Words.{own_name}
 unfoldable pub is_called : List Row → List ℕ → ℕ → Bool
 is_called rows name i = bytes_eq (argument_at rows i) name
 
+-- a name leads to a row, or to none
 abbrev pub row_or_missing : Option ℕ → Found
 row_or_missing None = found.Missing
 row_or_missing (Some i) = found.Row i
@@ -53,10 +54,12 @@ fitting rows loses wanted (found.Row i) = if is_fit rows loses wanted i then fou
 fitting rows loses wanted found.Missing = found.Missing
 fitting rows loses wanted found.Unknown = found.Unknown
 
+-- where a name leads among some nodes; without a name nowhere
 abbrev pub named_among : List Row → Option (List ℕ) → Option (List ℕ) → Found
 named_among rows nodes None = found.Missing
 named_among rows nodes (Some name) = found_among rows nodes name
 
+-- where a name leads among the members of row i; without a name nowhere
 abbrev pub member_called : List Row → List (Option ℕ) → Bool → ℕ → Option (List ℕ) → Found
 member_called rows groupings loses i None = found.Missing
 member_called rows groupings loses i (Some name) = member_named rows groupings loses i name

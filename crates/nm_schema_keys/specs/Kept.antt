@@ -2,9 +2,9 @@
 use Rattle.std.specs.Prelude.{◌≡◌, ℕ, List, Option, IfSome}
 use Rattle.std.specs.Ordering.{nat_cmp}
 use Rattle.std.specs.BTreeMap.{BTreeMap, get}
-use Rattle.nm_schema_rows.specs.declared.row.Row.{Row}
-use Rattle.nm_schema_shape.specs.Members.{members}
-use Rattle.nm_schema_shape.specs.Passing.{kept_members}
+use Rattle.nm_schema_statements.specs.declared.row.Row.{Row}
+use Rattle.nm_schema_uses.specs.Members.{members}
+use Rattle.nm_schema_uses.specs.Passing.{kept_members}
 use Rattle.nm_schema_keys.specs.Membership.{Sight, sight}
 
 -- what is kept of a number is its value

@@ -1,14 +1,14 @@
 -- The keys of lists (RFC 7950 section 7.8.2).
 use Rattle.std.specs.Prelude.{◌≡◌, ℕ, List, [], ◌∷◌, ◌++◌, Bool, false, ◌==◌, ◌||◌, ◌&&◌, Contains, Option, Some, None, is_some, is_none, if◌then◌else◌}
 use Rattle.std.specs.Option.{option_or}
-use Rattle.nm_schema_rows.specs.declared.word.Word.TheVariants as word
-use Rattle.nm_schema_rows.specs.declared.row.Row.{Row}
-use Rattle.nm_schema_rows.specs.declared.flaw.Flaw.{Flaw}
-use Rattle.nm_schema_rows.specs.declared.flaw.Flaw.TheVariants as flaw
-use Rattle.nm_schema_rows.specs.Word.{word_text}
-use Rattle.nm_schema_rows.specs.Text.{name_of}
-use Rattle.nm_schema_rows.specs.Rows.{first_below}
-use Rattle.nm_schema_shape.specs.Passing.{plain_members}
+use Rattle.nm_schema_statements.specs.declared.word.Word.TheVariants as word
+use Rattle.nm_schema_statements.specs.declared.row.Row.{Row}
+use Rattle.nm_schema_statements.specs.declared.flaw.Flaw.{Flaw}
+use Rattle.nm_schema_statements.specs.declared.flaw.Flaw.TheVariants as flaw
+use Rattle.nm_schema_statements.specs.Word.{word_text}
+use Rattle.nm_schema_statements.specs.Text.{name_of}
+use Rattle.nm_schema_statements.specs.Rows.{first_below}
+use Rattle.nm_schema_uses.specs.Passing.{plain_members}
 use Rattle.nm_schema_keys.specs.declared.found.Found.{Found}
 use Rattle.nm_schema_keys.specs.declared.found.Found.TheVariants as found
 use Rattle.nm_schema_keys.specs.ConfigUse.{ConfigUse, loses_state}
@@ -60,18 +60,24 @@ key_words_leafs leaf known texts = if is_none (key_words_flaw leaf texts) && kno
 
 -- ---- key statements
 
+-- what is wrong with a `key` statement, where there is one
 abbrev pub said_key_flaw : List Row → List (Option ℕ) → ConfigUse → Option Said → Option Flaw
 said_key_flaw rows groupings standing None = None
-said_key_flaw rows groupings standing (Some s) = key_words_flaw (key_leaf rows (plain_members rows groupings s.list) (loses_state standing s.list) s.owner) (words_of s.text)
+said_key_flaw rows groupings standing (Some s) =
+    key_words_flaw (key_leaf rows (plain_members rows groupings s.list) (loses_state standing s.list) s.owner) (words_of s.text)
 
 -- what is wrong with the `key` statement of row i in a list; none of other rows (RFC 7950 section 7.8.2)
 unfoldable pub key_flaw : List Row → List (Option ℕ) → ConfigUse → ℕ → Option Flaw
 key_flaw rows groupings standing i = said_key_flaw rows groupings standing (said_at rows word.Key i)
 
+-- the leafs that a `key` statement names, where there is one without a flaw
 abbrev pub said_keys : List Row → List (Option ℕ) → ConfigUse → Option Said → Option (List ℕ)
 said_keys rows groupings standing None = None
-said_keys rows groupings standing (Some s) = key_words_leafs (key_leaf rows (plain_members rows groupings s.list) (loses_state standing s.list) s.owner) (is_some (plain_members rows groupings s.list)) (words_of s.text)
+said_keys rows groupings standing (Some s) =
+    key_words_leafs (key_leaf rows (plain_members rows groupings s.list) (loses_state standing s.list) s.owner)
+    (is_some (plain_members rows groupings s.list)) (words_of s.text)
 
+-- the leafs that the `key` statement of a row names, where there is the row and it has no flaw
 abbrev pub keys_at : List Row → List (Option ℕ) → ConfigUse → Option ℕ → Option (List ℕ)
 keys_at rows groupings standing None = None
 keys_at rows groupings standing (Some i) = said_keys rows groupings standing (said_at rows word.Key i)

@@ -1,3 +1,4 @@
+-- Keys in `Keys` and unique statements in `Uniques`; before them how names lead to members of a row.
 pub mod ConfigUse
 pub mod Words
 pub mod Found

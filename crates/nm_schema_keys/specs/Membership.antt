@@ -5,7 +5,7 @@ use Rattle.std.specs.Ordering.{nat_cmp}
 use Rattle.std.specs.Cmp.Lexicographic.{slice_cmp}
 use Rattle.std.specs.BTreeMap.{BTreeMap, get_by}
 use Rattle.std.specs.Borrow.{Bor}
-use Rattle.nm_schema_rows.specs.declared.row.Row.{Row}
+use Rattle.nm_schema_statements.specs.declared.row.Row.{Row}
 use Rattle.nm_schema_keys.specs.Found.{is_called}
 
 -- the rows of modules, and the members of one of them, where these are known
@@ -13,6 +13,7 @@ pub record Membership : Type 0 where
   pub rows : List Row
   pub nodes : Option (List ℕ)
 
+-- rows with the members of one of them
 abbrev pub membership : List Row → Option (List ℕ) → Membership
 membership rows nodes = record { rows = rows; nodes = nodes }
 
@@ -22,6 +23,7 @@ pub record Sight : Type 0 where
   pub nodes : Option (List ℕ)
   pub kept : Option (List ℕ)
 
+-- rows with the members of one of them, and with those that are neither state nor in a choice that is
 abbrev pub sight : List Row → Option (List ℕ) → Option (List ℕ) → Sight
 sight rows nodes kept = record { rows = rows; nodes = nodes; kept = kept }
 

@@ -1,13 +1,13 @@
 -- What is unique in lists (RFC 7950 section 7.8.3).
 use Rattle.std.specs.Prelude.{ℕ, List, [], ◌∷◌, ◌++◌, map, filter, Bool, true, false, Option, Some, None, option_map, slice_get}
 use Rattle.std.specs.List.{find}
-use Rattle.nm_schema_rows.specs.declared.word.Word.{Word}
-use Rattle.nm_schema_rows.specs.declared.word.Word.TheVariants as word
-use Rattle.nm_schema_rows.specs.declared.row.Row.{Row}
-use Rattle.nm_schema_rows.specs.declared.flaw.Flaw.{Flaw}
-use Rattle.nm_schema_rows.specs.declared.flaw.Flaw.TheVariants as flaw
-use Rattle.nm_schema_rows.specs.Word.{word_text}
-use Rattle.nm_schema_rows.specs.Rows.{has_word, children}
+use Rattle.nm_schema_statements.specs.declared.word.Word.{Word}
+use Rattle.nm_schema_statements.specs.declared.word.Word.TheVariants as word
+use Rattle.nm_schema_statements.specs.declared.row.Row.{Row}
+use Rattle.nm_schema_statements.specs.declared.flaw.Flaw.{Flaw}
+use Rattle.nm_schema_statements.specs.declared.flaw.Flaw.TheVariants as flaw
+use Rattle.nm_schema_statements.specs.Word.{word_text}
+use Rattle.nm_schema_statements.specs.Rows.{has_word, children}
 use Rattle.nm_graph.specs.Value.{all_there}
 use Rattle.nm_schema_keys.specs.declared.found.Found.{Found}
 use Rattle.nm_schema_keys.specs.declared.found.Found.TheVariants as found
@@ -44,12 +44,14 @@ passage_from found.Unknown next = passage.Unknown
 -- the rows that pieces of a word lead through from row i
 abbrev pub passage_along : List Row → List (Option ℕ) → Bool → ℕ → ℕ → List (List ℕ) → Passage
 passage_along rows groupings loses m i [] = passage.Through []
-passage_along rows groupings loses m i (piece ∷ pieces) = passage_from (next_row rows groupings loses m i piece pieces) (λ j. passage_along rows groupings loses m j pieces)
+passage_along rows groupings loses m i (piece ∷ pieces) =
+    passage_from (next_row rows groupings loses m i piece pieces) (λ j. passage_along rows groupings loses m j pieces)
 
 -- the rows that a word leads through from list l: containers, and a leaf at last (RFC 7950 section 7.8.3)
 unfoldable pub passage_of : List Row → List (Option ℕ) → Bool → ℕ → ℕ → List ℕ → Passage
 passage_of rows groupings loses m l text = passage_along rows groupings loses m l (pieces_of text)
 
+-- a word leads to no row that fits
 abbrev pub is_missing : Passage → Bool
 is_missing passage.Missing = true
 is_missing (passage.Through way) = false
@@ -59,6 +61,7 @@ is_missing passage.Unknown = false
 unfoldable pub leads_nowhere : List Row → List (Option ℕ) → Bool → ℕ → ℕ → List ℕ → Bool
 leads_nowhere rows groupings loses m l text = is_missing (passage_of rows groupings loses m l text)
 
+-- the rows that a word leads through, where it leads to a leaf
 abbrev pub way_through : Passage → Option (List ℕ)
 way_through (passage.Through way) = Some way
 way_through passage.Missing = None
@@ -80,14 +83,17 @@ unique_words_ways way (text ∷ texts) = all_there (map way (text ∷ texts))
 
 -- ---- `unique` statements
 
+-- what is wrong with a `unique` statement, where there is one
 abbrev pub said_unique_flaw : List Row → List (Option ℕ) → ConfigUse → Option Said → Option Flaw
 said_unique_flaw rows groupings standing None = None
-said_unique_flaw rows groupings standing (Some s) = unique_words_flaw (leads_nowhere rows groupings (loses_state standing s.list) s.owner s.list) (words_of s.text)
+said_unique_flaw rows groupings standing (Some s) =
+    unique_words_flaw (leads_nowhere rows groupings (loses_state standing s.list) s.owner s.list) (words_of s.text)
 
 -- what is wrong with the `unique` statement of row i in a list; none of other rows (RFC 7950 section 7.8.3)
 unfoldable pub unique_flaw : List Row → List (Option ℕ) → ConfigUse → ℕ → Option Flaw
 unique_flaw rows groupings standing i = said_unique_flaw rows groupings standing (said_at rows word.Unique i)
 
+-- the ways of the words of a `unique` statement, where there is one
 abbrev pub said_unique : List Row → List (Option ℕ) → ConfigUse → Option Said → Option (List (List ℕ))
 said_unique rows groupings standing None = None
 said_unique rows groupings standing (Some s) = unique_words_ways (way_of rows groupings (loses_state standing s.list) s.owner s.list) (words_of s.text)
@@ -96,6 +102,7 @@ said_unique rows groupings standing (Some s) = unique_words_ways (way_of rows gr
 unfoldable pub unique_at : List Row → List (Option ℕ) → ConfigUse → ℕ → Option (List (List ℕ))
 unique_at rows groupings standing i = said_unique rows groupings standing (said_at rows word.Unique i)
 
+-- row i is a `unique` statement
 unfoldable pub is_unique : List Row → ℕ → Bool
 is_unique rows i = has_word word.Unique (slice_get rows i)
 

@@ -1,7 +1,7 @@
 //! Where names lead among the members of many rows.
 
 ghost use Rattle.std.specs.Prelude.{◌≡◌, IfOk, IfSome};
-ghost use Rattle.nm_schema_shape.specs.Config.{is_state};
+ghost use Rattle.nm_schema_uses.specs.Config.{is_state};
 ghost use Rattle.nm_schema_keys.specs.Found as spec;
 ghost use Rattle.nm_schema_keys.specs.Kept.{members_at};
 
@@ -10,8 +10,8 @@ use crate::seen::Seen;
 use crate::words::own_name;
 use nm_base::NoMemory;
 use nm_schema_names::RowNames;
-use nm_schema_rows::Word;
-use nm_schema_shape::Shape;
+use nm_schema_statements::Word;
+use nm_schema_uses::Shape;
 use std::alloc::Global;
 use std::collections::BTreeMap;
 use std::marker::Model;
@@ -34,15 +34,16 @@ pub struct Finder<'n, 'a, 's> {
 
 impl<'n, 'a, 's> Model for Finder<'n, 'a, 's> {
     ghost use Rattle.std.specs.Prelude.{◌≡◌};
-    ghost use Rattle.nm_schema_shape.specs.Config.{is_state};
-    ghost use Rattle.nm_schema_shape.specs.Outline.{Outline};
+    ghost use Rattle.nm_schema_uses.specs.Config.{is_state};
+    ghost use Rattle.nm_schema_uses.specs.Outline.{Outline};
     ghost use Rattle.nm_schema_keys.specs.Kept.{Keeps, members_at};
 
     ghost Value = { Outline };
 
     ghost view = { λ f. f.shape.now };
 
-    ghost invariant = { λ f. (f.names.now ≡ f.shape.now.rows) × Keeps (members_at f.shape.now.rows f.shape.now.groupings) f.members × Keeps (is_state f.shape.now.rows) f.states };
+    ghost invariant = { λ f. (f.names.now ≡ f.shape.now.rows)
+        × Keeps (members_at f.shape.now.rows f.shape.now.groupings) f.members × Keeps (is_state f.shape.now.rows) f.states };
 }
 
 impl<'n, 'a, 's> Finder<'n, 'a, 's> {

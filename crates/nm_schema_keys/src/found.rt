@@ -1,15 +1,15 @@
 //! Where a name leads, and what fits there.
 
 ghost use Rattle.std.specs.Prelude.{◌≡◌, Some, is_some, slice_get};
-ghost use Rattle.nm_schema_rows.specs.Rows.{has_word};
-ghost use Rattle.nm_schema_shape.specs.Arguments.{argument_at};
-ghost use Rattle.nm_schema_shape.specs.Config.{is_state, says_false};
-ghost use Rattle.nm_schema_shape.specs.Holding.{is_node};
+ghost use Rattle.nm_schema_statements.specs.Rows.{has_word};
+ghost use Rattle.nm_schema_uses.specs.Arguments.{argument_at};
+ghost use Rattle.nm_schema_uses.specs.Config.{is_state, says_false};
+ghost use Rattle.nm_schema_uses.specs.Holding.{is_node};
 ghost use Rattle.nm_schema_keys.specs.ConfigUse.{ConfigUse, IsConfigUse, is_lost, loses_state};
 ghost use Rattle.nm_schema_keys.specs.Found as spec;
 
-use nm_schema_rows::{Flaw, Rows, Word};
-use nm_schema_shape::Shape;
+use nm_schema_statements::{Flaw, Rows, Word};
+use nm_schema_uses::Shape;
 
 /// Where a name leads.
 #[derive(Clone, Copy)]
@@ -23,7 +23,7 @@ pub enum Found {
 }
 
 /// The argument of a row, and an empty text where it has none.
-#[tactic(auto, unfolding(nm_schema_shape::specs::Arguments::argument_at))]
+#[tactic(auto, unfolding(nm_schema_uses::specs::Arguments::argument_at))]
 pub(crate) fn argument_at(rows: &Rows, at: usize) -> &str
     ensures { result.now ≡ argument_at rows.now at }
 {
@@ -54,7 +54,7 @@ fn is_node(word: Word) -> bool
     }
 }
 
-#[tactic(auto, unfolding(nm_schema_shape::specs::Config::is_false))]
+#[tactic(auto, unfolding(nm_schema_uses::specs::Config::is_false))]
 fn says_false(rows: &Rows, config: Option<usize>) -> bool
     ensures { result ≡ says_false rows.now config }
 {
@@ -65,7 +65,7 @@ fn says_false(rows: &Rows, config: Option<usize>) -> bool
 }
 
 /// Whether a row is a node or a choice that has `config false` directly.
-#[tactic(auto, unfolding(nm_schema_shape::specs::Config::is_state))]
+#[tactic(auto, unfolding(nm_schema_uses::specs::Config::is_state))]
 pub(crate) fn is_state(rows: &Rows, at: usize) -> bool
     ensures { result ≡ is_state rows.now at }
 {

@@ -12,8 +12,8 @@ use crate::said::{Said, said_at};
 use crate::words::words_of;
 use nm_base::{Label, NoMemory};
 use nm_schema_names::RowNames;
-use nm_schema_rows::{Flaw, Word, name_of};
-use nm_schema_shape::Shape;
+use nm_schema_statements::{Flaw, Word, name_of};
+use nm_schema_uses::Shape;
 use std::alloc::Global;
 
 // The leaf that a word of a key names.
@@ -54,8 +54,10 @@ fn words_flaw<'a>(
     words: &[&'a str],
     keys: &mut Keys,
 ) -> Result<Option<Flaw>, NoMemory>
-    ensures flaw { IfOk result (λ flaw. flaw ≡ spec.words_flaw (spec.key_leaf members.now.rows members.now.nodes loses owner) keys.old (map (λ t. t.now) words.now)) }
-    ensures keys { IfOk result (λ flaw. flaw ≡ None → keys.new ≡ keys.old ++ spec.leafs_named (spec.key_leaf members.now.rows members.now.nodes loses owner) (map (λ t. t.now) words.now)) }
+    ensures flaw { IfOk result
+        (λ flaw. flaw ≡ spec.words_flaw (spec.key_leaf members.now.rows members.now.nodes loses owner) keys.old (map (λ t. t.now) words.now)) }
+    ensures keys { IfOk result (λ flaw. flaw ≡ None
+        → keys.new ≡ keys.old ++ spec.leafs_named (spec.key_leaf members.now.rows members.now.nodes loses owner) (map (λ t. t.now) words.now)) }
 {
     for word in words {
         let found = key_leaf(members, loses, owner, word);
@@ -82,8 +84,10 @@ fn key_words_flaw<'a>(
     keys: &mut Keys,
 ) -> Result<Option<Flaw>, NoMemory>
     requires { keys.old ≡ [] }
-    ensures flaw { IfOk result (λ flaw. flaw ≡ spec.key_words_flaw (spec.key_leaf members.now.rows members.now.nodes loses owner) (map (λ t. t.now) words.now)) }
-    ensures keys { IfOk result (λ flaw. flaw ≡ None → keys.new ≡ spec.leafs_named (spec.key_leaf members.now.rows members.now.nodes loses owner) (map (λ t. t.now) words.now)) }
+    ensures flaw { IfOk result
+        (λ flaw. flaw ≡ spec.key_words_flaw (spec.key_leaf members.now.rows members.now.nodes loses owner) (map (λ t. t.now) words.now)) }
+    ensures keys { IfOk result (λ flaw. flaw ≡ None
+        → keys.new ≡ spec.leafs_named (spec.key_leaf members.now.rows members.now.nodes loses owner) (map (λ t. t.now) words.now)) }
 {
     if words.is_empty() {
         return Ok(Some(Flaw::BadArgument(Label::new(alloc, Word::Key.text())?)));
@@ -100,8 +104,10 @@ fn said_flaw<'a>(
     keys: &mut Keys,
 ) -> Result<Option<Flaw>, NoMemory>
     requires { keys.old ≡ [] }
-    ensures flaw { IfOk result (λ flaw. flaw ≡ spec.key_words_flaw (spec.key_leaf members.now.rows members.now.nodes loses said.now.owner) (words_of said.now.text)) }
-    ensures keys { IfOk result (λ flaw. flaw ≡ None → keys.new ≡ spec.leafs_named (spec.key_leaf members.now.rows members.now.nodes loses said.now.owner) (words_of said.now.text)) }
+    ensures flaw { IfOk result
+        (λ flaw. flaw ≡ spec.key_words_flaw (spec.key_leaf members.now.rows members.now.nodes loses said.now.owner) (words_of said.now.text)) }
+    ensures keys { IfOk result (λ flaw. flaw ≡ None
+        → keys.new ≡ spec.leafs_named (spec.key_leaf members.now.rows members.now.nodes loses said.now.owner) (words_of said.now.text)) }
 {
     let words = words_of(alloc, said.text)?;
     key_words_flaw(alloc, members, loses, said.owner, &words, keys)
@@ -119,7 +125,8 @@ pub fn key_flaw(
     at: usize,
 ) -> Result<Option<Flaw>, NoMemory>
     requires { names.now ≡ shape.now.rows }
-    ensures { (standing : ConfigUse) → IsConfigUse shape.now.rows shape.now.groupings standing → IfOk result (λ flaw. flaw ≡ spec.key_flaw shape.now.rows shape.now.groupings standing at) }
+    ensures { (standing : ConfigUse) → IsConfigUse shape.now.rows shape.now.groupings standing
+        → IfOk result (λ flaw. flaw ≡ spec.key_flaw shape.now.rows shape.now.groupings standing at) }
 {
     let said = match said_at(names.rows(), Word::Key, at) {
         None => return Ok(None),
@@ -139,7 +146,9 @@ fn said_keys<'a>(
     loses: bool,
     said: &Said<'a>,
 ) -> Result<Option<Keys>, NoMemory>
-    ensures exact { IfOk result (λ keys. keys ≡ spec.key_words_leafs (spec.key_leaf members.now.rows members.now.nodes loses said.now.owner) (is_some members.now.nodes) (words_of said.now.text)) }
+    ensures exact { IfOk result (λ keys. keys
+        ≡ spec.key_words_leafs (spec.key_leaf members.now.rows members.now.nodes loses said.now.owner)
+        (is_some members.now.nodes) (words_of said.now.text)) }
     ensures within { IfOk result (λ keys. IfSome keys (All (λ leaf. leaf < length members.now.rows))) }
 {
     if !members.are_known() {
@@ -162,7 +171,8 @@ pub fn keys_of(
     list: usize,
 ) -> Result<Option<Keys>, NoMemory>
     requires { names.now ≡ shape.now.rows }
-    ensures exact { (standing : ConfigUse) → IsConfigUse shape.now.rows shape.now.groupings standing → IfOk result (λ keys. keys ≡ spec.keys_of shape.now.rows shape.now.groupings standing list) }
+    ensures exact { (standing : ConfigUse) → IsConfigUse shape.now.rows shape.now.groupings standing
+        → IfOk result (λ keys. keys ≡ spec.keys_of shape.now.rows shape.now.groupings standing list) }
     ensures within { IfOk result (λ keys. IfSome keys (All (λ leaf. leaf < length shape.now.rows))) }
 {
     let at = match names.rows().first_below(list, Word::Key) {

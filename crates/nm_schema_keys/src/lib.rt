@@ -1,6 +1,6 @@
 //! The keys of YANG's lists, and what is unique in them.
 //!
-//! Stands on `nm_base`, `nm_schema_rows`, `nm_graph`, `nm_schema_names`, `nm_schema_shape` and `nm_yang`. The layers above rely on the flaw of
+//! Stands on `nm_base`, `nm_schema_statements`, `nm_graph`, `nm_schema_names`, `nm_schema_uses` and `nm_yang`. The layers above rely on the flaw of
 //! each `key` and `unique` statement, on the key leafs of each list in their order, on the rows that each word of a `unique`
 //! leads through, and on which leafs are keys.
 #![tactic(auto)]

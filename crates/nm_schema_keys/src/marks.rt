@@ -1,14 +1,14 @@
 //! Which leafs are keys.
 
 ghost use Rattle.std.specs.Prelude.{◌≡◌, ◌<◌, ◌||◌, ℕ, All, IfOk, OnOk, false, length, slice_index_or};
-ghost use Rattle.nm_schema_shape.specs.Config.{Marks};
+ghost use Rattle.nm_schema_uses.specs.Config.{Marks};
 ghost use Rattle.nm_schema_keys.specs.ConfigUse.{ConfigUse, IsConfigUse};
 ghost use Rattle.nm_schema_keys.specs.Keys.{IsKey, has_row, has_known, keys_of};
 
 use crate::key::keys_of;
 use nm_base::NoMemory;
 use nm_schema_names::RowNames;
-use nm_schema_shape::Shape;
+use nm_schema_uses::Shape;
 use std::alloc::Global;
 
 // Marks some rows.
@@ -33,7 +33,9 @@ fn mark_list(
     requires rows { names.now ≡ shape.now.rows }
     requires size { length marks.old.items ≡ length shape.now.rows }
     ensures size { length marks.new.items ≡ length marks.old.items }
-    ensures marked { (standing : ConfigUse) → IsConfigUse shape.now.rows shape.now.groupings standing → OnOk result ((i : ℕ) → slice_index_or marks.new.items i false ≡ (has_known (keys_of shape.now.rows shape.now.groupings standing list) i || slice_index_or marks.old.items i false)) }
+    ensures marked { (standing : ConfigUse) → IsConfigUse shape.now.rows shape.now.groupings standing
+        → OnOk result ((i : ℕ) → slice_index_or marks.new.items i false
+        ≡ (has_known (keys_of shape.now.rows shape.now.groupings standing list) i || slice_index_or marks.old.items i false)) }
 {
     match keys_of(alloc, names, shape, list) {
         Ok(Some(keys)) => {
@@ -54,7 +56,8 @@ pub fn key_leafs(
 ) -> Result<Vec<bool>, NoMemory>
     requires { names.now ≡ shape.now.rows }
     ensures size { IfOk result (λ marks. length marks.items ≡ length shape.now.rows) }
-    ensures marks { (standing : ConfigUse) → IsConfigUse shape.now.rows shape.now.groupings standing → IfOk result (λ marks. Marks (IsKey shape.now.rows shape.now.groupings standing) marks.items) }
+    ensures marks { (standing : ConfigUse) → IsConfigUse shape.now.rows shape.now.groupings standing
+        → IfOk result (λ marks. Marks (IsKey shape.now.rows shape.now.groupings standing) marks.items) }
 {
     names.rows().laws();
     let mut marks = vec![in alloc; false; names.rows().len()]?;

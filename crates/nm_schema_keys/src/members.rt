@@ -1,8 +1,8 @@
 //! The members of a statement by name.
 
 ghost use Rattle.std.specs.Prelude.{◌≡◌, [], IfOk, is_some, length, unwrap_or};
-ghost use Rattle.nm_schema_shape.specs.Members as shape_spec;
-ghost use Rattle.nm_schema_shape.specs.Passing as passing;
+ghost use Rattle.nm_schema_uses.specs.Members as shape_spec;
+ghost use Rattle.nm_schema_uses.specs.Passing as passing;
 ghost use Rattle.nm_schema_keys.specs.Found as spec;
 ghost use Rattle.nm_schema_keys.specs.Membership.{Leads, membership};
 
@@ -10,8 +10,8 @@ use crate::found::{Found, argument_at, fitting};
 use crate::words::own_name;
 use nm_base::NoMemory;
 use nm_schema_names::RowNames;
-use nm_schema_rows::Word;
-use nm_schema_shape::{Nodes, Shape};
+use nm_schema_statements::Word;
+use nm_schema_uses::{Nodes, Shape};
 use std::alloc::Global;
 use std::collections::BTreeMap;
 use std::marker::Model;

@@ -1,12 +1,12 @@
 //! Statements that stand in lists.
 
 ghost use Rattle.std.specs.Prelude.{◌≡◌};
-ghost use Rattle.nm_schema_rows.specs.Flaw.{text_of};
+ghost use Rattle.nm_schema_statements.specs.Flaw.{text_of};
 ghost use Rattle.nm_schema_keys.specs.Said as spec;
 
 use crate::found::has_word;
 use nm_base::Label;
-use nm_schema_rows::{Row, Rows, Word};
+use nm_schema_statements::{Row, Rows, Word};
 use std::marker::Model;
 
 /// A statement that stands in a list.

@@ -8,7 +8,7 @@ use crate::found::Found;
 use crate::members::Members;
 use nm_base::NoMemory;
 use nm_schema_names::RowNames;
-use nm_schema_shape::Shape;
+use nm_schema_uses::Shape;
 use std::alloc::Global;
 use std::marker::Model;
 

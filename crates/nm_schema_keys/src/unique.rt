@@ -13,8 +13,8 @@ use crate::said::{Said, said_at};
 use crate::words::{pieces_of, words_of};
 use nm_base::{Label, NoMemory, Numbers};
 use nm_schema_names::RowNames;
-use nm_schema_rows::{Flaw, Rows, Word};
-use nm_schema_shape::Shape;
+use nm_schema_statements::{Flaw, Rows, Word};
+use nm_schema_uses::Shape;
 use std::alloc::Global;
 use std::marker::Model;
 
@@ -109,7 +109,8 @@ impl<'n, 'a, 's> Finder<'n, 'a, 's> {
         pieces: &[&'a str],
     ) -> Result<Found, NoMemory>
         ensures same { self.new ≡ self.old }
-        ensures found { IfOk result (λ found. found ≡ spec.next_row self.old.rows self.old.groupings start.loses start.owner at piece.now (map (λ t. t.now) pieces.now)) }
+        ensures found { IfOk result
+            (λ found. found ≡ spec.next_row self.old.rows self.old.groupings start.loses start.owner at piece.now (map (λ t. t.now) pieces.now)) }
     {
         let wanted = word_before(pieces);
         self.fit(alloc, at, start.loses, start.owner, wanted, piece)
@@ -123,7 +124,8 @@ impl<'n, 'a, 's> Finder<'n, 'a, 's> {
         pieces: &[&'a str],
     ) -> Result<Passage, NoMemory>
         ensures same { self.new ≡ self.old }
-        ensures passage { IfOk result (λ passage. passage ≡ spec.passage_along self.old.rows self.old.groupings start.loses start.owner start.list (map (λ t. t.now) pieces.now)) }
+        ensures passage { IfOk result (λ passage. passage
+            ≡ spec.passage_along self.old.rows self.old.groupings start.loses start.owner start.list (map (λ t. t.now) pieces.now)) }
     {
         let mut way = Numbers::new(alloc);
         let mut at = start.list;
@@ -194,7 +196,8 @@ impl<'n, 'a, 's> Finder<'n, 'a, 's> {
         words: &[&'a str],
     ) -> Result<Option<Label>, NoMemory>
         ensures same { self.new ≡ self.old }
-        ensures word { IfOk result (λ word. word ≡ find (spec.leads_nowhere self.old.rows self.old.groupings start.loses start.owner start.list) (map (λ t. t.now) words.now)) }
+        ensures word { IfOk result (λ word. word
+            ≡ find (spec.leads_nowhere self.old.rows self.old.groupings start.loses start.owner start.list) (map (λ t. t.now) words.now)) }
     {
         for word in words {
             match self.leads_nowhere(alloc, start, word) {
@@ -214,7 +217,9 @@ impl<'n, 'a, 's> Finder<'n, 'a, 's> {
         words: &[&'a str],
     ) -> Result<Option<Flaw>, NoMemory>
         ensures same { self.new ≡ self.old }
-        ensures flaw { IfOk result (λ flaw. flaw ≡ spec.unique_words_flaw (spec.leads_nowhere self.old.rows self.old.groupings start.loses start.owner start.list) (map (λ t. t.now) words.now)) }
+        ensures flaw { IfOk result (λ flaw. flaw
+            ≡ spec.unique_words_flaw (spec.leads_nowhere self.old.rows self.old.groupings start.loses start.owner start.list)
+            (map (λ t. t.now) words.now)) }
     {
         if words.is_empty() {
             return Ok(Some(Flaw::BadArgument(Label::new(alloc, Word::Unique.text())?)));
@@ -229,7 +234,8 @@ impl<'n, 'a, 's> Finder<'n, 'a, 's> {
     #[tactic(auto, unfolding(crate::specs::Uniques::unique_flaw))]
     fn unique_flaw(&mut self, alloc: Global, at: usize) -> Result<Option<Flaw>, NoMemory>
         ensures same { self.new ≡ self.old }
-        ensures flaw { (standing : ConfigUse) → IsConfigUse self.old.rows self.old.groupings standing → IfOk result (λ flaw. flaw ≡ spec.unique_flaw self.old.rows self.old.groupings standing at) }
+        ensures flaw { (standing : ConfigUse) → IsConfigUse self.old.rows self.old.groupings standing
+            → IfOk result (λ flaw. flaw ≡ spec.unique_flaw self.old.rows self.old.groupings standing at) }
     {
         let said = match said_at(self.names().rows(), Word::Unique, at) {
             None => return Ok(None),
@@ -248,7 +254,8 @@ impl<'n, 'a, 's> Finder<'n, 'a, 's> {
         words: &[&'a str],
     ) -> Result<Option<Unique>, NoMemory>
         ensures same { self.new ≡ self.old }
-        ensures ways { IfOk result (λ ways. ways ≡ all_there (map (spec.way_of self.old.rows self.old.groupings start.loses start.owner start.list) (map (λ t. t.now) words.now))) }
+        ensures ways { IfOk result (λ ways. ways
+            ≡ all_there (map (spec.way_of self.old.rows self.old.groupings start.loses start.owner start.list) (map (λ t. t.now) words.now))) }
     {
         let mut ways = Vec::new(alloc);
         for word in words {
@@ -269,7 +276,8 @@ impl<'n, 'a, 's> Finder<'n, 'a, 's> {
         words: &[&'a str],
     ) -> Result<Option<Unique>, NoMemory>
         ensures same { self.new ≡ self.old }
-        ensures ways { IfOk result (λ ways. ways ≡ spec.unique_words_ways (spec.way_of self.old.rows self.old.groupings start.loses start.owner start.list) (map (λ t. t.now) words.now)) }
+        ensures ways { IfOk result (λ ways. ways
+            ≡ spec.unique_words_ways (spec.way_of self.old.rows self.old.groupings start.loses start.owner start.list) (map (λ t. t.now) words.now)) }
     {
         if words.is_empty() {
             return Ok(None);
@@ -281,7 +289,8 @@ impl<'n, 'a, 's> Finder<'n, 'a, 's> {
     #[tactic(auto, unfolding(crate::specs::Uniques::unique_at))]
     fn unique_at(&mut self, alloc: Global, at: usize) -> Result<Option<Unique>, NoMemory>
         ensures same { self.new ≡ self.old }
-        ensures unique { (standing : ConfigUse) → IsConfigUse self.old.rows self.old.groupings standing → IfOk result (λ unique. unique ≡ spec.unique_at self.old.rows self.old.groupings standing at) }
+        ensures unique { (standing : ConfigUse) → IsConfigUse self.old.rows self.old.groupings standing
+            → IfOk result (λ unique. unique ≡ spec.unique_at self.old.rows self.old.groupings standing at) }
     {
         let said = match said_at(self.names().rows(), Word::Unique, at) {
             None => return Ok(None),
@@ -296,7 +305,9 @@ impl<'n, 'a, 's> Finder<'n, 'a, 's> {
     fn marks(&mut self, alloc: Global, count: usize) -> Result<Vec<bool>, NoMemory>
         requires { count ≡ length self.old.rows }
         ensures size { IfOk result (λ marks. length marks.items ≡ count) }
-        ensures marks { (standing : ConfigUse) → IsConfigUse self.old.rows self.old.groupings standing → IfOk result (λ marks. (at : ℕ) → slice_index_or marks.items at false ≡ is_some (spec.unique_flaw self.old.rows self.old.groupings standing at)) }
+        ensures marks { (standing : ConfigUse) → IsConfigUse self.old.rows self.old.groupings standing
+            → IfOk result (λ marks. (at : ℕ) → slice_index_or marks.items at false
+            ≡ is_some (spec.unique_flaw self.old.rows self.old.groupings standing at)) }
     {
         let mut marks = Vec::with_capacity(alloc, count)?;
         for at in 0..count {
@@ -310,7 +321,8 @@ impl<'n, 'a, 's> Finder<'n, 'a, 's> {
 
     // What each of some statements says.
     fn all_at(&mut self, alloc: Global, numbers: &[usize]) -> Result<Option<Uniques>, NoMemory>
-        ensures { (standing : ConfigUse) → IsConfigUse self.old.rows self.old.groupings standing → IfOk result (λ uniques. uniques ≡ all_there (map (spec.unique_at self.old.rows self.old.groupings standing) numbers.now)) }
+        ensures { (standing : ConfigUse) → IsConfigUse self.old.rows self.old.groupings standing
+            → IfOk result (λ uniques. uniques ≡ all_there (map (spec.unique_at self.old.rows self.old.groupings standing) numbers.now)) }
     {
         let mut all = Vec::new(alloc);
         for at in numbers {
@@ -335,7 +347,8 @@ pub fn unique_flaw(
     at: usize,
 ) -> Result<Option<Flaw>, NoMemory>
     requires { names.now ≡ shape.now.rows }
-    ensures { (standing : ConfigUse) → IsConfigUse shape.now.rows shape.now.groupings standing → IfOk result (λ flaw. flaw ≡ spec.unique_flaw shape.now.rows shape.now.groupings standing at) }
+    ensures { (standing : ConfigUse) → IsConfigUse shape.now.rows shape.now.groupings standing
+        → IfOk result (λ flaw. flaw ≡ spec.unique_flaw shape.now.rows shape.now.groupings standing at) }
 {
     let mut finder = Finder::new(alloc, names, shape);
     finder.unique_flaw(alloc, at)
@@ -351,7 +364,9 @@ pub fn flawed_uniques(
 ) -> Result<Vec<bool>, NoMemory>
     requires { names.now ≡ shape.now.rows }
     ensures size { IfOk result (λ marks. length marks.items ≡ length shape.now.rows) }
-    ensures marks { (standing : ConfigUse) → IsConfigUse shape.now.rows shape.now.groupings standing → IfOk result (λ marks. (at : ℕ) → slice_index_or marks.items at false ≡ is_some (spec.unique_flaw shape.now.rows shape.now.groupings standing at)) }
+    ensures marks { (standing : ConfigUse) → IsConfigUse shape.now.rows shape.now.groupings standing
+        → IfOk result (λ marks. (at : ℕ) → slice_index_or marks.items at false
+        ≡ is_some (spec.unique_flaw shape.now.rows shape.now.groupings standing at)) }
 {
     let mut finder = Finder::new(alloc, names, shape);
     finder.marks(alloc, names.rows().len())
@@ -386,7 +401,8 @@ pub fn uniques_of(
     list: usize,
 ) -> Result<Option<Uniques>, NoMemory>
     requires { names.now ≡ shape.now.rows }
-    ensures { (standing : ConfigUse) → IsConfigUse shape.now.rows shape.now.groupings standing → IfOk result (λ uniques. uniques ≡ spec.uniques_of shape.now.rows shape.now.groupings standing list) }
+    ensures { (standing : ConfigUse) → IsConfigUse shape.now.rows shape.now.groupings standing
+        → IfOk result (λ uniques. uniques ≡ spec.uniques_of shape.now.rows shape.now.groupings standing list) }
 {
     let numbers = uniques_among(alloc, names.rows(), names.rows().below(list))?;
     let mut finder = Finder::new(alloc, names, shape);

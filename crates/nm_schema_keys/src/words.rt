@@ -2,12 +2,12 @@
 
 ghost use Rattle.std.specs.Prelude.{◌≡◌, ◌<◌, ℕ, List, eqb, map, filter, IfOk, MatchOption, Some, None};
 ghost use Rattle.std.specs.List.{slice_split, flat_map};
-ghost use Rattle.nm_schema_rows.specs.Text.{is_some_text};
+ghost use Rattle.nm_schema_statements.specs.Text.{is_some_text};
 ghost use Rattle.nm_schema_keys.specs.Words as spec;
 
 use nm_base::NoMemory;
 use nm_schema_names::RowNames;
-use nm_schema_rows::{is_reference, name_of, prefix_of};
+use nm_schema_statements::{is_reference, name_of, prefix_of};
 use std::alloc::{AllocError, Global};
 
 // The pieces of a text, which a mark of ASCII parts.

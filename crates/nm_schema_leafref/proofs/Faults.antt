@@ -1,8 +1,8 @@
 -- Faults of paths, node by node.
 use Rattle.std.proofs.Common.{◌≡◌, ◌<◌, ◌≤◌, ◌+◌, ◌∙◌, ◌⊎◌, ◌↔◌, ◌==◌, inl, inr, ℕ, List, [], length, Contains, Bool, true, false, Option, Some, None, MatchOption, slice_index_or, refl, sym, ap, subst, arith, if◌then◌else◌}
 use Rattle.std.proofs.lemmas.Bool.{cases_lt, eqb-true}
-use Rattle.nm_schema_shape.specs.Config.{LeadsBy, one, further}
-use Rattle.nm_schema_expansion.specs.Expansion.{Expanded}
+use Rattle.nm_schema_uses.specs.Config.{LeadsBy, one, further}
+use Rattle.nm_schema_nodes.specs.Expansion.{Expanded}
 use Rattle.nm_schema_leafref.specs.declared.led.Led.{Led}
 use Rattle.nm_schema_leafref.specs.declared.led.Led.TheVariants as led
 use Rattle.nm_schema_leafref.specs.declared.fault.PathFault.{PathFault}

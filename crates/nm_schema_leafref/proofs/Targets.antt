@@ -7,17 +7,17 @@ use Rattle.nm_graph.specs.Graph as graphs
 use Rattle.nm_graph.specs.Order.{IsMarked, IsWholeOrder}
 use Rattle.nm_graph.proofs.Acyclic.{acyclic}
 use Rattle.nm_graph.proofs.Orders.{one_marked}
-use Rattle.nm_schema_shape.specs.Config.{LeadsBy, one, further, Marks}
-use Rattle.nm_schema_shape.specs.Holding.{Draws}
-use Rattle.nm_schema_shape.proofs.Graphs.{successors-past}
-use Rattle.nm_schema_expansion.specs.Expansion.{Expanded}
+use Rattle.nm_schema_uses.specs.Config.{LeadsBy, one, further, Marks}
+use Rattle.nm_schema_uses.specs.Holding.{Draws}
+use Rattle.nm_schema_uses.proofs.Graphs.{successors-past}
+use Rattle.nm_schema_nodes.specs.Expansion.{Expanded}
 use Rattle.nm_schema_leafref.specs.declared.led.Led.{Led}
 use Rattle.nm_schema_leafref.specs.declared.led.Led.TheVariants as led
 use Rattle.nm_schema_leafref.specs.declared.led.Spot.{Spot}
 use Rattle.nm_schema_leafref.specs.declared.led.Spot.TheVariants as spot
 use Rattle.nm_schema_typing.specs.Leafref.{LeafrefPath}
-use Rattle.nm_schema_rows.specs.Rows.{module_at}
-use Rattle.nm_schema_expansion.specs.Expansion.{owner_of}
+use Rattle.nm_schema_statements.specs.Rows.{module_at}
+use Rattle.nm_schema_nodes.specs.Expansion.{owner_of}
 use Rattle.nm_schema_leafref.specs.Place.{is_leaf_node}
 use Rattle.nm_schema_leafref.specs.Walk.{path_row, path_at, led_to, led_from, led_by, led_if, led_along, ended, walked, begun}
 use Rattle.nm_schema_leafref.specs.Target.{targets, target_in, up_of, IsCircular}

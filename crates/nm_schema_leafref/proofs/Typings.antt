@@ -6,12 +6,12 @@ use mathlib.Core.Path.{fun_ext}
 use Rattle.nm_graph.specs.Graph.{Graph}
 use Rattle.nm_graph.specs.Value.{strict, Holds}
 use Rattle.nm_types.specs.LeafType.{TypeOfLeaf}
-use Rattle.nm_schema_shape.specs.Holding.{Draws}
-use Rattle.nm_schema_shape.specs.Worth.{worth_within, worth_of, AreWorth}
-use Rattle.nm_schema_shape.proofs.Worths.{are_worth}
+use Rattle.nm_schema_uses.specs.Holding.{Draws}
+use Rattle.nm_schema_uses.specs.Worth.{worth_within, worth_of, AreWorth}
+use Rattle.nm_schema_uses.proofs.Worths.{are_worth}
 use Rattle.nm_schema_typing.specs.Flaws.{AreMeanings}
 use Rattle.nm_schema_typing.specs.Meaning.{Meaning}
-use Rattle.nm_schema_expansion.specs.Expansion.{Expanded, row_of}
+use Rattle.nm_schema_nodes.specs.Expansion.{Expanded, row_of}
 use Rattle.nm_schema_leafref.specs.Target.{plain_in, plain_type, plain_at, type_step, type_of_node, targets}
 use Rattle.nm_schema_leafref.specs.Known.{known_step, own_in, AreOwnTypes}
 use Rattle.nm_schema_leafref.proofs.Lists.{past}

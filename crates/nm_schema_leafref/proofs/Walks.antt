@@ -1,7 +1,7 @@
 -- Walks along paths.
 use Rattle.std.proofs.Common.{◌≡◌, ◌<◌, ◌-◌, ℕ, zero, suc, List, [], ◌∷◌, refl, sym, ap, arith}
 use Rattle.nm_schema_typing.specs.declared.leafref.NodeName.{NodeName}
-use Rattle.nm_schema_expansion.specs.Expansion.{Expanded}
+use Rattle.nm_schema_nodes.specs.Expansion.{Expanded}
 use Rattle.nm_schema_leafref.specs.declared.led.Spot.{Spot}
 use Rattle.nm_schema_leafref.specs.declared.led.Spot.TheVariants as spot
 use Rattle.nm_schema_leafref.specs.Walk.{above, raised, stepped, walked}

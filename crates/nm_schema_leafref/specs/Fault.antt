@@ -1,10 +1,10 @@
 -- What is wrong with the paths of leafrefs (RFC 7950 section 9.9).
 use Rattle.std.specs.Prelude.{◌≡◌, ℕ, ◌<◌, List, Option, Some, None, MatchOption}
-use Rattle.nm_schema_rows.specs.declared.row.Row.{Row}
-use Rattle.nm_schema_rows.specs.declared.flaw.Flaw.{Flaw}
-use Rattle.nm_schema_rows.specs.declared.flaw.Flaw.TheVariants as flaw
-use Rattle.nm_schema_rows.specs.Flaw.{text_of}
-use Rattle.nm_schema_expansion.specs.Expansion.{Expanded}
+use Rattle.nm_schema_statements.specs.declared.row.Row.{Row}
+use Rattle.nm_schema_statements.specs.declared.flaw.Flaw.{Flaw}
+use Rattle.nm_schema_statements.specs.declared.flaw.Flaw.TheVariants as flaw
+use Rattle.nm_schema_statements.specs.Flaw.{text_of}
+use Rattle.nm_schema_nodes.specs.Expansion.{Expanded}
 use Rattle.nm_schema_leafref.specs.declared.fault.PathFault.{PathFault}
 use Rattle.nm_schema_leafref.specs.declared.fault.PathFault.TheVariants as fault
 use Rattle.nm_schema_leafref.specs.declared.led.Led.TheVariants as led
@@ -40,6 +40,7 @@ abbrev pub flaw_of : Row → PathFault → Flaw
 flaw_of r fault.Missing = flaw.BadReference (text_of r.argument)
 flaw_of r fault.Circular = flaw.Cycle (text_of r.argument)
 
+-- the flaw of a row, where its path has a fault
 abbrev pub flaw_from : Row → Option PathFault → Option Flaw
 flaw_from r None = None
 flaw_from r (Some f) = Some (flaw_of r f)

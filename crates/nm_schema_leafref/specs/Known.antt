@@ -1,11 +1,11 @@
 -- What is known of the nodes of a tree as leafrefs.
 use Rattle.std.specs.Prelude.{◌≡◌, ℕ, ◌<◌, ◌==◌, List, [], ◌∷◌, length, Bool, Option, Some, None, All, if◌then◌else◌, slice_index_or}
-use Rattle.nm_schema_rows.specs.declared.row.Row.{Row}
+use Rattle.nm_schema_statements.specs.declared.row.Row.{Row}
 use Rattle.nm_graph.specs.Graph.{Graph, Leads}
 use Rattle.nm_types.specs.LeafType.{TypeOfLeaf}
 use Rattle.nm_schema_typing.specs.Leafref.{LeafrefPath}
-use Rattle.nm_schema_shape.specs.Config.{Marks}
-use Rattle.nm_schema_expansion.specs.Expansion.{Expanded}
+use Rattle.nm_schema_uses.specs.Config.{Marks}
+use Rattle.nm_schema_nodes.specs.Expansion.{Expanded}
 use Rattle.nm_schema_leafref.specs.declared.led.Led.{Led}
 use Rattle.nm_schema_leafref.specs.declared.fault.PathFault.{PathFault}
 use Rattle.nm_schema_typing.specs.Meaning.{Meaning}
@@ -40,6 +40,7 @@ pub record Scene : Type 0 where
   pub typedefs : List (Option ℕ)
   pub tree : Expanded
 
+-- a tree of modules with the typedef of each type
 abbrev pub scene : List (Option ℕ) → Expanded → Scene
 scene typedefs t = record { typedefs = typedefs; tree = t }
 

@@ -1,3 +1,4 @@
+-- Where leafrefs lead: places in the tree, the walk along a path, the target, and what is wrong.
 pub mod Place
 pub mod Walk
 pub mod Target

@@ -1,12 +1,13 @@
 -- Nodes of the tree of modules: what they stand in, what they are, and what is known of what stands in them.
 use Rattle.std.specs.Prelude.{◌≡◌, slice_index_or, ℕ, suc, zero, Bool, true, false, ◌&&◌, ◌==◌, List, length, Option, Some, None, is_some, slice_get}
-use Rattle.nm_schema_rows.specs.declared.row.Row.{Row}
-use Rattle.nm_schema_rows.specs.declared.word.Word.{Word}
-use Rattle.nm_schema_rows.specs.declared.word.Word.TheVariants as word
-use Rattle.nm_schema_shape.specs.Members.{members}
-use Rattle.nm_schema_expansion.specs.declared.instance.Instance.{Instance}
-use Rattle.nm_schema_expansion.specs.Expansion.{Expanded, row_of, owner_of, module_row, is_grown}
+use Rattle.nm_schema_statements.specs.declared.row.Row.{Row}
+use Rattle.nm_schema_statements.specs.declared.word.Word.{Word}
+use Rattle.nm_schema_statements.specs.declared.word.Word.TheVariants as word
+use Rattle.nm_schema_uses.specs.Members.{members}
+use Rattle.nm_schema_nodes.specs.declared.instance.Instance.{Instance}
+use Rattle.nm_schema_nodes.specs.Expansion.{Expanded, row_of, owner_of, module_row, is_grown}
 
+-- the node that a node stands in
 abbrev pub parent_in : Option Instance → Option ℕ
 parent_in None = None
 parent_in (Some n) = n.parent
@@ -15,6 +16,7 @@ parent_in (Some n) = n.parent
 unfoldable pub parent_of : List Instance → ℕ → Option ℕ
 parent_of nodes i = parent_in (slice_get nodes i)
 
+-- how many nodes there are from a node up to the top, itself included, as far as so many steps lead
 abbrev pub levels_within : ℕ → List Instance → Option ℕ → ℕ
 levels_within steps nodes None = 0
 levels_within zero nodes (Some i) = 0
@@ -30,10 +32,12 @@ is_leaf word.Leaf = true
 is_leaf word.LeafList = true
 is_leaf _ = false
 
+-- a row is a leaf or a leaf-list
 abbrev pub is_leaf_in : Option Row → Bool
 is_leaf_in None = false
 is_leaf_in (Some r) = is_leaf r.word
 
+-- row i is a leaf or a leaf-list
 abbrev pub is_leaf_at : List Row → Option ℕ → Bool
 is_leaf_at rows None = false
 is_leaf_at rows (Some i) = is_leaf_in (slice_get rows i)
@@ -55,6 +59,7 @@ is_known_node t i = is_known t.rows t.groupings (row_of t.nodes i)
 unfoldable pub is_known_module : Expanded → ℕ → Bool
 is_known_module t m = is_grown t.rows t.groupings m && is_known t.rows t.groupings (module_row t.rows m)
 
+-- it is module m
 abbrev pub is_number : Option ℕ → ℕ → Bool
 is_number None m = false
 is_number (Some n) m = n == m

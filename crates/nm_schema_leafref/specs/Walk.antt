@@ -1,10 +1,10 @@
 -- Where the path of a leafref leads (RFC 7950 sections 6.4.1 and 9.9.2).
 use Rattle.std.specs.Prelude.{ℕ, suc, zero, Bool, true, false, List, [], ◌∷◌, Option, Some, None, if◌then◌else◌, slice_get}
-use Rattle.nm_schema_rows.specs.declared.row.Row.{Row}
-use Rattle.nm_schema_rows.specs.declared.word.Word.TheVariants as word
-use Rattle.nm_schema_rows.specs.Word.{same_word}
-use Rattle.nm_schema_rows.specs.Flaw.{text_of}
-use Rattle.nm_schema_rows.specs.Rows.{module_at}
+use Rattle.nm_schema_statements.specs.declared.row.Row.{Row}
+use Rattle.nm_schema_statements.specs.declared.word.Word.TheVariants as word
+use Rattle.nm_schema_statements.specs.Word.{same_word}
+use Rattle.nm_schema_statements.specs.Flaw.{text_of}
+use Rattle.nm_schema_statements.specs.Rows.{module_at}
 use Rattle.nm_schema_names.specs.Named.{prefix_leads}
 use Rattle.nm_schema_typing.specs.declared.leafref.NodeName.{NodeName}
 use Rattle.nm_schema_typing.specs.declared.leafref.Start.{Start}
@@ -12,8 +12,8 @@ use Rattle.nm_schema_typing.specs.declared.leafref.Start.TheVariants.{Root, Up}
 use Rattle.nm_schema_typing.specs.Leafref.{LeafrefPath, path_read}
 use Rattle.nm_schema_typing.specs.Meaning.{Meaning, path_of}
 use Rattle.nm_schema_typing.specs.Along.{meaning_of}
-use Rattle.nm_schema_expansion.specs.Expansion.{Expanded, row_of, owner_of}
-use Rattle.nm_schema_expansion.specs.Named.{child_named, top_named}
+use Rattle.nm_schema_nodes.specs.Expansion.{Expanded, row_of, owner_of}
+use Rattle.nm_schema_nodes.specs.Named.{child_named, top_named}
 use Rattle.nm_schema_leafref.specs.declared.led.Led.{Led}
 use Rattle.nm_schema_leafref.specs.declared.led.Led.TheVariants as led
 use Rattle.nm_schema_leafref.specs.declared.led.Spot.{Spot}
@@ -22,6 +22,7 @@ use Rattle.nm_schema_leafref.specs.Place.{parent_of, is_leaf_node, is_known_node
 
 -- ---- up
 
+-- where a node is, as a place on the way of a path; above all nodes where there is none
 abbrev pub spot_at : Option ℕ → Spot
 spot_at None = spot.Root
 spot_at (Some i) = spot.Node i
@@ -45,6 +46,7 @@ begun t x (Up n) = raised t n (spot.Node x)
 
 -- ---- down
 
+-- the module that a row is of, where there is a row
 abbrev pub module_led : List Row → Option ℕ → Option ℕ
 module_led rows None = None
 module_led rows (Some i) = module_at rows i
@@ -78,6 +80,7 @@ down t (spot.Node i) (Some q) name = into_node t i q name
 down t spot.Missing q name = spot.Missing
 down t spot.Unknown q name = spot.Unknown
 
+-- the next place on the way: one node down, to a name whose prefix means what it means in module w
 unfoldable pub stepped : Expanded → ℕ → ℕ → Spot → NodeName → Spot
 stepped t w m s n = down t s (named_module t.rows w m n.prefix) n.name
 
@@ -101,6 +104,7 @@ led_along t w m x p = ended t (walked t w m (begun t x p.start) p.nodes)
 
 -- ---- leafrefs
 
+-- the path of a row, if it is a `path` statement that can be read
 abbrev pub path_in : Option Row → Option LeafrefPath
 path_in None = None
 path_in (Some r) = if same_word r.word word.Path then path_read (text_of r.argument) else None
@@ -109,10 +113,12 @@ path_in (Some r) = if same_word r.word word.Path then path_read (text_of r.argum
 unfoldable pub path_at : List Row → ℕ → Option LeafrefPath
 path_at rows p = path_in (slice_get rows p)
 
+-- the row of the path of a leafref's meaning, where there is one
 abbrev pub path_row_of : Option Meaning → Option ℕ
 path_row_of None = None
 path_row_of (Some meaning) = path_of meaning
 
+-- the meaning of a row's type, where there is a row
 abbrev pub meaning_at : List Row → List (Option ℕ) → Option ℕ → Option Meaning
 meaning_at rows typedefs None = None
 meaning_at rows typedefs (Some i) = meaning_of rows typedefs i
@@ -121,6 +127,7 @@ meaning_at rows typedefs (Some i) = meaning_of rows typedefs i
 unfoldable pub path_row : List (Option ℕ) → Expanded → ℕ → Option ℕ
 path_row typedefs t x = path_row_of (meaning_at t.rows typedefs (row_of t.nodes x))
 
+-- where a path leads from node x, once the module that it is written in, the node's module and the path are known; nowhere where one is missing
 abbrev pub led_if : Expanded → ℕ → Option ℕ → Option ℕ → Option LeafrefPath → Led
 led_if t x None m p = led.Missing
 led_if t x (Some w) None p = led.Missing
@@ -131,6 +138,7 @@ led_if t x (Some w) (Some m) (Some p) = led_along t w m x p
 unfoldable pub led_by : Expanded → ℕ → ℕ → Led
 led_by t x p = led_if t x (module_at t.rows p) (owner_of t.nodes x) (path_at t.rows p)
 
+-- where the path of a row leads, where there is one
 abbrev pub led_from : Expanded → ℕ → Option ℕ → Option Led
 led_from t x None = None
 led_from t x (Some p) = Some (led_by t x p)

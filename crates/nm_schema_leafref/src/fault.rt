@@ -1,7 +1,7 @@
 //! What is wrong with the paths of leafrefs.
 
 ghost use Rattle.std.specs.Prelude.{◌≡◌, ◌<◌, ◌↔◌, ℕ, IfOk, OnOk, None, Some, length, slice_index_or, true, false};
-ghost use Rattle.nm_schema_shape.specs.Config.{Marks};
+ghost use Rattle.nm_schema_uses.specs.Config.{Marks};
 ghost use Rattle.nm_schema_leafref.specs.Known as known;
 ghost use Rattle.nm_schema_leafref.specs.Fault as spec;
 ghost use Rattle.nm_schema_leafref.specs.Target.{IsCircular};
@@ -41,7 +41,8 @@ fn fault_of(led: Option<Led>, circular: bool) -> Option<PathFault>
 // Notes the fault of a node at the row of its path, unless that has one.
 fn note(faults: &mut Vec<Option<PathFault>>, row: Option<usize>, fault: Option<PathFault>)
     ensures size { length faults.new.items ≡ length faults.old.items }
-    ensures noted { (p : ℕ) → p < length faults.old.items → slice_index_or faults.new.items p None ≡ known.noted p row fault (slice_index_or faults.old.items p None) }
+    ensures noted { (p : ℕ) → p < length faults.old.items
+        → slice_index_or faults.new.items p None ≡ known.noted p row fault (slice_index_or faults.old.items p None) }
 {
     let Some(row) = row else {
         return;
@@ -77,7 +78,8 @@ pub fn faults<'a: 'b, 'b>(
     requires circular { Marks (IsCircular scene.now.typedefs scene.now.tree) circular.now }
     requires leds_size { length leds.now ≡ length scene.now.tree.nodes }
     ensures size { IfOk result (λ faults. length faults.items ≡ length scene.now.tree.rows) }
-    ensures faults { IfOk result (λ faults. (p : ℕ) → p < length scene.now.tree.rows → spec.HasFault scene.now.typedefs scene.now.tree p (slice_index_or faults.items p None)) }
+    ensures faults { IfOk result (λ faults. (p : ℕ) → p < length scene.now.tree.rows
+        → spec.HasFault scene.now.typedefs scene.now.tree p (slice_index_or faults.items p None)) }
 {
     let mut faults = no_faults(alloc, scene.tree().rows().len())?;
     for node in 0..leds.len() {

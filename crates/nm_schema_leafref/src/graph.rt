@@ -3,8 +3,8 @@
 ghost use Rattle.std.specs.Prelude.{◌≡◌, ◌<◌, ◌↔◌, ℕ, IsTrue, IfOk, All, Contains, IfSome, None, length, slice_index_or, true, false};
 ghost use Rattle.nm_graph.specs.Graph.{IsGraph, Leads};
 ghost use Rattle.nm_graph.specs.Order.{IsWholeOrder};
-ghost use Rattle.nm_schema_shape.specs.Config.{Marks};
-ghost use Rattle.nm_schema_shape.specs.Holding.{Draws};
+ghost use Rattle.nm_schema_uses.specs.Config.{Marks};
+ghost use Rattle.nm_schema_uses.specs.Holding.{Draws};
 ghost use Rattle.nm_schema_leafref.specs.Known as known;
 ghost use Rattle.nm_schema_leafref.specs.Target as spec;
 

@@ -3,7 +3,7 @@
 ghost use Rattle.std.specs.Prelude.{◌≡◌, IfOk, MatchOption, Some, None, length, slice_get, slice_index_or, false};
 ghost use Rattle.nm_schema_typing.specs.Flaws.{AreMeanings};
 ghost use Rattle.nm_schema_leafref.specs.Known as spec;
-ghost use Rattle.nm_schema_rows.specs.Flaw as grammar;
+ghost use Rattle.nm_schema_statements.specs.Flaw as grammar;
 ghost use Rattle.nm_schema_leafref.specs.Fault.{flaw_in};
 
 use crate::fault::{PathFault, faults};
@@ -15,12 +15,12 @@ use crate::tree::tree_of;
 use crate::types::types_of_nodes;
 use nm_base::{Label, NoMemory};
 use nm_graph::order;
-use nm_schema_expansion::Expansion;
 use nm_schema_names::RowNames;
-use nm_schema_rows::{Flaw, Rows};
-use nm_schema_shape::Shape;
+use nm_schema_nodes::Expansion;
+use nm_schema_statements::{Flaw, Rows};
+use nm_schema_tree::SharedType;
 use nm_schema_typing::Types;
-use nm_tree::SharedType;
+use nm_schema_uses::Shape;
 use std::alloc::Global;
 use std::marker::Model;
 
@@ -79,7 +79,8 @@ impl Leafrefs {
     /// The type of a leaf or leaf-list: its own, or for a leafref that of the node that it leads to, and so on. None where that
     /// leads to nothing or to a cycle, and of other nodes.
     pub fn leaf_type(&self, node: usize) -> Option<&SharedType>
-        ensures exact { MatchOption result (slice_index_or self.now.types node None ≡ None) (λ shared. slice_index_or self.now.types node None ≡ Some shared.now) }
+        ensures exact { MatchOption result (slice_index_or self.now.types node None ≡ None)
+            (λ shared. slice_index_or self.now.types node None ≡ Some shared.now) }
     {
         if node >= self.types.len() {
             return None;

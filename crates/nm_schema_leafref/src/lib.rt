@@ -1,6 +1,6 @@
 //! Leafrefs in the tree of YANG modules: where each leads, which lead to themselves, and the type of each node.
 //!
-//! Stands on `nm_schema_names`, `nm_schema_typing` and `nm_schema_expansion`, and on `nm_graph` for cycles and for types along them. The layers above rely on
+//! Stands on `nm_schema_names`, `nm_schema_typing` and `nm_schema_nodes`, and on `nm_graph` for cycles and for types along them. The layers above rely on
 //! where the path of each node leads, on how far up it goes, on the type of each node, and on the fault of each path.
 #![tactic(auto)]
 

@@ -5,7 +5,7 @@ ghost use Rattle.nm_schema_leafref.specs.Known.{ArePaths};
 ghost use Rattle.nm_schema_leafref.specs.Walk as spec;
 
 use nm_base::NoMemory;
-use nm_schema_rows::{Rows, Word};
+use nm_schema_statements::{Rows, Word};
 use nm_schema_typing::{LeafrefPath, read_path};
 use std::alloc::Global;
 use std::marker::Model;

@@ -1,15 +1,15 @@
 //! A tree of modules, and what is known of what stands in it.
 
 ghost use Rattle.std.specs.Prelude.{◌≡◌, ℕ, IfOk, false, slice_index_or};
-ghost use Rattle.nm_schema_expansion.specs.Expansion.{owner_of, row_of};
+ghost use Rattle.nm_schema_nodes.specs.Expansion.{owner_of, row_of};
 ghost use Rattle.nm_schema_leafref.specs.Place as spec;
 
 use crate::led::is_marked;
 use nm_base::NoMemory;
-use nm_schema_expansion::{Expansion, Instance};
 use nm_schema_names::RowNames;
-use nm_schema_rows::{Rows, Word};
-use nm_schema_shape::Shape;
+use nm_schema_nodes::{Expansion, Instance};
+use nm_schema_statements::{Rows, Word};
+use nm_schema_uses::Shape;
 use std::alloc::Global;
 use std::marker::Model;
 
@@ -24,7 +24,7 @@ pub struct Tree<'g, 'a, 'b> {
 }
 
 impl<'g, 'a, 'b> Model for Tree<'g, 'a, 'b> {
-    ghost use Rattle.nm_schema_expansion.specs.Expansion.{Expanded};
+    ghost use Rattle.nm_schema_nodes.specs.Expansion.{Expanded};
     ghost use Rattle.nm_schema_leafref.specs.Place.{IsTree};
 
     ghost Value = { Expanded };
@@ -45,7 +45,7 @@ fn is_known(alloc: Global, shape: &Shape<'_>, at: Option<usize>) -> Result<bool,
 }
 
 // The row of a node.
-#[tactic(auto, unfolding(nm_schema_expansion::specs::Expansion::row_of))]
+#[tactic(auto, unfolding(nm_schema_nodes::specs::Expansion::row_of))]
 fn row_of(expansion: &Expansion<'_>, at: usize) -> Option<usize>
     ensures { result ≡ row_of expansion.now.nodes at }
 {
@@ -188,7 +188,7 @@ impl<'g, 'a, 'b> Tree<'g, 'a, 'b> {
     }
 
     /// The module whose tree a node is in.
-    #[tactic(auto, unfolding(nm_schema_expansion::specs::Expansion::owner_of))]
+    #[tactic(auto, unfolding(nm_schema_nodes::specs::Expansion::owner_of))]
     pub fn owner_of(&self, at: usize) -> Option<usize>
         ensures { result ≡ owner_of self.now.nodes at }
     {

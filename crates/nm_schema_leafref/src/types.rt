@@ -6,15 +6,15 @@ ghost use Rattle.nm_graph.specs.Order.{IsWholeOrder};
 ghost use Rattle.nm_graph.specs.Value.{Holds, strict};
 ghost use Rattle.nm_types.specs.LeafType.{TypeOfLeaf};
 ghost use Rattle.nm_schema_typing.specs.Meaning.{Meaning};
-ghost use Rattle.nm_schema_expansion.specs.Expansion.{row_of};
+ghost use Rattle.nm_schema_nodes.specs.Expansion.{row_of};
 ghost use Rattle.nm_schema_leafref.specs.Known as known;
 ghost use Rattle.nm_schema_leafref.specs.Target as spec;
 
 use crate::leds::Scene;
 use nm_base::NoMemory;
 use nm_graph::{Visitor, values};
+use nm_schema_tree::SharedType;
 use nm_schema_typing::Types;
-use nm_tree::SharedType;
 use std::alloc::Global;
 
 fn copy_of(found: &Option<SharedType>) -> Result<Option<SharedType>, NoMemory>
@@ -83,7 +83,8 @@ fn plain_types<'a: 'b, 'b>(
     alloc: Global,
     scene: &Scene<'_, 'a, 'b>,
 ) -> Result<Vec<Option<SharedType>>, NoMemory>
-    ensures { IfOk result (λ all. (x : ℕ) → slice_index_or all.items x None ≡ spec.plain_at scene.now.tree.rows scene.now.typedefs (row_of scene.now.tree.nodes x)) }
+    ensures { IfOk result
+        (λ all. (x : ℕ) → slice_index_or all.items x None ≡ spec.plain_at scene.now.tree.rows scene.now.typedefs (row_of scene.now.tree.nodes x)) }
 {
     let types = scene.types();
     let tree = scene.tree();

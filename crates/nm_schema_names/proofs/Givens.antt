@@ -6,10 +6,10 @@ use Rattle.std.proofs.lemmas.Slice.Eq.{bytes_eq-Decides}
 use Rattle.std.specs.List.{position_from}
 use Rattle.std.specs.Option.{option_or}
 use Rattle.std.specs.Str.{bytes_eq}
-use Rattle.nm_schema_rows.specs.declared.word.Word.TheVariants as word
-use Rattle.nm_schema_rows.specs.declared.row.Row.{Row}
-use Rattle.nm_schema_rows.specs.Word.{word_number, same_word}
-use Rattle.nm_schema_rows.specs.Rows.{same_parent}
+use Rattle.nm_schema_statements.specs.declared.word.Word.TheVariants as word
+use Rattle.nm_schema_statements.specs.declared.row.Row.{Row}
+use Rattle.nm_schema_statements.specs.Word.{word_number, same_word}
+use Rattle.nm_schema_statements.specs.Rows.{same_parent}
 use Rattle.nm_schema_names.specs.declared.key.Reach.TheVariants as reach
 use Rattle.nm_schema_names.specs.Named.{is_called, has_key, first_keyed, named}
 

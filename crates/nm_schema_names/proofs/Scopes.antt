@@ -1,8 +1,8 @@
 -- The statements around a row, one after another.
 use Rattle.std.proofs.Common.{◌≡◌, ℕ, zero, suc, ◌-◌, ◌<◌, List, Option, Some, None, sym, ap, ◌∙◌, arith}
 use Rattle.std.specs.Option.{option_or}
-use Rattle.nm_schema_rows.specs.declared.word.Word.{Word}
-use Rattle.nm_schema_rows.specs.declared.row.Row.{Row}
+use Rattle.nm_schema_statements.specs.declared.word.Word.{Word}
+use Rattle.nm_schema_statements.specs.declared.row.Row.{Row}
 use Rattle.nm_schema_names.specs.Named.{named, parent_of}
 use Rattle.nm_schema_names.specs.Leads.{enclosing_within, innermost}
 

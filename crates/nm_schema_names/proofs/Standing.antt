@@ -4,12 +4,12 @@ use Rattle.std.proofs.lemmas.Bool.{eqb-true}
 use Rattle.std.proofs.lemmas.Slice.Eq.{bytes_eq-Decides}
 use Rattle.std.specs.Option.{option_or, IfSome}
 use Rattle.std.specs.List.{position_from}
-use Rattle.nm_schema_rows.specs.declared.word.Word.{Word}
-use Rattle.nm_schema_rows.specs.declared.row.Row.{Row}
-use Rattle.nm_schema_rows.specs.Word.{word_number}
-use Rattle.nm_schema_rows.specs.Text.{prefix_of, name_of}
-use Rattle.nm_schema_rows.specs.Rows.{same_parent, module_at, module_in}
-use Rattle.nm_schema_rows.proofs.Words.{same_words}
+use Rattle.nm_schema_statements.specs.declared.word.Word.{Word}
+use Rattle.nm_schema_statements.specs.declared.row.Row.{Row}
+use Rattle.nm_schema_statements.specs.Word.{word_number}
+use Rattle.nm_schema_statements.specs.Text.{prefix_of, name_of}
+use Rattle.nm_schema_statements.specs.Rows.{same_parent, module_at, module_in}
+use Rattle.nm_schema_statements.proofs.Words.{same_words}
 use Rattle.nm_schema_names.specs.declared.key.Reach.TheVariants as reach
 use Rattle.nm_schema_names.specs.Named.{is_called, has_key, first_keyed, named, named_in, is_own, prefix_leads}
 use Rattle.nm_schema_names.specs.Leads.{enclosing, innermost, scoped, definition_by, definition_for, definition}

@@ -11,9 +11,9 @@ use Rattle.std.specs.Ordering.{is_eq, nat_cmp, ordering_then}
 use Rattle.std.specs.Cmp.Lexicographic.{slice_cmp}
 use Rattle.std.specs.Str.{bytes_eq}
 use Rattle.std.specs.BTreeMap.{is_at}
-use Rattle.nm_schema_rows.specs.declared.row.Row.{Row}
-use Rattle.nm_schema_rows.specs.Word.{word_number}
-use Rattle.nm_schema_rows.specs.Rows.{same_parent}
+use Rattle.nm_schema_statements.specs.declared.row.Row.{Row}
+use Rattle.nm_schema_statements.specs.Word.{word_number}
+use Rattle.nm_schema_statements.specs.Rows.{same_parent}
 use Rattle.nm_schema_names.specs.declared.key.Reach.{Reach}
 use Rattle.nm_schema_names.specs.declared.key.Key.{Key}
 use Rattle.nm_schema_names.specs.Named.{space_of, has_key, first_keyed}

@@ -4,11 +4,11 @@ use Rattle.std.specs.Option.{option_or, option_to_list, IfSome}
 use Rattle.std.specs.List.{position_from}
 use Rattle.std.proofs.lemmas.Option.{IfSome_then}
 use Rattle.std.proofs.lemmas.List.Elements.{All-nil, All-cons, All-head, All-tail, All-filter, All-weaker}
-use Rattle.nm_schema_rows.specs.declared.word.Word.{Word}
-use Rattle.nm_schema_rows.specs.declared.word.Word.TheVariants as word
-use Rattle.nm_schema_rows.specs.declared.row.Row.{Row}
-use Rattle.nm_schema_rows.specs.Text.{prefix_of, name_of, is_builtin}
-use Rattle.nm_schema_rows.specs.Rows.{same_parent, those_in, children, has_word, first_with, first_below}
+use Rattle.nm_schema_statements.specs.declared.word.Word.{Word}
+use Rattle.nm_schema_statements.specs.declared.word.Word.TheVariants as word
+use Rattle.nm_schema_statements.specs.declared.row.Row.{Row}
+use Rattle.nm_schema_statements.specs.Text.{prefix_of, name_of, is_builtin}
+use Rattle.nm_schema_statements.specs.Rows.{same_parent, those_in, children, has_word, first_with, first_below}
 use Rattle.nm_schema_names.specs.declared.key.Reach.{Reach}
 use Rattle.nm_schema_names.specs.Named.{has_key, first_keyed, named, named_in, is_own, prefix_leads}
 use Rattle.nm_schema_names.specs.Leads.{enclosing, innermost, scoped, definition_by, definition_for, definition, text_leads, argument_leads, row_leads, leads_to}

@@ -1,12 +1,12 @@
 -- What is wrong with the names of a row (RFC 7950 sections 5.5, 6.2.1, 7.1.4 and 7.1.5).
 use Rattle.std.specs.Prelude.{ℕ, List, Option, Some, None, if◌then◌else◌, is_some, slice_get}
-use Rattle.nm_schema_rows.specs.declared.word.Word.{Word}
-use Rattle.nm_schema_rows.specs.declared.word.Word.TheVariants as word
-use Rattle.nm_schema_rows.specs.declared.row.Row.{Row}
-use Rattle.nm_schema_rows.specs.declared.flaw.Flaw.{Flaw}
-use Rattle.nm_schema_rows.specs.declared.flaw.Flaw.TheVariants as flaw
-use Rattle.nm_schema_rows.specs.Flaw.{is_before}
-use Rattle.nm_schema_rows.specs.Text.{is_builtin}
+use Rattle.nm_schema_statements.specs.declared.word.Word.{Word}
+use Rattle.nm_schema_statements.specs.declared.word.Word.TheVariants as word
+use Rattle.nm_schema_statements.specs.declared.row.Row.{Row}
+use Rattle.nm_schema_statements.specs.declared.flaw.Flaw.{Flaw}
+use Rattle.nm_schema_statements.specs.declared.flaw.Flaw.TheVariants as flaw
+use Rattle.nm_schema_statements.specs.Flaw.{is_before}
+use Rattle.nm_schema_statements.specs.Text.{is_builtin}
 use Rattle.nm_schema_names.specs.Named.{named, named_within, is_marker, module_named}
 use Rattle.nm_schema_names.specs.Leads.{definition}
 
@@ -42,10 +42,12 @@ text_flaw rows at r word.«Type» text = type_flaw rows at text
 text_flaw rows at r word.Uses text = reference_flaw (definition rows at word.Grouping text) text
 text_flaw rows at r _ text = None
 
+-- what is wrong with the name that an argument is; without an argument nothing is
 abbrev pub argument_flaw : List Row → ℕ → Row → Option (List ℕ) → Option Flaw
 argument_flaw rows at r None = None
 argument_flaw rows at r (Some text) = text_flaw rows at r r.word text
 
+-- what is wrong with the name of a row; where there is no row nothing is
 abbrev pub row_flaw : List Row → ℕ → Option Row → Option Flaw
 row_flaw rows at None = None
 row_flaw rows at (Some r) = argument_flaw rows at r r.argument

@@ -1,10 +1,10 @@
 -- What a row leads to, where no row may lead to itself (RFC 7950 sections 7.3, 7.12 and 7.13).
 use Rattle.std.specs.Prelude.{◌≡◌, ℕ, ◌<◌, List, [], ◌∷◌, length, filter, Bool, true, false, Option, Some, None, slice_get}
 use Rattle.nm_graph.specs.Graph.{Graph, IsGraph, successors_of}
-use Rattle.nm_schema_rows.specs.declared.word.Word.{Word}
-use Rattle.nm_schema_rows.specs.declared.word.Word.TheVariants as word
-use Rattle.nm_schema_rows.specs.declared.row.Row.{Row}
-use Rattle.nm_schema_rows.specs.Rows.{children, first_below}
+use Rattle.nm_schema_statements.specs.declared.word.Word.{Word}
+use Rattle.nm_schema_statements.specs.declared.word.Word.TheVariants as word
+use Rattle.nm_schema_statements.specs.declared.row.Row.{Row}
+use Rattle.nm_schema_statements.specs.Rows.{children, first_below}
 use Rattle.nm_schema_names.specs.Leads.{leads_to}
 
 -- what makes nodes of data where it stands (RFC 7950 sections 7.5 to 7.9 and 7.13)
@@ -18,10 +18,12 @@ is_part word.Choice = true
 is_part word.Case = true
 is_part _ = false
 
+-- a row makes nodes of data where it stands
 abbrev pub is_part_in : Option Row → Bool
 is_part_in None = false
 is_part_in (Some r) = is_part r.word
 
+-- row i makes nodes of data where it stands (RFC 7950 sections 7.5 to 7.9 and 7.13)
 abbrev pub is_part_at : List Row → ℕ → Bool
 is_part_at rows i = is_part_in (slice_get rows i)
 
@@ -29,6 +31,7 @@ is_part_at rows i = is_part_in (slice_get rows i)
 unfoldable pub parts : List Row → ℕ → List ℕ
 parts rows i = filter (is_part_at rows) (children rows i)
 
+-- a row as a list of one, and no row as the empty list
 abbrev pub listed : Option ℕ → List ℕ
 listed None = []
 listed (Some i) = i ∷ []
@@ -48,6 +51,7 @@ word_leading rows i word.Uses = listed (leads_to rows i)
 word_leading rows i word.«Type» = listed (leads_to rows i)
 word_leading rows i _ = []
 
+-- what row i leads to; where there is no row, nothing
 abbrev pub row_leading : List Row → ℕ → Option Row → List ℕ
 row_leading rows i None = []
 row_leading rows i (Some r) = word_leading rows i r.word

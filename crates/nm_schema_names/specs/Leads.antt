@@ -1,10 +1,10 @@
 -- Where the names of types and groupings lead (RFC 7950 sections 5.5, 7.3, 7.12 and 7.13).
 use Rattle.std.specs.Prelude.{ℕ, zero, suc, List, [], ◌∷◌, Option, Some, None, if◌then◌else◌, slice_get}
 use Rattle.std.specs.Option.{option_or}
-use Rattle.nm_schema_rows.specs.declared.word.Word.{Word}
-use Rattle.nm_schema_rows.specs.declared.word.Word.TheVariants as word
-use Rattle.nm_schema_rows.specs.declared.row.Row.{Row}
-use Rattle.nm_schema_rows.specs.Text.{prefix_of, name_of, is_builtin}
+use Rattle.nm_schema_statements.specs.declared.word.Word.{Word}
+use Rattle.nm_schema_statements.specs.declared.word.Word.TheVariants as word
+use Rattle.nm_schema_statements.specs.declared.row.Row.{Row}
+use Rattle.nm_schema_statements.specs.Text.{prefix_of, name_of, is_builtin}
 use Rattle.nm_schema_names.specs.Named.{named, named_in, is_own, prefix_leads, parent_of}
 
 -- the statements around a row that stands in `parent`, from inside out; at most so many
@@ -32,6 +32,7 @@ definition_by rows at w m None name = scoped rows at w name
 definition_by rows at w m (Some prefix) name =
     if is_own rows m prefix then scoped rows at w name else named_in rows (prefix_leads rows m prefix) w name
 
+-- the definition of a name as a row writes it, in the row's own module or in that of the prefix
 abbrev pub definition_for : List Row → ℕ → Word → List ℕ → Option Row → Option ℕ
 definition_for rows at w text None = None
 definition_for rows at w text (Some r) = definition_by rows at w r.«module» (prefix_of text) (name_of text)
@@ -46,10 +47,12 @@ text_leads rows at word.«Type» text = if is_builtin text then None else defini
 text_leads rows at word.Uses text = definition rows at word.Grouping text
 text_leads rows at _ text = None
 
+-- what an argument leads to; a statement without one leads nowhere
 abbrev pub argument_leads : List Row → ℕ → Word → Option (List ℕ) → Option ℕ
 argument_leads rows at w None = None
 argument_leads rows at w (Some text) = text_leads rows at w text
 
+-- the definition that the name of a row leads to
 abbrev pub row_leads : List Row → ℕ → Option Row → Option ℕ
 row_leads rows at None = None
 row_leads rows at (Some r) = argument_leads rows at r.word r.argument

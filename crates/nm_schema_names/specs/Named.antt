@@ -3,11 +3,11 @@ use Rattle.std.specs.Prelude.{ℕ, List, codes, Bool, false, ◌==◌, ◌&&◌,
 use Rattle.std.specs.Str.{bytes_eq}
 use Rattle.std.specs.List.{position_from}
 use Rattle.nm_base.specs.Words.{marker_name}
-use Rattle.nm_schema_rows.specs.declared.word.Word.{Word}
-use Rattle.nm_schema_rows.specs.declared.word.Word.TheVariants as word
-use Rattle.nm_schema_rows.specs.declared.row.Row.{Row}
-use Rattle.nm_schema_rows.specs.Word.{word_number, same_word}
-use Rattle.nm_schema_rows.specs.Rows.{same_parent, roots}
+use Rattle.nm_schema_statements.specs.declared.word.Word.{Word}
+use Rattle.nm_schema_statements.specs.declared.word.Word.TheVariants as word
+use Rattle.nm_schema_statements.specs.declared.row.Row.{Row}
+use Rattle.nm_schema_statements.specs.Word.{word_number, same_word}
+use Rattle.nm_schema_statements.specs.Rows.{same_parent, roots}
 use Rattle.nm_schema_names.specs.declared.key.Reach.{Reach}
 use Rattle.nm_schema_names.specs.declared.key.Reach.TheVariants as reach
 
@@ -18,6 +18,7 @@ abbrev pub space_of : Reach → Row → Option ℕ
 space_of reach.Statement r = r.parent
 space_of reach.Module r = Some r.«module»
 
+-- an argument is this name
 abbrev pub is_called : Option (List ℕ) → List ℕ → Bool
 is_called None name = false
 is_called (Some argument) name = bytes_eq argument name
@@ -58,6 +59,7 @@ is_marker name = bytes_eq name marker_name
 unfoldable pub module_named : List Row → List ℕ → Option ℕ
 module_named rows name = if is_marker name then None else named rows None word.Module name
 
+-- the given module of a name, where there is a name
 abbrev pub module_called : List Row → Option (List ℕ) → Option ℕ
 module_called rows None = None
 module_called rows (Some name) = module_named rows name
@@ -71,10 +73,12 @@ abbrev pub imported : Option Row → Option (List ℕ)
 imported None = None
 imported (Some r) = if same_word r.word word.Import then r.argument else None
 
+-- the row of a number, where there is one
 abbrev pub row_at : List Row → Option ℕ → Option Row
 row_at rows None = None
 row_at rows (Some i) = slice_get rows i
 
+-- the row that a row stands in
 abbrev pub parent_in : Option Row → Option ℕ
 parent_in None = None
 parent_in (Some r) = r.parent

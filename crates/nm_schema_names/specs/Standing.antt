@@ -1,9 +1,9 @@
 -- Where what a name leads to stands (RFC 7950 sections 5.5, 7.3 and 7.13).
 use Rattle.std.specs.Prelude.{◌≡◌, ℕ, List, Some, slice_get, ◌⊎◌, Contains}
-use Rattle.nm_schema_rows.specs.declared.word.Word.{Word}
-use Rattle.nm_schema_rows.specs.declared.row.Row.{Row}
-use Rattle.nm_schema_rows.specs.Rows.{module_at}
-use Rattle.nm_schema_rows.specs.Text.{prefix_of, name_of}
+use Rattle.nm_schema_statements.specs.declared.word.Word.{Word}
+use Rattle.nm_schema_statements.specs.declared.row.Row.{Row}
+use Rattle.nm_schema_statements.specs.Rows.{module_at}
+use Rattle.nm_schema_statements.specs.Text.{prefix_of, name_of}
 use Rattle.nm_schema_names.specs.Named.{prefix_leads}
 use Rattle.nm_schema_names.specs.Leads.{enclosing}
 

@@ -5,7 +5,7 @@ use Rattle.std.specs.declared.cmp.Ordering.{Ordering}
 use Rattle.std.specs.Ordering.{nat_cmp, ordering_then}
 use Rattle.std.specs.Cmp.Lexicographic.{slice_cmp}
 use Rattle.std.specs.BTreeMap.{BTreeMap, get}
-use Rattle.nm_schema_rows.specs.declared.row.Row.{Row}
+use Rattle.nm_schema_statements.specs.declared.row.Row.{Row}
 use Rattle.nm_schema_names.specs.declared.key.Reach.{Reach}
 use Rattle.nm_schema_names.specs.declared.key.Key.{Key}
 use Rattle.nm_schema_names.specs.declared.table.Table.{Table}
@@ -25,4 +25,5 @@ IsTable reach rows t = (key : Key) → found t key ≡ first_keyed reach rows ke
 
 -- a row's key leads to the row, and others lead where they led
 abbrev pub Puts : Reach → Row → ℕ → BTreeMap Key ℕ → BTreeMap Key ℕ → Type 0
-Puts reach r at before after = (key : Key) → get key_cmp after key ≡ (if has_key reach key.space key.number key.name.now r then Some at else get key_cmp before key)
+Puts reach r at before after = (key : Key)
+    → get key_cmp after key ≡ (if has_key reach key.space key.number key.name.now r then Some at else get key_cmp before key)

@@ -1,12 +1,12 @@
 //! What is wrong with the names of a row.
 
 ghost use Rattle.std.specs.Prelude.{◌≡◌, IfOk};
-ghost use Rattle.nm_schema_rows.specs.Flaw as grammar;
+ghost use Rattle.nm_schema_statements.specs.Flaw as grammar;
 ghost use Rattle.nm_schema_names.specs.Flaw as spec;
 
 use crate::names::{RowNames, is_marker};
 use nm_base::{Label, NoMemory};
-use nm_schema_rows::{Flaw, Row, Word, is_builtin};
+use nm_schema_statements::{Flaw, Row, Word, is_builtin};
 
 fn is_before(first: Option<usize>, at: usize) -> bool
     ensures { result ≡ grammar.is_before first at }

@@ -5,7 +5,7 @@ ghost use Rattle.nm_schema_names.specs.Graph as spec;
 
 use crate::names::RowNames;
 use nm_base::NoMemory;
-use nm_schema_rows::Word;
+use nm_schema_statements::Word;
 use std::alloc::Global;
 
 fn is_part(word: Word) -> bool

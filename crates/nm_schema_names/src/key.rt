@@ -1,10 +1,10 @@
 //! The keys that rows are found by.
 
 ghost use Rattle.std.specs.Prelude.{◌≡◌, MatchOption, IfSome, IfNone, None, Some};
-ghost use Rattle.nm_schema_rows.specs.Word as word_spec;
+ghost use Rattle.nm_schema_statements.specs.Word as word_spec;
 ghost use Rattle.nm_schema_names.specs.Named as spec;
 
-use nm_schema_rows::Row;
+use nm_schema_statements::Row;
 
 /// What a name is looked for in.
 #[derive(Clone, Copy)]
@@ -38,7 +38,8 @@ fn space_of(reach: Reach, row: &Row) -> Option<usize>
 /// The key of a row that has an argument.
 pub fn key_of<'a>(reach: Reach, row: &'a Row) -> Option<Key<'a>>
     ensures none { IfNone result (row.now.argument ≡ None) }
-    ensures some { IfSome result (λ key. (key.space ≡ spec.space_of reach row.now) × (key.number ≡ word_spec.word_number row.now.word) × (row.now.argument ≡ Some key.name.now)) }
+    ensures some { IfSome result (λ key. (key.space ≡ spec.space_of reach row.now)
+        × (key.number ≡ word_spec.word_number row.now.word) × (row.now.argument ≡ Some key.name.now)) }
 {
     match &row.argument {
         None => None,

@@ -5,7 +5,7 @@ ghost use Rattle.nm_schema_names.specs.Leads as spec;
 ghost use Rattle.nm_schema_names.specs.Standing.{Stands};
 
 use crate::names::RowNames;
-use nm_schema_rows::{Word, is_builtin, name_of, prefix_of};
+use nm_schema_statements::{Word, is_builtin, name_of, prefix_of};
 
 impl<'a> RowNames<'a> {
     // The definition of a name in the statements around a row, from inside out.

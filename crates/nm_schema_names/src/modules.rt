@@ -5,7 +5,7 @@ ghost use Rattle.nm_schema_names.specs.Modules as spec;
 
 use indexmap::IndexMap;
 use nm_base::NoMemory;
-use nm_schema_rows::{Row, Rows, Word};
+use nm_schema_statements::{Row, Rows, Word};
 use std::alloc::Global;
 
 // Lets the name of a row that is a module lead to it, unless it leads to an earlier one.

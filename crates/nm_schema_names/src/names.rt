@@ -8,7 +8,7 @@ use crate::modules::modules_of;
 use crate::table::{Table, table_of};
 use indexmap::IndexMap;
 use nm_base::{MARKER, NoMemory};
-use nm_schema_rows::{Row, Rows, Word};
+use nm_schema_statements::{Row, Rows, Word};
 use std::alloc::Global;
 use std::marker::Model;
 
@@ -25,7 +25,7 @@ pub struct RowNames<'a> {
 
 impl<'a> Model for RowNames<'a> {
     ghost use Rattle.std.specs.Prelude.{List};
-    ghost use Rattle.nm_schema_rows.specs.declared.row.Row.{Row};
+    ghost use Rattle.nm_schema_statements.specs.declared.row.Row.{Row};
     ghost use Rattle.nm_schema_names.specs.declared.key.Reach.TheVariants as reach;
     ghost use Rattle.nm_schema_names.specs.Table.{IsTable};
     ghost use Rattle.nm_schema_names.specs.Modules.{AreModules};

@@ -5,7 +5,7 @@ ghost use Rattle.nm_schema_names.specs.Table as spec;
 
 use crate::key::{Key, Reach, key_of};
 use nm_base::NoMemory;
-use nm_schema_rows::{Row, Rows};
+use nm_schema_statements::{Row, Rows};
 use std::alloc::Global;
 use std::collections::BTreeMap;
 

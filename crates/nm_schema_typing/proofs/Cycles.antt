@@ -3,7 +3,7 @@ use Rattle.std.proofs.Common.{◌≡◌, ℕ, ◌<◌, List, Option, Some, None,
 use Rattle.nm_graph.specs.Graph.{Graph, successors_of, Leads}
 use Rattle.nm_graph.specs.Graph as graph
 use Rattle.nm_graph.specs.Order.{IsLeastCycle, IsAcyclic}
-use Rattle.nm_schema_rows.specs.declared.row.Row.{Row}
+use Rattle.nm_schema_statements.specs.declared.row.Row.{Row}
 use Rattle.nm_schema_typing.specs.TypeGraph.{leads, IsTypeGraph}
 use Rattle.nm_schema_typing.specs.Cycle.{LeadsOn, one, further, IsTypeCycle, HaveNoCycle}
 use Rattle.nm_schema_typing.proofs.Valuing.{leads_alike}

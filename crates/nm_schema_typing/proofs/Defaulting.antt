@@ -3,7 +3,7 @@ use Rattle.std.proofs.Common.{◌≡◌, refl, arith, ap, sym, ◌∙◌, ℕ, z
 use Rattle.std.proofs.lemmas.Bool.{cases_lt}
 use Rattle.nm_graph.specs.Graph.{Graph}
 use Rattle.nm_graph.specs.Value.{strict, value_of, Holds}
-use Rattle.nm_schema_rows.specs.declared.row.Row.{Row}
+use Rattle.nm_schema_statements.specs.declared.row.Row.{Row}
 use Rattle.nm_schema_typing.specs.TypeGraph.{leads, IsTypeGraph}
 use Rattle.nm_schema_typing.specs.Along.{within}
 use Rattle.nm_schema_typing.specs.Defaults.{joined, default_at, default_step, default_of}

@@ -1,7 +1,7 @@
 -- Judgements of all rows.
 use Rattle.std.proofs.Common.{◌≡◌, refl, arith, sym, ◌∙◌, ℕ, ◌<◌, ◌≤◌, List, length, Option, inl, inr, slice_index_or}
 use Rattle.std.proofs.lemmas.Bool.{cases_lt}
-use Rattle.nm_schema_rows.specs.declared.row.Row.{Row}
+use Rattle.nm_schema_statements.specs.declared.row.Row.{Row}
 use Rattle.nm_schema_typing.specs.declared.listing.Judgement.{Judgement}
 use Rattle.nm_schema_typing.specs.Flaws.{base_above}
 use Rattle.nm_schema_typing.specs.Listing.{judgement_at, judged_at, all_fine, AreJudgements}

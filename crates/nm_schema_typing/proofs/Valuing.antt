@@ -6,7 +6,7 @@ use Rattle.std.specs.declared.vec.Vec.{Vec}
 use Rattle.std.specs.declared.alloc.Global.{Global}
 use Rattle.nm_graph.specs.Graph.{Graph, successors_of}
 use Rattle.nm_graph.specs.Value.{Step, strict, all_there, value_within, value_of, Holds}
-use Rattle.nm_schema_rows.specs.declared.row.Row.{Row}
+use Rattle.nm_schema_statements.specs.declared.row.Row.{Row}
 use Rattle.nm_schema_typing.specs.TypeGraph.{leads, leads_from, IsTypeGraph}
 use Rattle.nm_schema_typing.specs.Meaning.{Meaning, meaning_step, meaning_at, first_known}
 use Rattle.nm_schema_typing.specs.Along.{within, meaning_of}

@@ -1,6 +1,6 @@
 -- Types that lead to themselves (RFC 7950 section 7.3).
 use Rattle.std.specs.Prelude.{ℕ, ◌<◌, List, Option, Contains}
-use Rattle.nm_schema_rows.specs.declared.row.Row.{Row}
+use Rattle.nm_schema_statements.specs.declared.row.Row.{Row}
 use Rattle.nm_schema_typing.specs.TypeGraph.{leads}
 use Rattle.nm_schema_typing.specs.Meaning.{Meaning}
 

@@ -5,12 +5,12 @@ use Rattle.nm_types.specs.declared.value.Value.{Value}
 use Rattle.nm_types.specs.declared.fault.ValueFault.{ValueFault}
 use Rattle.nm_types.specs.LeafType.{Kind, empty, TypeOfLeaf}
 use Rattle.nm_types.specs.Reading.{reading}
-use Rattle.nm_schema_rows.specs.declared.row.Row.{Row}
-use Rattle.nm_schema_rows.specs.declared.flaw.Flaw.{Flaw}
-use Rattle.nm_schema_rows.specs.declared.flaw.Flaw.TheVariants as flaw
-use Rattle.nm_schema_rows.specs.declared.word.Word.{Word}
-use Rattle.nm_schema_rows.specs.declared.word.Word.TheVariants as word
-use Rattle.nm_schema_rows.specs.Word.{same_word}
+use Rattle.nm_schema_statements.specs.declared.row.Row.{Row}
+use Rattle.nm_schema_statements.specs.declared.flaw.Flaw.{Flaw}
+use Rattle.nm_schema_statements.specs.declared.flaw.Flaw.TheVariants as flaw
+use Rattle.nm_schema_statements.specs.declared.word.Word.{Word}
+use Rattle.nm_schema_statements.specs.declared.word.Word.TheVariants as word
+use Rattle.nm_schema_statements.specs.Word.{same_word}
 use Rattle.nm_schema_derive.specs.Kinds.{leaf_type_of}
 use Rattle.nm_schema_typing.specs.Restricting.{argument_below}
 use Rattle.nm_schema_typing.specs.TypeGraph.{is_typed, is_type, leads}
@@ -19,10 +19,12 @@ use Rattle.nm_schema_typing.specs.Along.{within, meaning_of}
 
 -- ---- which texts may be defaults
 
+-- the type `empty`, which may have no default (RFC 7950 section 9.11.1)
 abbrev pub is_empty : Kind → Bool
 is_empty empty = true
 is_empty _ = false
 
+-- reading gave a value
 abbrev pub is_read : Result Value ValueFault → Bool
 is_read (Ok v) = true
 is_read (Err fault) = false
@@ -42,11 +44,13 @@ fits text (Some (reference p)) = true
 unfoldable pub is_default : List Row → List (Option ℕ) → ℕ → List ℕ → Bool
 is_default rows typedefs i text = fits text (meaning_of rows typedefs i)
 
+-- the flaw of a default by the row that it stands in: its text may not be a default there; nothing where either is missing
 abbrev pub default_in : List Row → List (Option ℕ) → Row → Option (List ℕ) → Option ℕ → Option Flaw
 default_in rows typedefs r None parent = None
 default_in rows typedefs r (Some text) None = None
 default_in rows typedefs r (Some text) (Some i) = if is_default rows typedefs i text then None else Some (flaw.BadArgument r.keyword)
 
+-- the flaw of a row, if it is a `default` statement
 abbrev pub default_by : List Row → List (Option ℕ) → Option Row → Option Flaw
 default_by rows typedefs None = None
 default_by rows typedefs (Some r) = if same_word r.word word.Default then default_in rows typedefs r r.argument r.parent else None
@@ -57,10 +61,12 @@ default_flaw rows typedefs at = default_by rows typedefs (slice_get rows at)
 
 -- ---- which default a row has
 
+-- the first text where there is one, else the second
 abbrev pub own_or : Option (List ℕ) → Option (List ℕ) → Option (List ℕ)
 own_or None base = base
 own_or (Some text) base = Some text
 
+-- the default of a row, from that of its type: a leaf and a typedef may say their own, a `type` statement passes on what it is given
 abbrev pub default_from : List Row → ℕ → Option (List ℕ) → Option Row → Option (List ℕ)
 default_from rows i base None = None
 default_from rows i base (Some r) = if is_typed r.word then own_or (argument_below rows i word.Default) base else (if is_type r.word then base else None)
@@ -69,17 +75,21 @@ default_from rows i base (Some r) = if is_typed r.word then own_or (argument_bel
 unfoldable pub default_at : List Row → ℕ → Option (List ℕ) → Option (List ℕ)
 default_at rows i base = default_from rows i base (slice_get rows i)
 
+-- no text where none is known
 abbrev pub joined : Option (Option (List ℕ)) → Option (List ℕ)
 joined None = None
 joined (Some text) = text
 
+-- the text of the first, where there is one
 abbrev pub first_text : List (Option (List ℕ)) → Option (Option (List ℕ))
 first_text [] = None
 first_text (text ∷ texts) = Some text
 
+-- the default of row i, once it is known what the rows that it leads to have
 abbrev pub default_step : List Row → ℕ → List (Option (List ℕ)) → Option (Option (List ℕ))
 default_step rows i known = Some (default_at rows i (joined (first_text known)))
 
--- the default of row i: a leaf's or typedef's own, else that of the typedef that its type names, and so on (RFC 7950 section 7.6.1); none where types lead to themselves
+-- the default of row i: a leaf's or typedef's own, else that of the typedef that its type names, and so on (RFC 7950 section
+-- 7.6.1); none where types lead to themselves
 unfoldable pub default_of : List Row → List (Option ℕ) → ℕ → Option (List ℕ)
 default_of rows typedefs i = joined (within (strict (default_step rows)) (leads rows typedefs) (length rows) i)

@@ -2,7 +2,7 @@
 use Rattle.std.specs.Prelude.{ℕ, zero, suc, eqb, Bool, true, false, List, [], ◌∷◌, ◌++◌, codes, drop, Option, Some, None, if◌then◌else◌, ◌==◌}
 use Rattle.std.specs.List.{slice_split, list_any}
 use Rattle.std.specs.Str.{bytes_eq}
-use Rattle.nm_schema_rows.specs.Text.{is_reference, prefix_of, name_of}
+use Rattle.nm_schema_statements.specs.Text.{is_reference, prefix_of, name_of}
 use Rattle.nm_schema_typing.specs.declared.leafref.NodeName.{NodeName}
 use Rattle.nm_schema_typing.specs.declared.leafref.Start.{Start}
 use Rattle.nm_schema_typing.specs.declared.leafref.Start.TheVariants.{Root, Up}
@@ -45,6 +45,7 @@ abbrev pub ups : List (List ℕ) → ℕ
 ups [] = 0
 ups (piece ∷ pieces) = if is_up piece then suc (ups pieces) else 0
 
+-- a path from its beginning over nodes, where the nodes could be read
 abbrev pub path_from : Start → Option (List NodeName) → Option LeafrefPath
 path_from start None = None
 path_from start (Some nodes) = Some (record { start = start; nodes = nodes })
@@ -59,6 +60,7 @@ abbrev pub up_along : ℕ → List (List ℕ) → Option LeafrefPath
 up_along zero pieces = None
 up_along (suc n) pieces = path_along (Up (suc n)) (drop (suc n) pieces)
 
+-- a path that is read from its pieces: those that go up, and then names
 unfoldable pub relative_path : List (List ℕ) → Option LeafrefPath
 relative_path pieces = up_along (ups pieces) pieces
 
@@ -68,7 +70,8 @@ path_of_pieces [] = None
 path_of_pieces ([] ∷ rest) = path_along Root rest
 path_of_pieces ((b ∷ bytes) ∷ rest) = relative_path ((b ∷ bytes) ∷ rest)
 
--- the path that a text is: absolute (`/p:a/p:b`), or `../` once or more and then nodes; blanks and predicates have no place in it (RFC 7950 section 14: path-arg)
+-- the path that a text is: absolute (`/p:a/p:b`), or `../` once or more and then nodes; blanks and predicates have no place
+-- in it (RFC 7950 section 14: path-arg)
 unfoldable pub path_read : List ℕ → Option LeafrefPath
 path_read text = path_of_pieces (pieces text)
 

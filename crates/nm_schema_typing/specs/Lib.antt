@@ -1,3 +1,4 @@
+-- Types: how each restricts another, what it means along its typedefs, and its flaws.
 pub mod Leafref
 pub mod Restricting
 pub mod TypeGraph

@@ -1,12 +1,12 @@
 -- What is wrong with the `enum` and `bit` statements of types (RFC 7950 sections 9.6.4 and 9.7.4).
 use Rattle.std.specs.Prelude.{◌≡◌, ℕ, Bool, true, false, ◌&&◌, ◌==◌, List, [], ◌∷◌, map, Option, Some, None, is_some, Result, Ok, Err, if◌then◌else◌, slice_get, slice_index_or}
-use Rattle.nm_schema_rows.specs.declared.row.Row.{Row}
-use Rattle.nm_schema_rows.specs.declared.flaw.Flaw.{Flaw}
-use Rattle.nm_schema_rows.specs.declared.flaw.Flaw.TheVariants as flaw
-use Rattle.nm_schema_rows.specs.declared.word.Word.{Word}
-use Rattle.nm_schema_rows.specs.declared.word.Word.TheVariants as word
-use Rattle.nm_schema_rows.specs.Rows.{first_below}
-use Rattle.nm_schema_rows.specs.Flaw.{text_of}
+use Rattle.nm_schema_statements.specs.declared.row.Row.{Row}
+use Rattle.nm_schema_statements.specs.declared.flaw.Flaw.{Flaw}
+use Rattle.nm_schema_statements.specs.declared.flaw.Flaw.TheVariants as flaw
+use Rattle.nm_schema_statements.specs.declared.word.Word.{Word}
+use Rattle.nm_schema_statements.specs.declared.word.Word.TheVariants as word
+use Rattle.nm_schema_statements.specs.Rows.{first_below}
+use Rattle.nm_schema_statements.specs.Flaw.{text_of}
 use Rattle.nm_schema_derive.specs.declared.members.Listed.{Listed}
 use Rattle.nm_schema_derive.specs.declared.members.Numbering.{Numbering}
 use Rattle.nm_schema_derive.specs.declared.members.Numbering.TheVariants.{Values, Positions}
@@ -27,6 +27,7 @@ abbrev pub lister : Numbering → Word
 lister Values = word.Enum
 lister Positions = word.Bit
 
+-- the statement that gives a member its number: `value` in an `enum`, `position` in a `bit`
 abbrev pub numberer : Numbering → Word
 numberer Values = word.Value
 numberer Positions = word.Position
@@ -36,10 +37,12 @@ abbrev pub with_some : Numbering → Derivation → List Listed → Result Deriv
 with_some Values d statements = with_names d statements
 with_some Positions d statements = with_bits d statements
 
+-- a type with names, where any are given
 abbrev pub with_listed : Numbering → Derivation → List Listed → Result Derivation StepFault
 with_listed numbering d [] = Ok d
 with_listed numbering d (s ∷ ss) = with_some numbering d (s ∷ ss)
 
+-- a flaw of the statement of a row, where there is such a row
 abbrev pub flawed_at : Option ℕ → ListFlaw → Judged
 flawed_at None f = judged.Fine
 flawed_at (Some row) f = judged.Flawed row f
@@ -52,9 +55,12 @@ judged_of numbers (Err BadArgument) = judged.Fine
 judged_of numbers (Err (AtListed k f)) = flawed_at (slice_get numbers k) f
 judged_of numbers (Err NoMemory) = judged.Fine
 
+-- what is wrong with the `enum` or `bit` statements in row i, which restrict a type
 unfoldable pub judged_on : List Row → ℕ → Numbering → Derivation → Judged
-judged_on rows i numbering d = judged_of (rows_with rows i (lister numbering)) (with_listed numbering d (map (listed_at rows (numberer numbering)) (rows_with rows i (lister numbering))))
+judged_on rows i numbering d = judged_of (rows_with rows i (lister numbering))
+    (with_listed numbering d (map (listed_at rows (numberer numbering)) (rows_with rows i (lister numbering))))
 
+-- the same where the type is known; nothing is wrong where it isn't
 abbrev pub judged_if : List Row → ℕ → Numbering → Option Derivation → Judged
 judged_if rows i numbering None = judged.Fine
 judged_if rows i numbering (Some d) = judged_on rows i numbering d
@@ -75,6 +81,7 @@ all_fine = record { names = judged.Fine; bits = judged.Fine }
 abbrev pub AreJudgements : List Row → List (Option ℕ) → List Judgement → Type 0
 AreJudgements rows typedefs judgements = (i : ℕ) → slice_index_or judgements i all_fine ≡ judgement_at rows typedefs i
 
+-- what is wrong with the names, or with the bits
 abbrev pub part_of : Numbering → Judgement → Judged
 part_of Values j = j.names
 part_of Positions j = j.bits
@@ -90,6 +97,7 @@ own_flaw r numbered OtherThanBase = None
 own_flaw r numbered NoNumberLeft = Some (flaw.BadArgument r.keyword)
 own_flaw r numbered NotInBase = Some (flaw.BadArgument r.keyword)
 
+-- the flaw that row `at` tells of its list: a list that has no place there is Unknown at each statement, a flawed statement only at its own
 abbrev pub lister_flaw : ℕ → Row → Bool → Judged → Option Flaw
 lister_flaw at r numbered judged.Fine = None
 lister_flaw at r numbered judged.Misplaced = Some (flaw.Unknown r.keyword)
@@ -104,33 +112,41 @@ number_flaw r OtherThanBase = Some (flaw.BadArgument r.keyword)
 number_flaw r NoNumberLeft = None
 number_flaw r NotInBase = None
 
+-- the flaw that the `value` or `position` in row `above` tells, where that is the flawed statement
 abbrev pub numberer_flaw : ℕ → Row → Judged → Option Flaw
 numberer_flaw above r judged.Fine = None
 numberer_flaw above r judged.Misplaced = None
 numberer_flaw above r (judged.Flawed row f) = if row == above then number_flaw r f else None
 
+-- it is row `at`
 abbrev pub is_at : Option ℕ → ℕ → Bool
 is_at None at = false
 is_at (Some n) at = n == at
 
+-- what is wrong with the list that stands in row i
 abbrev pub judged_above : List Row → List (Option ℕ) → Numbering → Option ℕ → Judged
 judged_above rows typedefs numbering None = judged.Fine
 judged_above rows typedefs numbering (Some i) = part_of numbering (judgement_at rows typedefs i)
 
+-- the row that a row stands in
 abbrev pub parent_in : Option Row → Option ℕ
 parent_in None = None
 parent_in (Some r) = r.parent
 
 -- the flaw of the `enum` or `bit` statement of row `at`
 abbrev pub flaw_of_lister : List Row → List (Option ℕ) → ℕ → Row → Numbering → Option Flaw
-flaw_of_lister rows typedefs at r numbering = lister_flaw at r (is_some (first_below rows at (numberer numbering))) (judged_above rows typedefs numbering r.parent)
+flaw_of_lister rows typedefs at r numbering =
+    lister_flaw at r (is_some (first_below rows at (numberer numbering))) (judged_above rows typedefs numbering r.parent)
 
 -- the flaw of the `value` or `position` statement of row `at`, which is the first in its `enum` or `bit`
 abbrev pub flaw_of_numberer : List Row → List (Option ℕ) → ℕ → Row → Numbering → Option ℕ → Option Flaw
 flaw_of_numberer rows typedefs at r numbering None = None
 flaw_of_numberer rows typedefs at r numbering (Some above) =
-    if is_at (first_below rows above (numberer numbering)) at then numberer_flaw above r (judged_above rows typedefs numbering (parent_in (slice_get rows above))) else None
+    if is_at (first_below rows above (numberer numbering)) at
+    then numberer_flaw above r (judged_above rows typedefs numbering (parent_in (slice_get rows above)))
+    else None
 
+-- the flaw of a row by its keyword; keywords that list nothing have none
 abbrev pub listed_by : List Row → List (Option ℕ) → ℕ → Row → Word → Option Flaw
 listed_by rows typedefs at r word.Enum = flaw_of_lister rows typedefs at r Values
 listed_by rows typedefs at r word.Bit = flaw_of_lister rows typedefs at r Positions
@@ -138,6 +154,7 @@ listed_by rows typedefs at r word.Value = flaw_of_numberer rows typedefs at r Va
 listed_by rows typedefs at r word.Position = flaw_of_numberer rows typedefs at r Positions r.parent
 listed_by rows typedefs at r _ = None
 
+-- the flaw of row `at`, where there is such a row
 abbrev pub listed_in : List Row → List (Option ℕ) → ℕ → Option Row → Option Flaw
 listed_in rows typedefs at None = None
 listed_in rows typedefs at (Some r) = listed_by rows typedefs at r r.word

@@ -1,10 +1,10 @@
 -- The restrictions that stand in a `type` statement (RFC 7950 section 7.4).
 use Rattle.std.specs.Prelude.{ℕ, List, [], ◌∷◌, map, Option, Some, None, if◌then◌else◌, slice_get}
-use Rattle.nm_schema_rows.specs.declared.row.Row.{Row}
-use Rattle.nm_schema_rows.specs.declared.word.Word.{Word}
-use Rattle.nm_schema_rows.specs.declared.word.Word.TheVariants as word
-use Rattle.nm_schema_rows.specs.Rows.{has_word, children, first_below}
-use Rattle.nm_schema_rows.specs.Flaw.{text_of}
+use Rattle.nm_schema_statements.specs.declared.row.Row.{Row}
+use Rattle.nm_schema_statements.specs.declared.word.Word.{Word}
+use Rattle.nm_schema_statements.specs.declared.word.Word.TheVariants as word
+use Rattle.nm_schema_statements.specs.Rows.{has_word, children, first_below}
+use Rattle.nm_schema_statements.specs.Flaw.{text_of}
 use Rattle.nm_schema_derive.specs.declared.members.Listed.{Listed}
 use Rattle.nm_schema_derive.specs.declared.restrictions.Restrictions.{Restrictions}
 
@@ -20,6 +20,7 @@ pub record TypeRestrictions : Type 0 where
 abbrev pub restrictions_in : Restrictions → TypeRestrictions
 restrictions_in r = record { digits = r.digits; range = r.range; length = r.length; names = r.names.items; bits = r.bits.items }
 
+-- the argument of a row
 abbrev pub argument_in : Option Row → Option (List ℕ)
 argument_in None = None
 argument_in (Some r) = r.argument

@@ -15,7 +15,7 @@ use crate::restricting::argument_below;
 use crate::types::Types;
 use nm_base::{Label, NoMemory};
 use nm_graph::{Visitor, order, values};
-use nm_schema_rows::{Flaw, Rows, Word};
+use nm_schema_statements::{Flaw, Rows, Word};
 use nm_types::{LeafType, TypeKind, Value, ValueFault, read_value};
 use std::alloc::Global;
 use std::marker::Model;
@@ -220,7 +220,8 @@ impl Model for Defaults {
 impl Defaults {
     /// The default of a leaf or typedef, by its row's number: its own, else that of the typedef that its type names, and so on.
     pub fn text(&self, at: usize) -> Option<&Label>
-        ensures exact { MatchOption result (spec.joined (slice_index_or self.now at None) ≡ None) (λ text. spec.joined (slice_index_or self.now at None) ≡ Some text.now) }
+        ensures exact { MatchOption result (spec.joined (slice_index_or self.now at None) ≡ None)
+            (λ text. spec.joined (slice_index_or self.now at None) ≡ Some text.now) }
     {
         if at >= self.texts.len() {
             return None;

@@ -5,7 +5,7 @@ ghost use Rattle.nm_graph.specs.Graph.{IsGraph};
 ghost use Rattle.nm_schema_typing.specs.TypeGraph as spec;
 
 use nm_base::NoMemory;
-use nm_schema_rows::{Rows, Word};
+use nm_schema_statements::{Rows, Word};
 use std::alloc::Global;
 
 // Whether a statement's type is that of the `type` statement in it.

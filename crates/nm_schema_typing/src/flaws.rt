@@ -2,7 +2,7 @@
 
 ghost use Rattle.std.specs.Prelude.{◌≡◌, Result, Some, None, IfOk, option_map};
 ghost use Rattle.std.specs.Arc.{arc_value};
-ghost use Rattle.nm_schema_rows.specs.Word.{word_text};
+ghost use Rattle.nm_schema_statements.specs.Word.{word_text};
 ghost use Rattle.nm_schema_derive.specs.Built.{Derivation};
 ghost use Rattle.nm_schema_derive.specs.Step.{Gives, with_digits};
 ghost use Rattle.nm_schema_derive.specs.declared.derived.StepFault.{StepFault};
@@ -16,7 +16,7 @@ use crate::restricting::{argument_below, has_word};
 use crate::types::Types;
 use nm_base::{Label, NoMemory};
 use nm_schema_derive::{Derived, Lacking, StepFault};
-use nm_schema_rows::{Flaw, Row, Rows, Word};
+use nm_schema_statements::{Flaw, Row, Rows, Word};
 use std::alloc::Global;
 use std::sync::Arc;
 

@@ -10,7 +10,7 @@ use crate::listing::{Judgement, is_at, listed_flaw};
 use crate::restricting::text_at;
 use crate::types::Types;
 use nm_base::NoMemory;
-use nm_schema_rows::{Flaw, Rows, Word};
+use nm_schema_statements::{Flaw, Rows, Word};
 use std::alloc::Global;
 
 /// What is wrong with a `type` statement or a statement in one, by its row's number, each by itself against the type that is

@@ -4,7 +4,7 @@ ghost use Rattle.std.specs.Prelude.{◌≡◌, ◌≤◌, ◌∷◌, [], length,
 ghost use Rattle.nm_schema_typing.specs.Leafref as spec;
 
 use nm_base::{Label, NoMemory};
-use nm_schema_rows::{is_reference, name_of, prefix_of};
+use nm_schema_statements::{is_reference, name_of, prefix_of};
 use std::alloc::{AllocError, Global};
 use std::marker::Model;
 

@@ -1,6 +1,6 @@
 //! The types of `type` statements: what each means along the typedefs that it leads to, and its flaws.
 //!
-//! Stands on `nm_base`, `nm_schema_rows`, `nm_schema_derive`, `nm_graph` and `nm_types`. The layers above rely on the
+//! Stands on `nm_base`, `nm_schema_statements`, `nm_schema_derive`, `nm_graph` and `nm_types`. The layers above rely on the
 //! meaning of each type being that of RFC 7950 section 7.4.
 #![tactic(auto)]
 

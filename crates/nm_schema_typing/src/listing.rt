@@ -5,9 +5,9 @@ ghost use Rattle.nm_schema_derive.specs.Built.{Derivation};
 ghost use Rattle.nm_schema_derive.specs.Step.{Gives};
 ghost use Rattle.nm_schema_derive.specs.declared.derived.StepFault.{StepFault};
 ghost use Rattle.nm_schema_derive.specs.declared.members.Numbering.TheVariants.{Values, Positions};
-ghost use Rattle.nm_schema_rows.specs.declared.flaw.Flaw.TheVariants.{BadArgument, Duplicate};
-ghost use Rattle.nm_schema_rows.specs.declared.row.Row.{Row};
-ghost use Rattle.nm_schema_rows.specs.Flaw.{text_of};
+ghost use Rattle.nm_schema_statements.specs.declared.flaw.Flaw.TheVariants.{BadArgument, Duplicate};
+ghost use Rattle.nm_schema_statements.specs.declared.row.Row.{Row};
+ghost use Rattle.nm_schema_statements.specs.Flaw.{text_of};
 ghost use Rattle.nm_schema_typing.specs.Flaws.{AreMeanings};
 ghost use Rattle.nm_schema_typing.specs.Restricting.{listed_at};
 ghost use Rattle.nm_schema_typing.specs.Listing as spec;
@@ -17,7 +17,7 @@ use crate::restricting::{listed_of, rows_with};
 use crate::types::Types;
 use nm_base::{Label, NoMemory};
 use nm_schema_derive::{Derived, ListFlaw, Listed, Numbering, StepFault};
-use nm_schema_rows::{Flaw, Row, Rows, Word};
+use nm_schema_statements::{Flaw, Row, Rows, Word};
 use std::alloc::Global;
 
 /// What is wrong with the `enum` or the `bit` statements of a type.
@@ -133,7 +133,8 @@ fn judgement_on(
     at: usize,
     base: &Derived,
 ) -> Result<Judgement, NoMemory>
-    ensures { IfOk result (λ judgement. judgement ≡ record { names = spec.judged_on rows.now at Values base.now; bits = spec.judged_on rows.now at Positions base.now }) }
+    ensures { IfOk result (λ judgement. judgement
+        ≡ record { names = spec.judged_on rows.now at Values base.now; bits = spec.judged_on rows.now at Positions base.now }) }
 {
     let names = judged_on(alloc, rows, at, &Numbering::Values, base)?;
     let bits = judged_on(alloc, rows, at, &Numbering::Positions, base)?;
@@ -296,7 +297,8 @@ fn judgement_or_fine(judgements: &[Judgement], at: usize) -> Judgement
 
 // What is wrong with the `enum` or `bit` statements in the row above.
 fn judged_above(judgements: &[Judgement], numbering: &Numbering, parent: Option<usize>) -> Judged
-    ensures { (rows : List Row) (typedefs : List (Option ℕ)) → spec.AreJudgements rows typedefs judgements.now → result ≡ spec.judged_above rows typedefs numbering.now parent }
+    ensures { (rows : List Row) (typedefs : List (Option ℕ)) → spec.AreJudgements rows typedefs judgements.now
+        → result ≡ spec.judged_above rows typedefs numbering.now parent }
 {
     match parent {
         None => Judged::Fine,
@@ -325,7 +327,8 @@ fn flaw_of_lister(
     row: &Row,
     numbering: &Numbering,
 ) -> Result<Option<Flaw>, NoMemory>
-    ensures { (typedefs : List (Option ℕ)) → spec.AreJudgements rows.now typedefs judgements.now → IfOk result (λ found. found ≡ spec.flaw_of_lister rows.now typedefs at row.now numbering.now) }
+    ensures { (typedefs : List (Option ℕ)) → spec.AreJudgements rows.now typedefs judgements.now
+        → IfOk result (λ found. found ≡ spec.flaw_of_lister rows.now typedefs at row.now numbering.now) }
 {
     let numbered = rows.first_below(at, numberer(numbering)).is_some();
     let judged = judged_above(judgements, numbering, row.parent);
@@ -350,7 +353,8 @@ fn flaw_of_numberer(
     row: &Row,
     numbering: &Numbering,
 ) -> Result<Option<Flaw>, NoMemory>
-    ensures { (typedefs : List (Option ℕ)) → spec.AreJudgements rows.now typedefs judgements.now → IfOk result (λ found. found ≡ spec.flaw_of_numberer rows.now typedefs at row.now numbering.now row.now.parent) }
+    ensures { (typedefs : List (Option ℕ)) → spec.AreJudgements rows.now typedefs judgements.now
+        → IfOk result (λ found. found ≡ spec.flaw_of_numberer rows.now typedefs at row.now numbering.now row.now.parent) }
 {
     let Some(above) = row.parent else {
         return Ok(None);
@@ -374,7 +378,8 @@ pub(crate) fn listed_flaw(
     judgements: &[Judgement],
     at: usize,
 ) -> Result<Option<Flaw>, NoMemory>
-    ensures exact { (typedefs : List (Option ℕ)) → spec.AreJudgements rows.now typedefs judgements.now → IfOk result (λ found. found ≡ spec.listed_flaw rows.now typedefs at) }
+    ensures exact { (typedefs : List (Option ℕ)) → spec.AreJudgements rows.now typedefs judgements.now
+        → IfOk result (λ found. found ≡ spec.listed_flaw rows.now typedefs at) }
 {
     let Some(row) = rows.row(at) else {
         return Ok(None);

@@ -14,7 +14,7 @@ use crate::leafref::read_path;
 use crate::restricting::{argument_at, restrictions_of, text_at};
 use nm_base::NoMemory;
 use nm_schema_derive::{BuiltIn, Derived, Listed, Restrictions, StepFault, built_in, step};
-use nm_schema_rows::{Rows, Word};
+use nm_schema_statements::{Rows, Word};
 use std::alloc::Global;
 use std::marker::Model;
 use std::sync::Arc;

@@ -1,14 +1,14 @@
 //! The restrictions that stand in a `type` statement.
 
 ghost use Rattle.std.specs.Prelude.{◌≡◌, IfOk, OnOk, Some, None, slice_get, map};
-ghost use Rattle.nm_schema_rows.specs.Rows.{has_word};
-ghost use Rattle.nm_schema_rows.specs.Flaw.{text_of};
-ghost use Rattle.nm_schema_rows.specs.declared.word.Word.TheVariants as word;
+ghost use Rattle.nm_schema_statements.specs.Rows.{has_word};
+ghost use Rattle.nm_schema_statements.specs.Flaw.{text_of};
+ghost use Rattle.nm_schema_statements.specs.declared.word.Word.TheVariants as word;
 ghost use Rattle.nm_schema_typing.specs.Restricting as spec;
 
 use nm_base::{Label, NoMemory};
 use nm_schema_derive::{Listed, Restrictions};
-use nm_schema_rows::{Rows, Word};
+use nm_schema_statements::{Rows, Word};
 use std::alloc::Global;
 
 // The argument of a row, if there is one.

@@ -8,7 +8,7 @@ use crate::edges::type_graph;
 use crate::meaning::{Meaning, meaning_at};
 use nm_base::NoMemory;
 use nm_graph::{Visitor, order, values};
-use nm_schema_rows::Rows;
+use nm_schema_statements::Rows;
 use std::alloc::Global;
 use std::marker::Model;
 
@@ -60,7 +60,8 @@ impl Types {
     /// None for other rows, and where a type has no meaning: a restriction is refused, something is lacking, or the
     /// type that it names has none.
     pub fn meaning(&self, at: usize) -> Option<&Meaning>
-        ensures exact { MatchOption result (slice_index_or self.now.meanings at None ≡ None) (λ meaning. slice_index_or self.now.meanings at None ≡ Some meaning.now) }
+        ensures exact { MatchOption result (slice_index_or self.now.meanings at None ≡ None)
+            (λ meaning. slice_index_or self.now.meanings at None ≡ Some meaning.now) }
     {
         if at >= self.meanings.len() {
             return None;

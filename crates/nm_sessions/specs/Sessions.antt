@@ -25,6 +25,7 @@ greatest_id = 2 ^ 32 - 1
 abbrev pub user_of : SessionsState → ℕ → Option (List ℕ)
 user_of sessions session = find nat_cmp session sessions.users
 
+-- whether a session is open
 abbrev pub is_open : SessionsState → ℕ → Bool
 is_open sessions session = is_some (user_of sessions session)
 
@@ -33,6 +34,7 @@ is_open sessions session = is_some (user_of sessions session)
 abbrev pub id_after : ℕ → ℕ → Option ℕ
 id_after count last = if nat_le session_limit count || last == greatest_id then None else Some (last + 1)
 
+-- the same of the sessions that are open
 abbrev pub next_id : SessionsState → Option ℕ
 next_id sessions = id_after (length sessions.users) sessions.last
 

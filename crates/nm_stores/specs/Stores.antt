@@ -20,6 +20,7 @@ module _ {Config : Type 0} where
   abbrev pub candidate_of : StoresState Config → Config
   candidate_of stores = unwrap_or stores.candidate stores.running
 
+  -- whether candidate was changed since it equalled running (RFC 6241 section 8.3.1)
   abbrev pub is_modified : StoresState Config → Bool
   is_modified stores = is_some stores.candidate
 
@@ -40,6 +41,7 @@ module _ {Config : Type 0} where
   replaced_by running None = None
   replaced_by running (Some candidate) = Some running
 
+  -- the running that a commit replaces, where candidate is modified
   abbrev pub replaced : StoresState Config → Option Config
   replaced stores = replaced_by stores.running stores.candidate
 

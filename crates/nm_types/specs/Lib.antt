@@ -1,3 +1,4 @@
+-- Values, paths and types, then what is of a type, how values are read and written, and what each text spells.
 pub mod Value
 pub mod ValueLaws
 pub mod Path

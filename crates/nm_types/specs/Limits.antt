@@ -25,7 +25,8 @@ IsWithinKind (integer low high) (Int z) = IsWithin z (low, high)
 IsWithinKind (decimal digits) (Decimal z d) = IsWithin z i64_part
 IsWithinKind _ _ = ⊤
 
--- the number that ranges and lengths speak of: an integer, a decimal's scaled value, or how many characters a string has (RFC 7950 sections 9.2.4, 9.3.4 and 9.4.4)
+-- the number that ranges and lengths speak of: an integer, a decimal's scaled value, or how many characters a string has
+-- (RFC 7950 sections 9.2.4, 9.3.4 and 9.4.4)
 abbrev pub measured : Value → Option ℤ
 measured (Int z) = Some z
 measured (Decimal z d) = Some z
@@ -44,13 +45,16 @@ MeetsLimits t v = IsWithinKind t.kind v × IfSome (measured v) (MeetsRange t.lim
 abbrev pub is_within : ℤ → ℤ × ℤ → Bool
 is_within z part = int_le part.0 z && int_le z part.1
 
+-- a number is within one of the parts, where there are any limits
 abbrev pub meets_range : Option (List (ℤ × ℤ)) → ℤ → Bool
 meets_range range z = option_map_or (λ parts. list_any (is_within z) parts) range true
 
+-- a number is within what its type can hold; other values always are
 abbrev pub is_within_kind : Kind → Value → Bool
 is_within_kind (integer low high) (Int z) = is_within z (low, high)
 is_within_kind (decimal digits) (Decimal z d) = is_within z i64_part
 is_within_kind _ _ = true
 
+-- a value is within what its type can hold, and within the limits of the type
 abbrev pub meets_limits : TypeOfLeaf → Value → Bool
 meets_limits t v = is_within_kind t.kind v && option_map_or (meets_range t.limits) (measured v) true

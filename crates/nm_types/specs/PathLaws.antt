@@ -19,7 +19,8 @@ choices_total = then_total (on_total choice_rank nat_cmp_total) (on_total choice
 
 printed_total : IsTotalOrder printed_cmp
 unfolding printed_cmp
-printed_total = then_total (on_total (λ s. s.printed) nat_list_cmp_total) (then_total (on_total (λ s. s.module) nat_list_cmp_total) (on_total (λ s. s.chosen) choices_total))
+printed_total = then_total (on_total (λ s. s.printed) nat_list_cmp_total)
+    (then_total (on_total (λ s. s.module) nat_list_cmp_total) (on_total (λ s. s.chosen) choices_total))
 
 -- the order of steps is total
 pub steps_total : IsTotalOrder step_cmp
@@ -109,15 +110,19 @@ pub path_cmp-IsAntisymmetric : CmpEqualImpliesEq path_cmp
 unfolding path_cmp
 path_cmp-IsAntisymmetric ss ts e = one_path ss ts (exact_lists printed_cmp exact_printed _ _ e)
 
+-- steps that their order doesn't tell apart are equivalent
 pub steps_equiv : IsEquivalence (eq_by_cmp step_cmp)
 steps_equiv = eq_by_cmp_equiv steps_total
 
+-- steps are partly ordered, and any two can be compared
 pub steps_po : IsPartialOrder (eq_by_cmp step_cmp) (λ x y. Some (step_cmp x y))
 steps_po = po steps_total (λ x y. refl)
 
+-- paths that their order doesn't tell apart are equivalent
 pub paths_equiv : IsEquivalence (eq_by_cmp path_cmp)
 paths_equiv = eq_by_cmp_equiv paths_total
 
+-- paths are partly ordered, and any two can be compared
 pub paths_po : IsPartialOrder (eq_by_cmp path_cmp) (λ x y. Some (path_cmp x y))
 paths_po = po paths_total (λ x y. refl)
 
@@ -142,6 +147,7 @@ then-Equal Less = refl
 then-Equal Equal = refl
 then-Equal Greater = refl
 
+-- entries of a leaf-list are ordered as their values are
 pub choice_cmp-entry : (v w : Value) → choice_cmp (entry v) (entry w) ≡ value_cmp v w
 choice_cmp-entry v w = then-Equal (value_cmp v w)
 
@@ -150,7 +156,8 @@ pub same_choice_decides : (x y : Choice) (b : Bool) → b ≡ eq_by_cmp choice_c
 same_choice_decides = decides_from_exact choices_total exact_choices
 
 -- the order of paths by their first steps and by what is below
-pub path_cmp-cons : (s t : PathStep) (ss ts : List PathStep) → path_cmp (s ∷ ss) (t ∷ ts) ≡ ordering_then (printed_cmp (at_top s) (at_top t)) (slice_cmp step_cmp ss ts)
+pub path_cmp-cons : (s t : PathStep) (ss ts : List PathStep)
+    → path_cmp (s ∷ ss) (t ∷ ts) ≡ ordering_then (printed_cmp (at_top s) (at_top t)) (slice_cmp step_cmp ss ts)
 unfolding path_cmp
 path_cmp-cons s t ss ts = ap (ordering_then (printed_cmp (at_top s) (at_top t))) (sym (slice_cmp-below ss ts))
 

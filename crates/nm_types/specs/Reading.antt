@@ -26,7 +26,10 @@ integer_of text = if is_numeral (without_leading_sign text) then Some (with_sign
 
 -- the scaled value of whole digits and those after the point, if those past the fraction digits are zeros
 abbrev pub scaled_of : ℕ → List ℕ → List ℕ → Option ℕ
-scaled_of digits whole part = if list_all (λ b. b == 48) (drop digits part) then Some (digits_value 10 (whole ++ take digits part) * 10 ^ (digits - length part)) else None
+scaled_of digits whole part =
+    if list_all (λ b. b == 48) (drop digits part)
+    then Some (digits_value 10 (whole ++ take digits part) * 10 ^ (digits - length part))
+    else None
 
 -- whole digits alone
 unfoldable pub whole_of : ℕ → List ℕ → Option ℕ
@@ -36,6 +39,7 @@ whole_of digits whole = if is_numeral whole then scaled_of digits whole [] else 
 unfoldable pub pointed_of : ℕ → List ℕ → List ℕ → Option ℕ
 pointed_of digits whole part = if is_numeral whole && is_numeral part then scaled_of digits whole part else None
 
+-- the byte `.`
 abbrev pub is_point : ℕ → Bool
 is_point b = b == 46
 

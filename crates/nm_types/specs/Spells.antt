@@ -23,7 +23,8 @@ pub data HasParts (rest whole part : List ℕ) : Type 0 where
   pointless : rest ≡ whole → part ≡ [] → HasParts rest whole part
   pointed : rest ≡ whole ++ 46 ∷ part → IsNumeral 10 part → HasParts rest whole part
 
--- a decimal: the number that is written, digits before and behind a point, is the scaled value over 10 to the power of the fraction digits (RFC 7950 sections 9.3.1 and 9.3.4); so zeros may follow those digits, and no other digit
+-- a decimal: the number that is written, digits before and behind a point, is the scaled value over 10 to the power of the
+-- fraction digits (RFC 7950 sections 9.3.1 and 9.3.4); so zeros may follow those digits, and no other digit
 pub record SpellsDecimal (digits : ℕ) (text : List ℕ) (z : ℤ) : Type 0 where
   pub rest : List ℕ
   pub whole : List ℕ

@@ -51,7 +51,8 @@ value_text (Bits t) = t
 value_text Empty = []
 value_text Present = []
 
--- the order of values: numbers by value, false before true, others by the bytes of their canonical text, and values of two kinds by kind (this project's own). Decimals with equally many digits are ordered by value; those of one type have that.
+-- the order of values: numbers by value, false before true, others by the bytes of their canonical text, and values of two
+-- kinds by kind (this project's own). Decimals with equally many digits are ordered by value; those of one type have that.
 unfoldable pub value_cmp : Value → Value → Ordering
 value_cmp = then_cmp (on value_rank nat_cmp) (then_cmp (on value_number int_cmp) (then_cmp (on value_digits nat_cmp) (on value_text (slice_cmp nat_cmp))))
 

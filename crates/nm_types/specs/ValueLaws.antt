@@ -15,7 +15,9 @@ use Rattle.nm_types.specs.Value.{value_rank, value_number, value_digits, value_t
 -- the order of values is total
 pub values_total : IsTotalOrder value_cmp
 unfolding value_cmp
-values_total = then_total (on_total value_rank nat_cmp_total) (then_total (on_total value_number int_cmp_total) (then_total (on_total value_digits nat_cmp_total) (on_total value_text nat_list_cmp_total)))
+values_total = then_total (on_total value_rank nat_cmp_total)
+    (then_total (on_total value_number int_cmp_total)
+    (then_total (on_total value_digits nat_cmp_total) (on_total value_text nat_list_cmp_total)))
 
 -- two orders, one after the other, give Equal only where both do
 pub then_parts : (a b : Ordering) → ordering_then a b ≡ Equal → (a ≡ Equal) × (b ≡ Equal)
@@ -24,7 +26,8 @@ then_parts Equal b e = (refl, e)
 then_parts Greater b e = cc
 
 -- values with the same kind, number, digits and text are one
-one_value : (x y : Value) → value_rank x ≡ value_rank y → value_number x ≡ value_number y → value_digits x ≡ value_digits y → value_text x ≡ value_text y → x ≡ y
+one_value : (x y : Value) → value_rank x ≡ value_rank y → value_number x ≡ value_number y → value_digits x ≡ value_digits y
+    → value_text x ≡ value_text y → x ≡ y
 one_value (Int z) (Int w) k n d t = cc
 one_value (Decimal z d) (Decimal w f) k n e t = cc
 one_value (Flag true) (Flag true) k n d t = refl
@@ -51,14 +54,17 @@ value_cmp-IsAntisymmetric x y e =
 pub value_cmp-same : (x : Value) → value_cmp x x ≡ Equal
 value_cmp-same = tied_itself values_total
 
+-- values that their order doesn't tell apart are equivalent
 pub values_equiv : IsEquivalence is_same_value
 values_equiv = eq_by_cmp_equiv values_total
 
+-- values are partly ordered, and any two can be compared
 pub values_po : IsPartialOrder is_same_value (λ x y. Some (value_cmp x y))
 values_po = po values_total (λ x y. refl)
 
 -- the test of an order that tells all values apart is equality
-pub decides_from_exact : {K : Type 0} {R : K → K → Ordering} → IsTotalOrder R → CmpEqualImpliesEq R → (x y : K) (b : Bool) → b ≡ eq_by_cmp R x y → IsTrue b ↔ (x ≡ y)
+pub decides_from_exact : {K : Type 0} {R : K → K → Ordering} → IsTotalOrder R → CmpEqualImpliesEq R → (x y : K) (b : Bool)
+    → b ≡ eq_by_cmp R x y → IsTrue b ↔ (x ≡ y)
 decides_from_exact {K} {R} total exact x y b e =
     (λ t. tells_apart exact x y (sym e ∙ t), λ p. e ∙ subst (λ (z : K). eq_by_cmp R x z ≡ true) p ((eq_by_cmp_equiv total).refl x))
 

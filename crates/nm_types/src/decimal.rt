@@ -1,3 +1,5 @@
+//! The scaled value that the text of a decimal64 spells (RFC 7950 section 9.3.1), zeros behind the fraction digits included.
+
 ghost use Rattle.std.specs.Prelude.{◌≡◌, ◌≤◌, ◌^◌, ◌*◌, IsTrue, min, option_map};
 ghost use Rattle.std.specs.Str.{all_ascii_digits};
 ghost use Rattle.std.specs.Str.Parse.{digits_value_after};

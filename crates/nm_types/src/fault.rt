@@ -1,3 +1,5 @@
+//! Why a text gives no value: the causes that the readers above tell apart.
+
 use nm_base::NoMemory;
 use std::alloc::{AllocError, AllocFailed};
 use std::error::Error;

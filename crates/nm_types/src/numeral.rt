@@ -1,3 +1,5 @@
+//! Integers as texts, with the digits and the sign that decimals have too.
+
 ghost use Rattle.std.specs.Prelude.{◌≡◌};
 ghost use Rattle.std.specs.Str.Parse.{without_leading_sign};
 ghost use Rattle.nm_types.specs.Reading.{is_numeral, reading};

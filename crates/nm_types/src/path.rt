@@ -1,3 +1,5 @@
+//! Paths of configurations, as steps, and their order: that of the texts by which they are printed.
+
 ghost use Rattle.std.specs.Prelude.{◌≡◌, ◌↔◌, ◌∷◌, ◌++◌, [], IsTrue, IfOk, Some, refl};
 ghost use Rattle.std.specs.Ordering.{eq_by_cmp, nat_cmp, ordering_then};
 ghost use Rattle.std.specs.Cmp.Lexicographic.{slice_cmp};

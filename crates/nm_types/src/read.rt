@@ -1,3 +1,5 @@
+//! The value that a text spells, by its type: one function for each kind of type.
+
 ghost use Rattle.std.specs.Prelude.{◌≡◌, ℤ, List, Option, IfOk, IsErrOf};
 ghost use Rattle.nm_types.specs.LeafType.{boolean, string, enumeration, empty};
 ghost use Rattle.nm_types.specs.Limits.{MeetsLimits};
@@ -92,8 +94,10 @@ pub fn read_value(alloc: Global, leaf_type: &LeafType, text: &str) -> Result<Val
     ensures bad_text { IsErrOf result ValueFault.BadText → (value : Value) → ¬ SpellsValue leaf_type.now.kind text.now value }
     ensures not_spelled { ((value : Value) → ¬ SpellsValue leaf_type.now.kind text.now value) → Gives result (Err ValueFault.BadText) }
     // OutOfRange exactly where it spells one that misses a limit.
-    ensures out_of_range { IsErrOf result ValueFault.OutOfRange → (value : Value) × SpellsValue leaf_type.now.kind text.now value × ¬ MeetsLimits leaf_type.now value }
-    ensures beyond { (value : Value) → SpellsValue leaf_type.now.kind text.now value → ¬ MeetsLimits leaf_type.now value → Gives result (Err ValueFault.OutOfRange) }
+    ensures out_of_range { IsErrOf result ValueFault.OutOfRange
+        → (value : Value) × SpellsValue leaf_type.now.kind text.now value × ¬ MeetsLimits leaf_type.now value }
+    ensures beyond { (value : Value) → SpellsValue leaf_type.now.kind text.now value → ¬ MeetsLimits leaf_type.now value
+        → Gives result (Err ValueFault.OutOfRange) }
     // The answer as a function of the text.
     ensures exact { Gives result (reading leaf_type.now text.now) }
 {

@@ -1,3 +1,5 @@
+//! Values of leafs and their order. All kinds are one type, so that a configuration is one map.
+
 ghost use Rattle.std.specs.Prelude.{◌≡◌, ◌↔◌, IsTrue, IfOk, Some, refl};
 ghost use Rattle.nm_types.specs.Value.{value_rank, value_number, value_digits, value_text, value_cmp, is_same_value};
 ghost use Rattle.nm_types.specs.ValueLaws.{values_equiv, values_total, values_po};
@@ -100,7 +102,9 @@ impl Value {
 
     // The order of two values of one kind: by number, then by the digits after the point, then by the bytes of the text.
     fn order_in_kind(&self, other: &Value) -> Ordering
-        ensures { result ≡ ordering_then (int_cmp (value_number self.now) (value_number other.now)) (ordering_then (nat_cmp (value_digits self.now) (value_digits other.now)) (slice_cmp nat_cmp (value_text self.now) (value_text other.now))) }
+        ensures { result ≡ ordering_then (int_cmp (value_number self.now) (value_number other.now))
+            (ordering_then (nat_cmp (value_digits self.now) (value_digits other.now))
+            (slice_cmp nat_cmp (value_text self.now) (value_text other.now))) }
     {
         let numbers = self.number().cmp(&other.number());
         let digits = self.digits().cmp(&other.digits());

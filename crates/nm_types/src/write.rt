@@ -1,3 +1,5 @@
+//! The one text that is written of a value (RFC 7950 section 9.1, the canonical form).
+
 ghost use Rattle.std.specs.Prelude.{◌≡◌, ◌<◌, ◌++◌, ℕ, List, vec_len, IfOk, OnOk, string_bytes};
 ghost use Rattle.std.specs.Str.{IsAscii};
 ghost use Rattle.nm_types.specs.Canonical.{minus, padded, shortened, at_least_one, decimal_text, canonical, IsHeld};

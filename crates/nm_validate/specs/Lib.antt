@@ -1,10 +1,6 @@
-pub mod Listed
-pub mod Members
-pub mod Placing
-pub mod Least
-pub mod Groups
-pub mod Counts
-pub mod Wanted
-pub mod Choosing
-pub mod Leafs
-pub mod Tables
+-- What is told of a configuration, in `Told`; the rest has places, and the children of one choice.
+pub mod Told
+pub mod Places
+pub mod Led
+pub mod Others
+pub mod Sample

@@ -1,28 +1,17 @@
-//! Whether a configuration is valid: for six of the nine rules the least path at which it is violated.
+//! Whether a configuration is valid: the violation that is told of it, of the first rule that is violated, at the least path.
 //!
-//! Stands on `nm_rules`, whose definitions say when a rule is violated. The layers above rely on what is answered being
-//! exactly the violation that is told, whatever the rows lie over.
+//! Stands on `nm_validate_places`, `nm_validate_leafref` and `nm_validate_unique`, which answer for eight of the nine rules, and on `nm_validate_rules`, whose
+//! definitions say when a rule is violated. The layers above rely on nothing being told exactly of what is valid, and on
+//! what is told being the least violation.
 #![tactic(auto)]
 
-pub mod areas;
-pub mod cases;
-mod choices;
-mod counts;
-mod fits;
-pub mod keys;
-mod leafs;
-mod least;
-pub mod tables;
-mod too_few;
-mod too_many;
-mod value_types;
-pub mod values;
+mod checked;
+pub mod child;
+pub mod laws;
+mod one_case;
+mod places;
+pub mod violation;
 
-pub use choices::{case_of_choice, choice_count, choice_of, choice_step, least_missing_choice};
-pub use counts::has_more;
-pub use keys::least_bad_key;
-pub use leafs::least_missing_leaf;
-pub use least::with_path;
-pub use too_few::{front, has_at_least, is_allowed_by, least_too_few};
-pub use too_many::least_too_many;
-pub use value_types::{fits_row, least_bad_value};
+pub use checked::check_rows;
+pub use one_case::least_other_case;
+pub use violation::{Violation, violation_of};

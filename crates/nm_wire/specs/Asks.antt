@@ -8,6 +8,7 @@ use Rattle.nm_proto.specs.declared.message.Store.TheVariants.{Running, Candidate
 use Rattle.nm_proto.specs.declared.message.Request.{Request}
 use Rattle.nm_proto.specs.declared.message.Request.TheVariants.{OpenSession, Lock, Unlock, PartialLock, PartialUnlock, Edit, Validate, Commit, CancelCommit, Discard, HasMark, GetConfig, Kill, CloseSession}
 
+-- what a lock asks, by its datastore
 abbrev pub lock_ask : Store → Ask
 lock_ask Running = ask.LockRunning
 lock_ask Candidate = ask.LockCandidate
@@ -20,6 +21,7 @@ commit_ask true false true = ask.Renew
 commit_ask false false true = ask.Confirm
 commit_ask _ _ _ = ask.Resync
 
+-- a cancel by whether it names a token: the manager's own do (RFC 6241 section 8.4.4.1)
 abbrev pub cancel_ask : Bool → Ask
 cancel_ask true = ask.Cancel
 cancel_ask false = ask.Resync

@@ -15,6 +15,7 @@ pub record GoesOn (before after : LinkState) : Type 0 where
   -- and a side that has ended doesn't come back
   pub closed : before.is_open ≡ false → after.is_open ≡ false
 
+-- a link is still there, and is as it was or went on
 abbrev pub GoesOnAs : LinkState → Option LinkState → Type 0
 GoesOnAs before None = ⊥
 GoesOnAs before (Some after) = GoesOn before after

@@ -10,6 +10,7 @@ use Rattle.nm_wire.specs.declared.link.Exchange.{Exchange}
 use Rattle.nm_wire.specs.declared.link.Way.{Way}
 use Rattle.nm_wire.specs.declared.link.Way.TheVariants.{Quiet, Asked, Told}
 
+-- a link: its past exchanges, what is on its way, and whether its side at the device is open
 pub record LinkState : Type 0 where
   pub past : List Exchange
   pub way : Way
@@ -37,6 +38,7 @@ told_on_way (Told exchange) = Some exchange
 abbrev pub outstanding : LinkState → Option Request
 outstanding link = if link.is_open then asked_on link.way else None
 
+-- nothing is on its way
 abbrev pub is_quiet_way : Way → Bool
 is_quiet_way Quiet = true
 is_quiet_way (Asked request) = false
@@ -46,6 +48,7 @@ is_quiet_way (Told exchange) = false
 abbrev pub is_quiet : LinkState → Bool
 is_quiet link = is_quiet_way link.way
 
+-- how many replies are on their way: one at most, since a link carries one exchange at a time
 abbrev pub told_count : Way → ℕ
 told_count Quiet = 0
 told_count (Asked request) = 0
@@ -55,6 +58,7 @@ told_count (Told exchange) = 1
 abbrev pub replies_sent : LinkState → ℕ
 replies_sent link = length link.past + told_count link.way
 
+-- how many replies the manager has handled
 abbrev pub replies_handled : LinkState → ℕ
 replies_handled link = length link.past
 
@@ -65,6 +69,7 @@ due_on number link = if number == length link.past + 1 then told_on_way link.way
 -- ---- what a link has done
 
 module _ {A : Type 0} where
+  -- what the exchange on its way adds: nothing until its reply was sent
   abbrev pub over_way : (A → Exchange → A) → A → Way → A
   over_way step value Quiet = value
   over_way step value (Asked request) = value
@@ -110,6 +115,7 @@ closes _ _ = false
 abbrev pub sent_on : Request → LinkState → LinkState
 sent_on request link = record link { way = Asked request }
 
+-- a link once the device has answered what was asked; where nothing was, unchanged
 abbrev pub told_by : Reply → LinkState → Way → LinkState
 told_by reply link Quiet = link
 told_by reply link (Asked request) =
@@ -120,6 +126,7 @@ told_by reply link (Told exchange) = link
 abbrev pub told_on : Reply → LinkState → LinkState
 told_on reply link = told_by reply link link.way
 
+-- a link once the manager has handled the reply that is on its way; where none is, unchanged
 abbrev pub handled_by : LinkState → Way → LinkState
 handled_by link Quiet = link
 handled_by link (Asked request) = link

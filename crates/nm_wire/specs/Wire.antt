@@ -7,6 +7,7 @@ use Rattle.nm_proto.specs.declared.message.Reply.{Reply}
 use Rattle.nm_wire.specs.declared.link.Exchange.{Exchange}
 use Rattle.nm_wire.specs.Link.{LinkState, fresh_link, outstanding, is_quiet, due_on, session_of, replies_sent, replies_handled, ends, sent_on, told_on, handled_on, closed_link}
 
+-- the links that were made to a device, by their numbers, and the current one
 pub record WireState : Type 0 where
   pub links : List LinkState
   pub current : Option ℕ
@@ -32,6 +33,7 @@ is_current wire number = is_number number wire.current where
 abbrev pub current_link : WireState → Option LinkState
 current_link wire = option_and_then (link_at wire) wire.current
 
+-- there is a link, and it is quiet
 abbrev pub is_quiet_link : Option LinkState → Bool
 is_quiet_link None = false
 is_quiet_link (Some link) = is_quiet link
@@ -44,9 +46,11 @@ may_send wire = is_quiet_link (current_link wire)
 abbrev pub outstanding_at : WireState → ℕ → Option Request
 outstanding_at wire number = option_and_then outstanding (link_at wire number)
 
+-- the session of the link of a number
 abbrev pub session_at : WireState → ℕ → Option ℕ
 session_at wire number = option_and_then session_of (link_at wire number)
 
+-- there is a link, and its side at the device is open
 abbrev pub is_open_link : Option LinkState → Bool
 is_open_link None = false
 is_open_link (Some link) = link.is_open
@@ -59,6 +63,7 @@ is_open_at wire number = is_open_link (link_at wire number)
 abbrev pub is_left_open : WireState → ℕ → Bool
 is_left_open wire number = is_open_at wire number && not (is_current wire number)
 
+-- how many replies were sent on a link, and how many are handled; none of a link that isn't there
 abbrev pub counts_of : Option LinkState → ℕ × ℕ
 counts_of None = (0, 0)
 counts_of (Some link) = (replies_sent link, replies_handled link)
@@ -77,6 +82,7 @@ due wire link number = if is_current wire link then option_and_then (due_on numb
 abbrev pub with_link : WireState → ℕ → LinkState → WireState
 with_link wire number link = record wire { links = slice_set wire.links (number - 1) link }
 
+-- the links with one of them changed; unchanged where there is no such link
 abbrev pub changed : (LinkState → LinkState) → WireState → ℕ → Option LinkState → WireState
 changed change wire number None = wire
 changed change wire number (Some link) = with_link wire number (change link)
@@ -85,6 +91,7 @@ changed change wire number (Some link) = with_link wire number (change link)
 abbrev pub begun : WireState → Request → WireState
 begun wire request = record { links = wire.links ++ sent_on request fresh_link ∷ []; current = Some (length wire.links + 1) }
 
+-- the links once a request was sent on one; unchanged without one
 abbrev pub sent_at : WireState → Request → Option ℕ → WireState
 sent_at wire request None = wire
 sent_at wire request (Some number) = changed (sent_on request) wire number (link_at wire number)
@@ -97,6 +104,7 @@ sent wire request = sent_at wire request wire.current
 abbrev pub told : WireState → ℕ → Reply → WireState
 told wire number reply = changed (told_on reply) wire number (link_at wire number)
 
+-- the links once a reply is handled: the one that ends its link leaves none current
 abbrev pub handled_at : WireState → ℕ → Option Exchange → WireState
 handled_at wire number None = wire
 handled_at wire number (Some exchange) =

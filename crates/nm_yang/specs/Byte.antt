@@ -30,10 +30,12 @@ abbrev pub begins : List ℕ → ℕ → Bool
 begins [] k = false
 begins (b ∷ bytes) k = b == k
 
+-- a quote stands first
 abbrev pub begins_quote : List ℕ → Bool
 begins_quote [] = false
 begins_quote (b ∷ bytes) = is_quote b
 
+-- `;`, `{` or `}` stands first
 abbrev pub begins_mark : List ℕ → Bool
 begins_mark [] = false
 begins_mark (b ∷ bytes) = is_mark b

@@ -90,17 +90,20 @@ spoken room left false (b ∷ raw) =
 -- the text is a string in quotes that means a value, and then the rest; single quotes hold all bytes as they stand
 pub data IsString (page : Page) (text value rest : List ℕ) : Type 0 where
   single : text ≡ 39 ∷ (value ++ 39 ∷ rest) → has 39 value ≡ false → IsString page text value rest
-  double : (raw : List ℕ) → text ≡ 34 ∷ (raw ++ 34 ∷ rest) → is_raw page.strict false raw ≡ true → value ≡ spoken (column_of page text + 1) 0 false raw → IsString page text value rest
+  double : (raw : List ℕ) → text ≡ 34 ∷ (raw ++ 34 ∷ rest) → is_raw page.strict false raw ≡ true
+      → value ≡ spoken (column_of page text + 1) 0 false raw → IsString page text value rest
 
 -- the text is strings that `+` joins to a value, blanks, and then the rest
 pub data Joined (page : Page) (rest : List ℕ) : List ℕ → List ℕ → Type 0 where
   one : (text value after : List ℕ) → IsString page text value after → Blanks rest after → Joined page rest text value
-  plus : (text value after more_text next others : List ℕ) → IsString page text value after → Blanks (43 ∷ more_text) after → Blanks next more_text → Joined page rest next others → Joined page rest text (value ++ others)
+  plus : (text value after more_text next others : List ℕ) → IsString page text value after → Blanks (43 ∷ more_text) after
+      → Blanks next more_text → Joined page rest next others → Joined page rest text (value ++ others)
 
 -- the text is an argument or none, blanks, and then the rest
 pub data IsArgument (page : Page) (text : List ℕ) (argument : Option (List ℕ)) (rest : List ℕ) : Type 0 where
   absent : argument ≡ None → text ≡ rest → IsArgument page text argument rest
-  word : (b : ℕ) (w after : List ℕ) → argument ≡ Some (b ∷ w) → IsUtf8 (b ∷ w) → text ≡ (b ∷ w) ++ after → IsWord (b ∷ w) after → Blanks rest after → IsArgument page text argument rest
+  word : (b : ℕ) (w after : List ℕ) → argument ≡ Some (b ∷ w) → IsUtf8 (b ∷ w) → text ≡ (b ∷ w) ++ after → IsWord (b ∷ w) after
+      → Blanks rest after → IsArgument page text argument rest
   quoted : (value : List ℕ) → argument ≡ Some value → IsUtf8 value → Joined page rest text value → IsArgument page text argument rest
 
 -- The text is a statement, which may open so many braces more, and then the rest (RFC 7950 section 6.3).
@@ -110,17 +113,21 @@ mutual
         → IsKeywordAt text keyword after → Blanks start after → IsArgument page start argument (59 ∷ rest)
         → Spells page depth text rest (statement keyword argument (place_of page text) none)
     holding : (depth : ℕ) (text keyword after start within first rest : List ℕ) (argument : Option (List ℕ)) (below : Trees)
-        → IsKeywordAt text keyword after → Blanks start after → IsArgument page start argument (123 ∷ within) → Blanks first within → Each page depth first rest below
+        → IsKeywordAt text keyword after → Blanks start after → IsArgument page start argument (123 ∷ within)
+        → Blanks first within → Each page depth first rest below
         → Spells page (suc depth) text rest (statement keyword argument (place_of page text) below)
 
   -- the text is statements, a `}`, and then the rest
   pub data Each (page : Page) : ℕ → List ℕ → List ℕ → Trees → Type 0 where
     closed : (depth : ℕ) (rest : List ℕ) → Each page depth (125 ∷ rest) rest none
-    another : (depth : ℕ) (text after next rest : List ℕ) (t : Tree) (ts : Trees) → Spells page depth text after t → Blanks next after → Each page depth next rest ts → Each page depth text rest (more t ts)
+    another : (depth : ℕ) (text after next rest : List ℕ) (t : Tree) (ts : Trees) → Spells page depth text after t
+        → Blanks next after → Each page depth next rest ts → Each page depth text rest (more t ts)
 
+-- the keyword of a statement
 abbrev pub keyword_of : Tree → List ℕ
 keyword_of (statement keyword argument place below) = keyword
 
+-- the statements within a statement
 abbrev pub below_of : Tree → Trees
 below_of (statement keyword argument place below) = below
 

@@ -1,3 +1,4 @@
+-- Statements as trees, then how they are read, byte by byte; what a text is by the grammar, and how a statement is written.
 pub mod Tree
 pub mod Byte
 pub mod Page

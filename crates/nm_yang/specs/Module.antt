@@ -18,6 +18,7 @@ use Rattle.nm_yang.specs.Argument.{argument_at}
 abbrev pub Run : Type 0
 Run = List Tree × Result (List ℕ) Fault
 
+-- a run that read no statement and ended at a fault
 abbrev pub failed : Fault → Run
 failed fault = ([], Err fault)
 
@@ -26,6 +27,7 @@ abbrev pub Stops : YangFault → List Tree → List Tree → Run → Type 0
 Stops errors.NoMemory old new run = Unit {0}
 Stops (errors.Bad place kind) old new run = (run.1 ≡ Err (bad place kind)) × (new ≡ old ++ run.0)
 
+-- a function appended the statements of a run and ended as the run did: with the rest, or with its fault
 abbrev pub Runs : {X : Type 0} → (X → List ℕ) → Result X YangFault → List Tree → List Tree → Run → Type 0
 Runs view (Ok x) old new run = (run.1 ≡ Ok (view x)) × (new ≡ old ++ run.0)
 Runs view (Err e) old new run = Stops e old new run
@@ -67,7 +69,9 @@ after_keyword page ending bytes = do
 -- a `;`, or what braces hold, which `inside` reads
 unfoldable pub end_at : (List ℕ → Run) → Page → Fault → List ℕ → Run
 end_at inside page ending [] = failed ending
-end_at inside page ending (b ∷ rest) = if b == 59 then ([], Ok rest) else (if b == 123 then inside (b ∷ rest) else failed (bad (place_of page (b ∷ rest)) BadToken))
+end_at inside page ending (b ∷ rest) =
+    if b == 59 then ([], Ok rest) else (
+    if b == 123 then inside (b ∷ rest) else failed (bad (place_of page (b ∷ rest)) BadToken))
 
 -- a statement, and the rest after it
 unfoldable pub statement_at : (List ℕ → Run) → Page → Fault → List ℕ → Result (Tree × List ℕ) Fault
@@ -80,7 +84,9 @@ statement_at inside page ending bytes = do
 -- statements up to a `}`, at most so many
 unfoldable pub each_at : (List ℕ → Result (Tree × List ℕ) Fault) → Page → Fault → ℕ → List ℕ → Run
 each_at read page ending zero bytes = failed ending
-each_at read page ending (suc n) bytes = if begins bytes 125 then ([], Ok (drop 1 bytes)) else cons_run (read bytes) (λ after. then_run (skip page plain after) (λ rest. each_at read page ending n rest))
+each_at read page ending (suc n) bytes =
+    if begins bytes 125 then ([], Ok (drop 1 bytes)) else
+    cons_run (read bytes) (λ after. then_run (skip page plain after) (λ rest. each_at read page ending n rest))
 
 -- what is wrong where the text ends within braces that open here
 abbrev pub open_brace : Page → List ℕ → Fault
@@ -89,8 +95,11 @@ open_brace page bytes = at_end page (bad (place_of page bytes) UnclosedBrace)
 -- the statements within braces, which open here, where so many more braces may be open
 unfoldable pub inside : ℕ → Page → List ℕ → Run
 inside zero page bytes = failed (bad (place_of page bytes) TooDeep)
-inside (suc depth) page bytes = then_run (skip page plain (drop 1 bytes)) (λ start. each_at (statement_at (inside depth page) page (open_brace page bytes)) page (open_brace page bytes) (length start) start)
+inside (suc depth) page bytes =
+    then_run (skip page plain (drop 1 bytes))
+    (λ start. each_at (statement_at (inside depth page) page (open_brace page bytes)) page (open_brace page bytes) (length start) start)
 
+-- the fault of a text that isn't one `module` statement; a text that is cut off has the fault of its cut
 abbrev pub not_module : Page → Fault
 not_module page = at_end page (bad 0 NotModule)
 
@@ -108,6 +117,7 @@ done_at page None [] = Ok []
 done_at page (Some stop) [] = Err stop
 done_at page stop (b ∷ rest) = Err (bad (place_of page (b ∷ rest)) Trailing)
 
+-- how many braces may be open within the module's own: a limit of this project
 abbrev pub most_deep : ℕ
 most_deep = 64
 
@@ -132,6 +142,7 @@ closed_at page h body = do
 abbrev pub Found : Type 0
 Found = List Tree × Result Tree Fault
 
+-- what is found goes on from the heading; where that has a fault, no statement was read
 abbrev pub with_heading : Result Heading Fault → (Heading → Found) → Found
 with_heading (Ok h) go = go h
 with_heading (Err fault) go = ([], Err fault)
@@ -157,6 +168,7 @@ module_at page = with_heading (begin_at page) (λ h. ((body_at page h).0, closed
 
 -- ---- which backslashes are faults, and where the text is cut off
 
+-- a statement has this argument; one without an argument has none
 abbrev pub argument_is : Option (List ℕ) → List ℕ → Bool
 argument_is None bytes = false
 argument_is (Some a) bytes = bytes_eq a bytes
@@ -165,6 +177,7 @@ argument_is (Some a) bytes = bytes_eq a bytes
 abbrev pub says_1_1 : Tree → Bool
 says_1_1 (statement keyword argument place below) = bytes_eq keyword (codes "yang-version") && argument_is argument (codes "1.1")
 
+-- one of the statements says that the module is of version 1.1 (RFC 7950 section 7.1.2)
 abbrev pub any_says_1_1 : List Tree → Bool
 any_says_1_1 [] = false
 any_says_1_1 (t ∷ ts) = says_1_1 t || any_says_1_1 ts
@@ -181,16 +194,23 @@ front_len limit text = if nat_lt (utf8_valid_len text) limit then utf8_valid_len
 
 -- what is wrong where reading is cut off: nothing where the text ends there
 abbrev pub stop_of : ℕ → List ℕ → Option Fault
-stop_of limit text = if nat_lt (utf8_valid_len text) limit then (if utf8_valid_len text == length text then None else Some (bad (utf8_valid_len text) NotUtf8)) else (
-    if limit == length text then None else Some (bad limit TooLong))
+stop_of limit text =
+    if nat_lt (utf8_valid_len text) limit
+    then (if utf8_valid_len text == length text then None else Some (bad (utf8_valid_len text) NotUtf8))
+    else (if limit == length text then None else Some (bad limit TooLong))
 
+-- a text as it is read: no further than a limit or its first byte that isn't UTF-8
 abbrev pub page_of : ℕ → Bool → List ℕ → Page
 page_of limit strict text = record { text = take (front_len limit text) text; stop = stop_of limit text; strict = strict }
 
 -- The module or the first fault. A backslash that begins no escape stands for itself, unless the module's
 -- yang-version statement, wherever it stands before another fault, says 1.1 (RFC 7950 sections 6.1.3 and 12).
 abbrev pub reading_within : ℕ → List ℕ → Result Tree Fault
-reading_within limit text = if any_says_1_1 (module_at (page_of limit false text)).0 then (module_at (page_of limit true text)).1 else (module_at (page_of limit false text)).1
+reading_within limit text =
+    if any_says_1_1 (module_at (page_of limit false text)).0
+    then (module_at (page_of limit true text)).1
+    else (module_at (page_of limit false text)).1
 
+-- the module that a text is, or its first fault, within this project's limit on its length
 unfoldable pub reading : List ℕ → Result Tree Fault
 reading text = reading_within most_long text

@@ -12,6 +12,7 @@ pub record Page : Type 0 where
   pub stop : Option Fault
   pub strict : Bool
 
+-- a fault of a kind at a place
 abbrev pub bad : ℕ → YangKind → Fault
 bad place kind = record { place = place; kind = kind }
 
@@ -30,8 +31,12 @@ front bytes rest = take (length bytes - length rest) bytes
 -- the column after a byte: a line break begins a line, a tab goes to the next multiple of 8, and the bytes
 -- of one character take one column (RFC 7950 section 6.1.3; how tabs count is this project's own)
 abbrev pub next_column : ℕ → ℕ → ℕ
-next_column column byte = if byte == 10 then 0 else (if byte == 9 then (column / 8 + 1) * 8 else (if nat_le 128 byte && nat_lt byte 192 then column else column + 1))
+next_column column byte =
+    if byte == 10 then 0 else (
+    if byte == 9 then (column / 8 + 1) * 8 else (
+    if nat_le 128 byte && nat_lt byte 192 then column else column + 1))
 
+-- the column after some bytes, from one
 abbrev pub column_from : ℕ → List ℕ → ℕ
 column_from column [] = column
 column_from column (byte ∷ bytes) = column_from (next_column column byte) bytes
@@ -55,6 +60,7 @@ abbrev pub Fails : {Y : Type 0} → YangFault → Result Y Fault → Type 0
 Fails errors.NoMemory read = Unit {0}
 Fails (errors.Bad place kind) read = read ≡ Err (bad place kind)
 
+-- what a function returned, seen by view, is the value or the fault that reading gives, unless memory ran out
 abbrev pub Gives : {X Y : Type 0} → (X → Y) → Result X YangFault → Result Y Fault → Type 0
 Gives view (Ok x) read = read ≡ Ok (view x)
 Gives view (Err e) read = Fails e read

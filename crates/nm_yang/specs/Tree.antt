@@ -10,6 +10,7 @@ mutual
   pub data Tree : Type 0 where
     statement : List ℕ → Option (List ℕ) → ℕ → Trees → Tree
 
+  -- statements beside one another
   pub data Trees : Type 0 where
     none : Trees
     more : Tree → Trees → Trees
@@ -24,6 +25,7 @@ abbrev mutual
   pub tree_size : Tree → ℕ
   tree_size (statement keyword argument place below) = suc (trees_size below)
 
+  -- how many these are, with all that is within them
   pub trees_size : Trees → ℕ
   trees_size none = 0
   trees_size (more t ts) = tree_size t + trees_size ts
@@ -35,39 +37,48 @@ most_le-trees_size (t ∷ ts) = omega (arith, most_le-trees_size ts)
 
 -- ---- a statement as rows from the outside in, each with how many statements are within: rows tell statements apart
 
+-- a statement by itself: its keyword, its argument, its place, and how many statements stand directly within it
 abbrev pub Row : Type 0
 Row = List ℕ × Option (List ℕ) × ℕ × ℕ
 
+-- how many statements stand beside one another, those within them not counted
 abbrev pub count : Trees → ℕ
 count none = 0
 count (more t ts) = suc (count ts)
 
+-- the rows of a statement and of what is within it, each statement before what is within it, in the order of the text
 abbrev mutual
   pub rows_of : Tree → List Row
   rows_of (statement keyword argument place below) = (keyword, argument, place, count below) ∷ rows_of_all below
 
+  -- the rows of statements beside one another, with all that is within them
   pub rows_of_all : Trees → List Row
   rows_of_all none = []
   rows_of_all (more t ts) = rows_of t ++ rows_of_all ts
 
+-- the first n of some statements
 abbrev pub first : ℕ → Trees → Trees
 first zero ts = none
 first (suc n) none = none
 first (suc n) (more t ts) = more t (first n ts)
 
+-- some statements without the first n
 abbrev pub others : ℕ → Trees → Trees
 others zero ts = ts
 others (suc n) none = none
 others (suc n) (more t ts) = others n ts
 
+-- the statements that rows were made of: each row takes as many of those that follow as it says
 abbrev pub of_rows : List Row → Trees
 of_rows [] = none
 of_rows (r ∷ rs) = more (statement r.0 r.1 r.2 (first r.3 (of_rows rs))) (others r.3 (of_rows rs))
 
+-- the first of some statements; where there is none, one that says nothing
 abbrev pub head_of : Trees → Tree
 head_of none = statement [] None 0 none
 head_of (more t ts) = t
 
+-- some statements, and then others
 abbrev pub joined : Trees → Trees → Trees
 joined none us = us
 joined (more t ts) us = more t (joined ts us)
@@ -90,11 +101,16 @@ mutual
   of_rows-rows_of_all (more t ts) rs =
       ap of_rows (append_assoc (rows_of t) (rows_of_all ts) rs) ∙ of_rows-rows_of t (rows_of_all ts ++ rs) ∙ ap (λ x. more t x) (of_rows-rows_of_all ts rs)
 
+-- the rows of a statement tell which it is
 pub tree_back : (t : Tree) → head_of (of_rows (rows_of t)) ≡ t
 tree_back t = ap (λ rs. head_of (of_rows rs)) (sym (append-nil (rows_of t))) ∙ ap head_of (of_rows-rows_of t [])
 
+-- how a proof tells rows of statements apart: by the four parts
 abbrev pub row_code : Coded Row
-row_code = code_by (List ℕ × (Option (List ℕ) × (ℕ × ℕ))) (coded× (coded_list coded_ℕ) (coded× (coded_option (coded_list coded_ℕ)) (coded× coded_ℕ coded_ℕ))) (λ r. (r.0, (r.1, (r.2, r.3)))) (λ p. (p.0, p.1.0, p.1.1.0, p.1.1.1)) (λ _. refl)
+row_code = code_by (List ℕ × (Option (List ℕ) × (ℕ × ℕ)))
+    (coded× (coded_list coded_ℕ) (coded× (coded_option (coded_list coded_ℕ)) (coded× coded_ℕ coded_ℕ)))
+    (λ r. (r.0, (r.1, (r.2, r.3)))) (λ p. (p.0, p.1.0, p.1.1.0, p.1.1.1)) (λ _. refl)
 
+-- how a proof tells statements apart: by their rows
 abbrev pub tree_code : Coded Tree
 tree_code = code_by (List Row) (coded_list row_code) rows_of (λ rs. head_of (of_rows rs)) tree_back

@@ -39,13 +39,17 @@ abbrev pub bare_end : List ℕ → List ℕ
 bare_end [] = []
 bare_end (b ∷ rest) = if is_ending b || opens_comment b rest || closes_comment b rest then b ∷ rest else bare_end rest
 
+-- a `*/` stands first
 abbrev pub begins_close : List ℕ → Bool
 begins_close [] = false
 begins_close (b ∷ rest) = closes_comment b rest
 
 -- an argument without quotes, and the rest after it
 unfoldable pub bare_at : Page → List ℕ → Result (List ℕ × List ℕ) Fault
-bare_at page bytes = if begins_close (bare_end bytes) then Err (bad (place_of page (bare_end bytes)) BadToken) else Ok (front bytes (bare_end bytes), bare_end bytes)
+bare_at page bytes =
+    if begins_close (bare_end bytes)
+    then Err (bad (place_of page (bare_end bytes)) BadToken)
+    else Ok (front bytes (bare_end bytes), bare_end bytes)
 
 -- the bytes where they are UTF-8, and else the fault
 abbrev pub text_at : Fault → List ℕ → Result (List ℕ) Fault

@@ -9,6 +9,7 @@ use Rattle.nm_yang.specs.Tree.{Tree, Trees, statement, none, more}
 abbrev pub escape_of : ℕ → List ℕ
 escape_of b = if b == 10 then 92 ∷ 110 ∷ [] else (if b == 9 then 92 ∷ 116 ∷ [] else (if b == 34 || b == 92 then 92 ∷ b ∷ [] else b ∷ []))
 
+-- an argument as it is written: a space, and the text between double quotes; nothing where there is no argument
 abbrev pub written_argument : Option (List ℕ) → List ℕ
 written_argument None = []
 written_argument (Some a) = 32 ∷ 34 ∷ (flat_map escape_of a ++ 34 ∷ [])
@@ -18,6 +19,7 @@ unfoldable mutual
   pub written : Tree → List ℕ
   written (statement keyword argument place below) = keyword ++ (written_argument argument ++ written_end below)
 
+  -- the end of a statement: `;`, or in braces what is within it
   pub written_end : Trees → List ℕ
   written_end none = 59 ∷ []
   written_end (more t ts) = 32 ∷ 123 ∷ 32 ∷ (written t ++ 32 ∷ (written_each ts ++ 125 ∷ []))
@@ -38,11 +40,13 @@ abbrev mutual
   pub CanHave : ℕ → Tree → Type 0
   CanHave depth (statement keyword argument place below) = IsKeyword keyword × IsUtf8 keyword × IfSome argument IsUtf8 × CanHold depth below
 
+  -- what stands within a statement opens a brace, unless nothing stands there
   pub CanHold : ℕ → Trees → Type 0
   CanHold depth none = Unit {0}
   CanHold zero (more t ts) = ⊥
   CanHold (suc depth) (more t ts) = CanHave depth t × CanHoldEach depth ts
 
+  -- each of these can stand within braces that are open
   pub CanHoldEach : ℕ → Trees → Type 0
   CanHoldEach depth none = Unit {0}
   CanHoldEach depth (more t ts) = CanHave depth t × CanHoldEach depth ts
@@ -52,6 +56,7 @@ abbrev mutual
   pub SameWords : Tree → Tree → Type 0
   SameWords (statement k a p ts) (statement l b q us) = (k ≡ l) × (a ≡ b) × SameWordsEach ts us
 
+  -- the same of statements beside one another
   pub SameWordsEach : Trees → Trees → Type 0
   SameWordsEach none none = Unit {0}
   SameWordsEach none (more u us) = ⊥

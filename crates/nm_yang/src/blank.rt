@@ -28,7 +28,9 @@ fn after_line(bytes: &[u8]) -> &[u8]
 /// What is left after the next `*/`, and None where there is none.
 #[tactic(auto, unfolding(crate::specs::Blank::skip))]
 fn after_block(bytes: &[u8]) -> Option<&[u8]>
-    ensures rest { (page : Page) (opener : ℕ) → MatchOption result (skip_of page (block opener false) bytes.now ≡ Err (at_end page (bad opener UnclosedComment))) (λ r. skip_of page (block opener false) bytes.now ≡ skip_of page plain r.now) }
+    ensures rest { (page : Page) (opener : ℕ) → MatchOption result
+        (skip_of page (block opener false) bytes.now ≡ Err (at_end page (bad opener UnclosedComment)))
+        (λ r. skip_of page (block opener false) bytes.now ≡ skip_of page plain r.now) }
     ensures shorter { IfSome result (λ r. length r.now ≤ length bytes.now) }
 {
     let mut starred = false;
@@ -46,7 +48,9 @@ fn after_block(bytes: &[u8]) -> Option<&[u8]>
 /// What is left after a comment that opened before the `*` that stands first, and None where it is never closed.
 #[tactic(auto, unfolding(crate::specs::Blank::skip))]
 fn after_star(bytes: &[u8]) -> Option<&[u8]>
-    ensures rest { (page : Page) (opener : ℕ) → MatchOption result (skip_of page (star opener) bytes.now ≡ Err (at_end page (bad opener UnclosedComment))) (λ r. skip_of page (star opener) bytes.now ≡ skip_of page plain r.now) }
+    ensures rest { (page : Page) (opener : ℕ) → MatchOption result
+        (skip_of page (star opener) bytes.now ≡ Err (at_end page (bad opener UnclosedComment)))
+        (λ r. skip_of page (star opener) bytes.now ≡ skip_of page plain r.now) }
     ensures shorter { IfSome result (λ r. length r.now ≤ length bytes.now) }
 {
     match bytes {

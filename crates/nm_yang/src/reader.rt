@@ -27,7 +27,8 @@ impl<'a> Model for Reader<'a> {
 
     ghost view = { λ r. record { text = r.text.now; stop = r.stop; strict = r.strict } };
 
-    ghost invariant = { λ r. (length r.text.now ≤ 262144) × (r.marked ≤ length r.text.now) × (r.column ≡ column_from 0 (take r.marked r.text.now)) × (r.column ≤ 8 * r.marked) };
+    ghost invariant = { λ r. (length r.text.now ≤ 262144) × (r.marked ≤ length r.text.now)
+        × (r.column ≡ column_from 0 (take r.marked r.text.now)) × (r.column ≤ 8 * r.marked) };
 }
 
 fn next_column(column: u32, byte: u8) -> u32

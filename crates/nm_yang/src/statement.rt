@@ -1,3 +1,5 @@
+//! A statement as it lies in memory, and how clauses see it: as a tree.
+
 use nm_base::Label;
 use std::marker::Model;
 

@@ -1,3 +1,5 @@
+pub mod Numbers
+pub mod Bits
 pub mod Tails
 pub mod Goods
 pub mod Blanked

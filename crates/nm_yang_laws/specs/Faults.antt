@@ -43,7 +43,8 @@ begins_token (b ∷ rest) = not (is_white b || opens_comment b rest)
 abbrev pub Shows : Page → List ℕ → YangKind → Type 0
 Shows page rest UnclosedQuote = (page.stop ≡ None) × (begins_quote rest ≡ true) × ((value after : List ℕ) → IsString page rest value after → ⊥)
 Shows page rest UnclosedComment = (page.stop ≡ None) × (begins_block rest ≡ true) × (has_close (drop 2 rest) ≡ false)
-Shows page rest UnclosedBrace = (page.stop ≡ None) × (begins rest 123 ≡ true) × ((depth : ℕ) (first after : List ℕ) (below : Trees) → Blanks first (drop 1 rest) → Each page depth first after below → ⊥)
+Shows page rest UnclosedBrace = (page.stop ≡ None) × (begins rest 123 ≡ true)
+    × ((depth : ℕ) (first after : List ℕ) (below : Trees) → Blanks first (drop 1 rest) → Each page depth first after below → ⊥)
 Shows page rest BadEscape = (page.strict ≡ true) × (begins_no_escape rest ≡ true)
 Shows page rest BadKeyword = (begins_no_identifier rest ≡ true) × (begins_token rest ≡ true)
 Shows page rest BadToken = begins_token rest ≡ true
@@ -62,13 +63,17 @@ pub data IsCause (text : List ℕ) (fault : Fault) : Type 0 where
   -- it stands at the place
   shown : Shows (read_page text) (read_from text fault.place) fault.kind → IsCause text fault
   -- no identifier stands behind a colon
-  behind_colon : fault.kind ≡ BadKeyword → 0 < fault.place → read_from text (fault.place - 1) ≡ 58 ∷ read_from text fault.place → begins_no_identifier (read_from text fault.place) ≡ true → IsCause text fault
+  behind_colon : fault.kind ≡ BadKeyword → 0 < fault.place → read_from text (fault.place - 1) ≡ 58 ∷ read_from text fault.place
+      → begins_no_identifier (read_from text fault.place) ≡ true → IsCause text fault
   -- the text is read to its end
   no_module : fault ≡ bad 0 NotModule → (read_page text).stop ≡ None → IsCause text fault
   -- another statement stands first
-  other_keyword : fault ≡ bad 0 NotModule → (start keyword after : List ℕ) → Blanks start (read_page text).text → IsKeywordAt start keyword after → (keyword ≡ codes "module" → ⊥) → IsCause text fault
+  other_keyword : fault ≡ bad 0 NotModule → (start keyword after : List ℕ) → Blanks start (read_page text).text
+      → IsKeywordAt start keyword after → (keyword ≡ codes "module" → ⊥) → IsCause text fault
   -- a module stands before, and blanks
-  trailing : fault.kind ≡ Trailing → (start after : List ℕ) (t : Tree) → Blanks start (read_page text).text → Spells (read_page text) most_deep start after t → keyword_of t ≡ codes "module" → Blanks (read_from text fault.place) after → begins_token (read_from text fault.place) ≡ true → IsCause text fault
+  trailing : fault.kind ≡ Trailing → (start after : List ℕ) (t : Tree) → Blanks start (read_page text).text
+      → Spells (read_page text) most_deep start after t → keyword_of t ≡ codes "module"
+      → Blanks (read_from text fault.place) after → begins_token (read_from text fault.place) ≡ true → IsCause text fault
   -- the bytes are UTF-8 up to there
   not_utf8 : fault ≡ bad (utf8_valid_len text) NotUtf8 → utf8_valid_len text < length text → utf8_valid_len text < most_long → IsCause text fault
   -- the text goes on behind the limit

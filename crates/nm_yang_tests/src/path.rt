@@ -1,6 +1,6 @@
-use crate::tree::{label, sample};
+use crate::tree::{holds, label, sample};
 use nm_path::{PathFault, laws, node_of, read_path, write_path};
-use nm_tree::Schema;
+use nm_schema_tree::Schema;
 use nm_types::{Chosen, LeafType, Path, Step, TypeKind, Value, ValueFault, read_value};
 use std::alloc::Global;
 use std::process::Abort;
@@ -33,65 +33,115 @@ pub fn path_in(rt: &impl Abort, alloc: Global, names: (&str, &str), chosen: Chos
     path
 }
 
-// A module, a name, and keys; the text that is written of their path, and the number of its node. Of what no node names
-// nothing is written, and keys past the values are left out (this project's own).
-static KEYED: &[(&str, &str, &[i128], &str, Option<usize>)] = &[
-    ("ex", "iface", &[1, 2], "/ex:sys/iface[name='1']", Some(1)),
-    ("ex", "iface", &[], "/ex:sys/iface", Some(1)),
-    ("ex", "route", &[1], "/ex:sys/route[dest='1']", Some(3)),
-    ("ex", "nope", &[1], "/ex:sys/nope", None),
-    ("m", "iface", &[1], "/ex:sys/iface", None),
+// What a step chooses: the entry of keys of a list, or one of a leaf-list.
+enum Choice {
+    Keys(&'static [i128]),
+    Entry(i128),
+}
+
+// A module, a name, and what is chosen; the text that is written of their path, and the number of its node.
+type Row = (
+    &'static str,
+    &'static str,
+    Choice,
+    &'static str,
+    Option<usize>,
+);
+
+// Of what no node names nothing is written, and keys past the values are left out (this project's own).
+static WRITTEN: [Row; 7] = [
+    (
+        "ex",
+        "iface",
+        Choice::Keys(&[1, 2]),
+        "/ex:sys/iface[name='1']",
+        Some(1),
+    ),
+    ("ex", "iface", Choice::Keys(&[]), "/ex:sys/iface", Some(1)),
+    (
+        "ex",
+        "route",
+        Choice::Keys(&[1]),
+        "/ex:sys/route[dest='1']",
+        Some(3),
+    ),
+    ("ex", "nope", Choice::Keys(&[1]), "/ex:sys/nope", None),
+    ("m", "iface", Choice::Keys(&[1]), "/ex:sys/iface", None),
+    (
+        "ex",
+        "iface",
+        Choice::Entry(-1),
+        "/ex:sys/iface[.='-1']",
+        Some(1),
+    ),
+    ("m", "iface", Choice::Entry(1), "/ex:sys/iface[.='1']", None),
 ];
 
-// The same with an entry of a leaf-list.
-static ENTRIES: &[(&str, i128, &str, Option<usize>)] = &[
-    ("ex", -1, "/ex:sys/iface[.='-1']", Some(1)),
-    ("m", 1, "/ex:sys/iface[.='1']", None),
-];
+fn chosen(rt: &impl Abort, alloc: Global, choice: &Choice) -> Chosen {
+    match choice {
+        Choice::Keys(numbers) => keyed(rt, alloc, numbers),
+        Choice::Entry(number) => Chosen::Entry(Value::Int(*number)),
+    }
+}
 
+// Whether a path is written as a text and leads to a node. The path is used up.
 fn is_written(
     rt: &impl Abort,
     alloc: Global,
     schema: &Schema,
-    path: &Path,
+    path: Path,
     text: &str,
     node: Option<usize>,
 ) -> bool {
-    let written = write_path(alloc, schema, path).expect(rt, "memory");
-    written.as_str() == text && node_of(schema, path) == node
+    let written = write_path(alloc, schema, &path).expect(rt, "memory");
+    let is_so = written.as_str() == text && node_of(schema, &path) == node;
+    drop(written);
+    drop(path);
+    is_so
+}
+
+fn try_row(rt: &impl Abort, alloc: Global, schema: &Schema, row: &Row) {
+    let path = path_in(rt, alloc, (row.0, row.1), chosen(rt, alloc, &row.2));
+    holds(rt, is_written(rt, alloc, schema, path, row.3, row.4), row.3);
+}
+
+fn try_written(rt: &impl Abort, alloc: Global, schema: &Schema) {
+    for row in &WRITTEN {
+        try_row(rt, alloc, schema, row);
+    }
+    let top = Path {
+        steps: Vec::new(alloc),
+    };
+    holds(rt, is_written(rt, alloc, schema, top, "", None), "the top");
+}
+
+fn is_lost(alloc: Global, schema: &Schema, text: &str) -> bool {
+    matches!(
+        read_path(alloc, schema, text).err(),
+        Some(PathFault::Unknown)
+    )
+}
+
+static PATHS: [(&str, bool); 3] = [
+    ("/ex:sys/iface/nope", true),
+    ("/ex:nope/", false),
+    ("/ex:sys/iface", false),
+];
+
+// The commands tell the causes of a fault alike.
+fn try_lost(rt: &impl Abort, alloc: Global, schema: &Schema) {
+    for (text, is_so) in &PATHS {
+        holds(rt, is_lost(alloc, schema, text) == *is_so, text);
+    }
 }
 
 #[test]
-fn other_paths_are_written(rt: HostRuntime) {
-    let schema = sample(&rt, rt.alloc());
-    for (module, name, keys, text, node) in KEYED {
-        let path = path_in(
-            &rt,
-            rt.alloc(),
-            (module, name),
-            keyed(&rt, rt.alloc(), keys),
-        );
-        assert!(rt;
-            is_written(&rt, rt.alloc(), &schema, &path, text, *node),
-            "{text}"
-        );
-    }
-    for (module, number, text, node) in ENTRIES {
-        let path = path_in(
-            &rt,
-            rt.alloc(),
-            (module, "iface"),
-            Chosen::Entry(Value::Int(*number)),
-        );
-        assert!(rt;
-            is_written(&rt, rt.alloc(), &schema, &path, text, *node),
-            "{text}"
-        );
-    }
-    let top = Path {
-        steps: Vec::new(rt.alloc()),
-    };
-    assert!(rt; is_written(&rt, rt.alloc(), &schema, &top, "", None));
+fn paths_are_written_and_read(rt: HostRuntime) {
+    let alloc = rt.alloc();
+    let schema = sample(&rt, alloc);
+    try_written(&rt, alloc, &schema);
+    try_lost(&rt, alloc, &schema);
+    drop(schema);
     laws::one_path();
     laws::full_paths();
 }
@@ -110,41 +160,24 @@ fn is_out_of_range(alloc: Global, digits: u8, text: &str) -> bool {
         kind: kind_of(digits),
         limits: None,
     };
-    matches!(
-        read_value(alloc, &leaf_type, text),
-        Err(ValueFault::OutOfRange)
-    )
+    let fault = read_value(alloc, &leaf_type, text).err();
+    drop(leaf_type);
+    matches!(fault, Some(ValueFault::OutOfRange))
 }
 
 // RFC 7950 sections 9.2 and 9.3: what the number of digits allows, and what the range of 64 bits.
-static VALUES: &[(u8, &str, bool)] = &[
+static VALUES: [(u8, &str, bool); 4] = [
     (0, "256", true),
     (0, "0x10", false),
     (18, "10", true),
     (2, "3.141", false),
 ];
 
-fn is_lost(alloc: Global, schema: &Schema, text: &str) -> bool {
-    matches!(read_path(alloc, schema, text), Err(PathFault::Unknown))
-}
-
-static PATHS: &[(&str, bool)] = &[
-    ("/ex:sys/iface/nope", true),
-    ("/ex:nope/", false),
-    ("/ex:sys/iface", false),
-];
-
-// The commands tell these causes alike.
+// These causes are told alike too.
 #[test]
-fn causes_are_told(rt: HostRuntime) {
-    for (digits, text, is_so) in VALUES {
-        assert!(rt;
-            is_out_of_range(rt.alloc(), *digits, text) == *is_so,
-            "{text}"
-        );
-    }
-    let schema = sample(&rt, rt.alloc());
-    for (text, is_so) in PATHS {
-        assert!(rt; is_lost(rt.alloc(), &schema, text) == *is_so, "{text}");
+fn values_are_out_of_range(rt: HostRuntime) {
+    let alloc = rt.alloc();
+    for (digits, text, is_so) in &VALUES {
+        holds(&rt, is_out_of_range(alloc, *digits, text) == *is_so, text);
     }
 }

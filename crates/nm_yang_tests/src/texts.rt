@@ -1,9 +1,9 @@
 //! Bytes that are no text, which no scenario holds (RFC 8259 section 8.1), and the text that a statement is written as.
 
-use nm_base::NoMemory;
+use crate::tree::holds;
 use nm_yang::{YangFault, YangKind, read_module, write_module};
 use std::alloc::Global;
-use std::test::Fail;
+use std::process::Abort;
 
 // Bytes that aren't UTF-8, met where they stand (RFC 3629).
 const BYTES: [(&[u8], YangKind, u32); 7] = [
@@ -17,18 +17,18 @@ const BYTES: [(&[u8], YangKind, u32); 7] = [
 ];
 
 fn is_fault(alloc: Global, bytes: &[u8], wanted: YangKind, at: u32) -> bool {
-    match read_module(alloc, bytes) {
-        Err(YangFault::Bad { place, kind }) => kind == wanted && place == at,
+    match read_module(alloc, bytes).err() {
+        Some(YangFault::Bad { place, kind }) => kind == wanted && place == at,
         _ => false,
     }
 }
 
 #[test]
-fn reads_bytes(rt: HostRuntime) -> Result<(), Fail> {
+fn reads_bytes(rt: HostRuntime) {
+    let alloc = rt.alloc();
     for (bytes, kind, place) in &BYTES {
-        assert!(rt; is_fault(rt.alloc(), bytes, *kind, *place));
+        assert!(rt; is_fault(alloc, bytes, *kind, *place));
     }
-    Ok(())
 }
 
 // A text, and what its statement is written as: its arguments in double quotes (RFC 7950 section 6.1.3).
@@ -45,17 +45,21 @@ const WRITTEN: [(&str, &str); 4] = [
     ("module { x:y +; }", "module { x:y \"+\"; }"),
 ];
 
-fn is_written(alloc: Global, text: &str, wanted: &str) -> Result<bool, NoMemory> {
-    match read_module(alloc, text.as_bytes()) {
-        Ok(statement) => Ok(write_module(alloc, &statement)?.as_slice() == wanted.as_bytes()),
-        Err(_) => Ok(false),
-    }
+fn is_written(rt: &impl Abort, alloc: Global, text: &str, wanted: &str) -> bool {
+    let module = read_module(alloc, text.as_bytes())
+        .ok()
+        .expect(rt, "a module");
+    let written = write_module(alloc, &module).expect(rt, "memory");
+    drop(module);
+    let is_so = written.as_slice() == wanted.as_bytes();
+    drop(written);
+    is_so
 }
 
 #[test]
-fn writes(rt: HostRuntime) -> Result<(), Fail> {
+fn writes(rt: HostRuntime) {
+    let alloc = rt.alloc();
     for (text, wanted) in &WRITTEN {
-        assert!(rt; is_written(rt.alloc(), text, wanted)?);
+        holds(&rt, is_written(&rt, alloc, text, wanted), wanted);
     }
-    Ok(())
 }

@@ -1,5 +1,5 @@
 use Rattle.std.proofs.Common.{◌≡◌, Ok, Err, subst}
-use Rattle.nm_scenario_parts.specs.declared.fault.ReadError.TheVariants.{Bad}
+use Rattle.nm_scenario_form.specs.declared.fault.ReadError.TheVariants.{Bad}
 use Rattle.nm_scenario.specs.Scenario.{Reads}
 use Rattle.nm_console.proofs.Checks.{holding_told, refused_told}
 use Rattle.nm_console.proofs.check.check_bytes.Goals as goal

@@ -6,6 +6,6 @@ use Rattle.nm_console.proofs.console.say_bytes.Goals as goal
 pub returns-in-Ok-clause-told : goal.returns-in-Ok-clause-told
 returns-in-Ok-clause-told g c =
     let said = c.in-Ok.said in
-    let stored = g.D.Disk.told c.args.journal.now in
+    let stored = (g.D.Disk.state c.args.journal.now).contents in
     subst (λ command. TellsOver (Some command) c.args.bytes.now stored stored said.status said.text.items) (sym c.in-Check.is)
     (check_over c.args.bytes.now stored said.status said.text.items c.in-Ok.ensures.told)

@@ -1,5 +1,5 @@
 use Rattle.std.proofs.Common.{◌∙◌, rules}
-use Rattle.nm_network.proofs.Passing.{rose_since}
+use Rattle.nm_world.proofs.Passing.{rose_since}
 use Rattle.nm_console.proofs.Led.{rest_done, rest_others, rest_straight, ran_left, rest_left}
 use Rattle.nm_console.proofs.replay.lead.Goals as goal
 
@@ -8,7 +8,7 @@ returns-in_err-last-clause-read g c = λ calm offset is. c.in_err-last.ensures.r
 
 pub returns-in_err-last-clause-any_moment : goal.returns-in_err-last-clause-any_moment
 returns-in_err-last-clause-any_moment g c = λ there.
-    ran_left g.C.Content.meaning c.args.world c.args.world c.args.events.now g.D.Disk.may_leave g.D.Disk.moment g.D.Disk.might_have_left c.args.drain c.args.disk.now c.run.new.disk
+    ran_left g.C.Content.meaning c.args.world c.args.world c.args.events.now c.args.drain (g.D.Disk.state c.args.disk.now) (g.D.Disk.state c.run.new.disk)
     (c.run.ensures.any_moment there c.requires.straight)
 
 pub returns-then-drain-clause-done : goal.returns-then-drain-clause-done
@@ -29,12 +29,12 @@ returns-then-drain-clause-calm g c = λ calm.
 
 pub returns-then-drain-clause-disk_fault : goal.returns-then-drain-clause-disk_fault
 returns-then-drain-clause-disk_fault g c = λ is.
-    rose_since (g.D.Disk.faults c.args.disk.now) (g.D.Disk.faults c.run.new.disk) (g.D.Disk.faults c.drain.new.disk) c.run.ensures.keeps.count (c.drain.ensures.disk_fault is)
+    rose_since (g.D.Disk.state c.args.disk.now).faults (g.D.Disk.state c.run.new.disk).faults (g.D.Disk.state c.drain.new.disk).faults c.run.ensures.keeps.count (c.drain.ensures.disk_fault is)
 
 pub returns-then-drain-clause-any_moment : goal.returns-then-drain-clause-any_moment
 returns-then-drain-clause-any_moment g c = λ there.
     let straight = c.in_ok-last.ensures.straight there ∙ c.requires.straight in
-    rest_left g.C.Content.meaning c.args.world c.in_ok-last.last c.args.events.now g.D.Disk.may_leave g.D.Disk.moment g.D.Disk.might_have_left c.args.drain c.args.disk.now c.run.new.disk c.drain.new.disk
+    rest_left g.C.Content.meaning c.args.world c.in_ok-last.last c.args.events.now c.args.drain (g.D.Disk.state c.args.disk.now) (g.D.Disk.state c.run.new.disk) (g.D.Disk.state c.drain.new.disk)
     c.if-drain.true (c.in_ok-last.ensures.done straight) (c.run.ensures.any_moment there c.requires.straight)
     (c.drain.ensures.any_moment (c.run.ensures.keeps.tells ∙ there) straight)
 
@@ -43,5 +43,5 @@ returns-else-drain-clause-calm g c = λ calm. c.in_ok-last.ensures.calm calm ∙
 
 pub returns-else-drain-clause-any_moment : goal.returns-else-drain-clause-any_moment
 returns-else-drain-clause-any_moment g c = λ there.
-    ran_left g.C.Content.meaning c.args.world c.args.world c.args.events.now g.D.Disk.may_leave g.D.Disk.moment g.D.Disk.might_have_left c.args.drain c.args.disk.now c.run.new.disk
+    ran_left g.C.Content.meaning c.args.world c.args.world c.args.events.now c.args.drain (g.D.Disk.state c.args.disk.now) (g.D.Disk.state c.run.new.disk)
     (c.run.ensures.any_moment there c.requires.straight)

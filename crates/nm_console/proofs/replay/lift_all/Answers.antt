@@ -4,7 +4,7 @@ use Rattle.std.proofs.lemmas.List.Elements.{All-tail}
 use Rattle.nm_config.specs.Rows.{Rows}
 use Rattle.nm_overlay.specs.Differences.{Overlaid}
 use Rattle.nm_content.specs.Meaning.{lifted}
-use Rattle.nm_refusals.specs.Kept.{DataKeeps}
+use Rattle.nm_scenario_laws.specs.Kept.{DataKeeps}
 use Rattle.nm_console.proofs.replay.lift_all.Goals as goal
 
 pub loop-device-preserved : goal.loop-device-preserved

@@ -1,7 +1,7 @@
 use Rattle.std.proofs.Common.{◌≡◌, ◌++◌, length, map}
 use Rattle.std.specs.List.{All}
 use Rattle.nm_content.specs.Meaning.{lifted}
-use Rattle.nm_refusals.specs.Kept.{DataKeeps}
+use Rattle.nm_scenario_laws.specs.Kept.{DataKeeps}
 use Rattle.nm_console.proofs.replay.lift_all.Given as goal
 
 -- what was lifted and what is left make the whole

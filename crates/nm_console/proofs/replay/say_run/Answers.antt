@@ -6,11 +6,11 @@ use Rattle.nm_console.proofs.replay.say_run.Goals as goal
 pub returns-in_ok-say_last-in-Ok-clause-told : goal.returns-in_ok-say_last-in-Ok-clause-told
 returns-in_ok-say_last-in-Ok-clause-told g c =
     let said = c.in_ok-say_last-in-Ok.field-0 in
-    ran_tells g.C.Show.shown c.args.trace c.args.world c.in-Ok.last _ c.args.events.now (g.D.Disk.told c.args.disk.now) (g.D.Disk.told c.lead.new.disk) said.status said.text.items
+    ran_tells g.C.Show.shown c.args.trace c.args.world c.in-Ok.last _ c.args.events.now (g.D.Disk.state c.args.disk.now).contents (g.D.Disk.state c.lead.new.disk).contents said.status said.text.items
     c.in-Ok.ensures.others c.in-Ok.ensures.done c.in-Ok.ensures.straight c.in-Ok.ensures.calm c.in-Ok.ensures.stored c.in_ok-say_last-in-Ok.ensures
 
 pub returns-in-Err-Damaged-clause-told : goal.returns-in-Err-Damaged-clause-told
 returns-in-Err-Damaged-clause-told g c =
     damaged_told (g.C.Show.shown c.args.world.content) c.args.trace c.args.world.setting
-    (led_to (g.C.Content.meaning c.args.world.content) c.args.world.setting c.args.events.now c.args.drain c.args.world.state) c.args.events.now (g.D.Disk.told c.args.disk.now) (g.D.Disk.told c.lead.new.disk) c.say_damaged.result c.in-Err-Damaged.offset
+    (led_to (g.C.Content.meaning c.args.world.content) c.args.world.setting c.args.events.now c.args.drain c.args.world.state) c.args.events.now (g.D.Disk.state c.args.disk.now).contents (g.D.Disk.state c.lead.new.disk).contents c.say_damaged.result c.in-Err-Damaged.offset
     (λ calm. c.lead.ensures.read calm c.in-Err-Damaged.offset (search rules)) c.say_damaged.ensures.told

@@ -1,8 +1,8 @@
 use Rattle.std.proofs.Common.{IfOk, List, map, sym, subst}
 use Rattle.nm_overlay.specs.Differences.{Overlaid}
-use Rattle.nm_network.specs.World.{start}
-use Rattle.nm_proto.specs.Flat.{flat_text}
-use Rattle.nm_proto.specs.FlatContent.{flat_meaning}
+use Rattle.nm_world.specs.World.{start}
+use Rattle.nm_flat.specs.Flat.{flat_text}
+use Rattle.nm_flat.specs.FlatContent.{flat_meaning}
 use Rattle.nm_content.specs.Meaning.{lifted, yang_meaning, yang_text}
 use Rattle.nm_console.specs.Console.{CanRun, TellsRun, led_to, setting_of, world_told}
 use Rattle.nm_console.proofs.Given.{flat_runs, yang_keeps, yang_runs}
@@ -19,8 +19,8 @@ pub returns-in-Flat-clause-told : goal.returns-in-Flat-clause-told
 returns-in-Flat-clause-told g c =
     let s = c.args.scenario in
     let devices = c.in-Flat.devices in
-    let stored = g.D.Disk.told c.args.disk.now in
-    let after = g.D.Disk.told c.say_contents.new.disk in
+    let stored = (g.D.Disk.state c.args.disk.now).contents in
+    let after = (g.D.Disk.state c.say_contents.new.disk).contents in
     flat_replays s devices c.in-Flat.edits stored after c.say_contents.result c.in-Flat.is
     (subst (λ events. IfOk c.say_contents.result (λ said. TellsRun (world_told flat_text s.trace (setting_of c.in-Flat.edits s))
     (led_to flat_meaning (setting_of c.in-Flat.edits s) events s.drain (start (setting_of c.in-Flat.edits s) devices)) events stored after said.status said.text.items)) c.as_slice.ensures
@@ -43,8 +43,8 @@ pub returns-clause-told : goal.returns-clause-told
 returns-clause-told g c =
     let s = c.args.scenario in
     let y = c.in-Yang in
-    let stored = g.D.Disk.told c.args.disk.now in
-    let after = g.D.Disk.told c.say_contents-in-Yang.new.disk in
+    let stored = (g.D.Disk.state c.args.disk.now).contents in
+    let after = (g.D.Disk.state c.say_contents-in-Yang.new.disk).contents in
     yang_replays s y.modules y.content y.devices y.edits stored after c.say_contents-in-Yang.result y.is
     (subst (λ events. IfOk c.say_contents-in-Yang.result (λ said. TellsRun (world_told (yang_text y.content) s.trace (setting_of y.edits s))
     (led_to (yang_meaning y.content) (setting_of y.edits s) events s.drain (start (setting_of y.edits s) (map lifted y.devices))) events stored after said.status said.text.items)) c.as_slice-in-Yang.ensures

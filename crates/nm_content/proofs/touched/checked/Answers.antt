@@ -1,6 +1,6 @@
 use Rattle.std.proofs.Common.{sym, subst, ◌∙◌}
-use Rattle.nm_check.proofs.Told.{rightly}
-use Rattle.nm_reads.specs.Reaches.{Covers}
+use Rattle.nm_validate.proofs.Told.{rightly}
+use Rattle.nm_validate_rules.specs.Reaches.{Covers}
 use Rattle.nm_content.proofs.Covering.{differences_cover}
 use Rattle.nm_content.proofs.touched.checked.Goals as goal
 

@@ -1,5 +1,5 @@
 use Rattle.std.proofs.Common.{◌≡◌, ◌++◌, length}
-use Rattle.nm_rules.specs.Guards.{front}
+use Rattle.nm_validate_rules.specs.Guards.{front}
 use Rattle.nm_content_place.proofs.place.front_of.Given as goal
 
 -- the steps so far and the front of those that are left make the front of all

@@ -1,8 +1,8 @@
 use Rattle.std.proofs.Common.{subst}
-use Rattle.nm_tree.specs.Nodes.{SchemaTree}
+use Rattle.nm_schema_tree.specs.Nodes.{SchemaTree}
 use Rattle.nm_path.specs.Sound.{HaveHeldBounds}
 use Rattle.nm_json.specs.Configs.{IsConfigOf}
-use Rattle.nm_rules.proofs.Configs.{config_stands}
+use Rattle.nm_validate_rules.proofs.Configs.{config_stands}
 use Rattle.nm_content_tests.proofs.content.config_of.Goals as goal
 
 -- what is read by a schema tree stands in it

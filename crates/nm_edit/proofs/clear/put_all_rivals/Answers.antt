@@ -1,6 +1,6 @@
 use Rattle.std.proofs.Common.{◌<◌, length, ◌∙◌, arith}
 use Rattle.nm_edit.specs.Rivals.{rival_at}
-use Rattle.nm_edit.proofs.Going.{one_more}
+use Rattle.nm_edit.proofs.GoingNodes.{one_more}
 use Rattle.nm_edit.proofs.clear.put_all_rivals.Goals as goal
 
 pub loop-other-preserved : goal.loop-other-preserved

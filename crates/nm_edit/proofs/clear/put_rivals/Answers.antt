@@ -1,8 +1,8 @@
 use Rattle.std.proofs.Common.{◌≡◌, ◌++◌, List, None, arith, ap, sym, ◌∙◌, append-nil}
 use Rattle.nm_types.specs.Path.{PathStep}
-use Rattle.nm_tree.specs.Nodes.{case_at}
+use Rattle.nm_schema_tree.specs.Nodes.{case_at}
 use Rattle.nm_edit.specs.Rivals.{rivals_at}
-use Rattle.nm_edit.proofs.Going.{none_goes}
+use Rattle.nm_edit.proofs.GoingNodes.{none_goes}
 use Rattle.nm_edit.proofs.clear.put_rivals.Goals as goal
 
 pub returns-then-is_none : goal.returns-then-is_none

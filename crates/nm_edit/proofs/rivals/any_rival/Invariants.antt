@@ -1,6 +1,6 @@
 use Rattle.std.proofs.Common.{◌≡◌}
 use Rattle.std.specs.List.{list_any}
-use Rattle.nm_rules.specs.Cases.{outwards}
+use Rattle.nm_validate_rules.specs.Cases.{outwards}
 use Rattle.nm_edit.specs.Rivals.{is_in_other}
 use Rattle.nm_edit.proofs.rivals.any_rival.Given as goal
 

@@ -9,8 +9,8 @@ pub loop-key-preserved : goal.loop-key-preserved
 loop-key-preserved c =
     let read = key_read c.args.schema.now (bare (spot_of c.args.list.now)) (members_view c.args.members.now.entries) in
     let i = c.loop-key.key-index in (
-      values_step read c.args.keys.now i c.loop-key.values.items c.keep_key.new.values.items _ c.loop-key-test.true c.in_ok-keep_key.ensures.values c.loop-key.invariant.0,
-      faults_step read c.args.keys.now i c.loop-key.gathered c.keep_key.new.gathered _ c.loop-key-test.true c.in_ok-keep_key.ensures.faults c.loop-key.invariant.1,
+      values_step read c.args.keys.now i c.loop-key.values.items c.keep_key.new.values.items _ c.loop-key-test.true c.in-Ok.ensures.values c.loop-key.invariant.0,
+      faults_step read c.args.keys.now i c.loop-key.gathered c.keep_key.new.gathered _ c.loop-key-test.true c.in-Ok.ensures.faults c.loop-key.invariant.1,
     )
 
 pub returns-clause-faults : goal.returns-clause-faults

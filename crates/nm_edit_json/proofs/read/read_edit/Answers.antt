@@ -6,7 +6,7 @@ use Rattle.nm_edit_json.proofs.Edits.{given_law}
 use Rattle.nm_edit_json.proofs.read.read_edit.Goals as goal
 
 pub returns-clause-gives : goal.returns-clause-gives
-returns-clause-gives c = subst (Gives c.answer.result) (whole_is c.args.schema.now (view c.args.value.now) c.in_ok-gathered.gathered c.in_ok-gathered.ensures) c.answer.ensures
+returns-clause-gives c = subst (Gives c.answer-answered.result) (whole_is c.args.schema.now (view c.args.value.now) c.in_ok-gathered.gathered c.in_ok-gathered.ensures) c.answer-answered.ensures
 
 pub returns-clause-edit_of : goal.returns-clause-edit_of
-returns-clause-edit_of c = given_law c.answer.result c.args.schema.now (view c.args.value.now) (returns-clause-gives c)
+returns-clause-edit_of c = given_law c.answer-answered.result c.args.schema.now (view c.args.value.now) (returns-clause-gives c)

@@ -9,10 +9,10 @@ returns-in_ok-note_misplaced-in-None c =
     let whole = none_noted (spot_of c.args.spot.now) c.args.leaf_type.now c.args.held (items_view c.args.items.now) c.as_slice.result.now c.args.gathered.now c.note_misplaced.new.gathered
     (option_map (λ notes. items_view notes.now) c.args.notes) (ap (option_map (λ notes. items_view notes.now)) c.in-None.is) (c.as_slice.ensures.value ∙ c.new-none.ensures.items)
     c.in_ok-note_misplaced-in-None.ensures in
-    subst (λ u. OnOk c.read_values.result (c.read_values.new.gathered ≡ u)) whole c.read_values.ensures
+    subst (λ u. OnOk c.read_values-read.result (c.read_values-read.new.gathered ≡ u)) whole c.read_values-read.ensures
 
 pub returns-in_ok-note_misplaced-in-Some : goal.returns-in_ok-note_misplaced-in-Some
 returns-in_ok-note_misplaced-in-Some c =
     let whole = some_noted (spot_of c.args.spot.now) c.args.leaf_type.now c.args.held c.args.items.now c.in-Some.notes.now c.args.gathered.now c.note_misplaced-in-Some.new.gathered
     (option_map (λ notes. items_view notes.now) c.args.notes) (ap (option_map (λ notes. items_view notes.now)) c.in-Some.is) c.in_ok-note_misplaced-in-Some.ensures in
-    subst (λ u. OnOk c.read_values-in-Some.result (c.read_values-in-Some.new.gathered ≡ u)) whole c.read_values-in-Some.ensures
+    subst (λ u. OnOk c.read_values.result (c.read_values.new.gathered ≡ u)) whole c.read_values.ensures

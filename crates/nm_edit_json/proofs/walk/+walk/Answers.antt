@@ -54,7 +54,7 @@ read_container-returns-in_ok-path-in-Object t c =
     let whole = container_all c.args.schema.now (spot_of c.args.spot.now) c.args.presence c.args.held (view c.args.part.now) (members_view c.in-Object.members.entries) c.args.gathered.now c.note_step.new.gathered
     c.own_said-said.result c.presence_value-value.result (bare (spot_of c.args.spot.now)) c.in_ok-path-in-Object.path c.held_by.result
     is c.own_said-said.ensures c.presence_value-value.ensures noted.path (sym noted.path) c.held_by.ensures noted.noted in
-    subst (λ u. OnOk c.read_members.result (c.read_members.new.gathered ≡ u)) whole c.read_members.ensures
+    subst (λ u. OnOk c.read_members-read.result (c.read_members-read.new.gathered ≡ u)) whole c.read_members-read.ensures
 
 pub read_entry-returns-in_ok-path-in-Object : goal.read_entry-returns-in_ok-path-in-Object
 read_entry-returns-in_ok-path-in-Object t c =
@@ -66,4 +66,4 @@ read_entry-returns-in_ok-path-in-Object t c =
     let whole = entry_all c.args.schema.now (spot_of c.args.spot.now) c.args.keys.now c.args.held (view c.args.part.now) (members_view c.in-Object.members.entries) c.args.gathered.now c.read_keys.new.gathered
     c.note_step.new.gathered c.own_said-said.result at c.in_ok-path-in-Object.path c.held_by.result c.in_ok-values-in-Object.values.items
     is read.values read.faults (sym held ∙ c.if-len-keys.false) noted.path (sym noted.path) c.own_said-said.ensures c.held_by.ensures noted.noted in
-    subst (λ u. OnOk c.read_members.result (c.read_members.new.gathered ≡ u)) whole c.read_members.ensures
+    subst (λ u. OnOk c.read_members-read.result (c.read_members-read.new.gathered ≡ u)) whole c.read_members-read.ensures

@@ -1,6 +1,6 @@
 use Rattle.std.proofs.Common.{◌≡◌, ℕ, suc, ◌-◌, ◌++◌, length, map, take}
 use Rattle.std.specs.List.{range_with_len}
-use Rattle.nm_reads.specs.Candidates.{fronts_of}
+use Rattle.nm_validate_rules.specs.Candidates.{fronts_of}
 use Rattle.nm_incremental.proofs.candidates.fronts_of.Given as goal
 
 abbrev pub invariant-loop-count : goal.invariant-loop-count

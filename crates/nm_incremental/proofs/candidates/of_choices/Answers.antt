@@ -1,5 +1,5 @@
 use Rattle.std.proofs.Common.{◌≡◌, ◌-◌, ◌<◌, ℕ, ◌++◌, length, slice_get, ap, ◌∙◌, arith}
-use Rattle.nm_reads.specs.Candidates.{fronts_of}
+use Rattle.nm_validate_rules.specs.Candidates.{fronts_of}
 use Rattle.nm_incremental.specs.Candidates.{mandatory_at}
 use Rattle.nm_incremental.proofs.Listed.{put_some, put_whole}
 use Rattle.nm_incremental.proofs.Mandatory.{all_choices}

@@ -1,6 +1,6 @@
 use Rattle.std.proofs.Common.{◌≡◌, ℕ, ◌-◌, ◌++◌, length, slice_get}
 use Rattle.std.specs.List.{flat_map, range_with_len}
-use Rattle.nm_reads.specs.Candidates.{fronts_of}
+use Rattle.nm_validate_rules.specs.Candidates.{fronts_of}
 use Rattle.nm_incremental.specs.Candidates.{mandatory_at}
 use Rattle.nm_incremental.proofs.candidates.of_choices.Given as goal
 

@@ -1,8 +1,8 @@
 use Rattle.std.proofs.Common.{◌≡◌, List, ◌-◌, ◌<◌, ◌++◌, length, map, ap, sym, ◌∙◌, arith}
 use Rattle.std.specs.Prelude.{filter}
 use Rattle.nm_types.specs.Path.{PathStep}
-use Rattle.nm_rules.specs.Values.{path_in}
-use Rattle.nm_reads.specs.Candidates.{below_fronts, is_above}
+use Rattle.nm_validate_rules.specs.Values.{path_in}
+use Rattle.nm_validate_rules.specs.Candidates.{below_fronts, is_above}
 use Rattle.nm_incremental.specs.Candidates.{has_rule}
 use Rattle.nm_incremental.proofs.Listed.{put_kept, put_none, put_kept_all}
 use Rattle.nm_incremental.proofs.candidates.of_nodes.Goals as goal

@@ -1,8 +1,8 @@
 use Rattle.std.proofs.Common.{◌≡◌, ◌-◌, ◌++◌, length}
 use Rattle.std.specs.Prelude.{filter}
 use Rattle.std.specs.List.{flat_map, range_with_len}
-use Rattle.nm_rules.specs.Cases.{numbers}
-use Rattle.nm_reads.specs.Candidates.{below_fronts}
+use Rattle.nm_validate_rules.specs.Cases.{numbers}
+use Rattle.nm_validate_rules.specs.Candidates.{below_fronts}
 use Rattle.nm_incremental.specs.Candidates.{has_rule}
 use Rattle.nm_incremental.proofs.candidates.of_nodes.Given as goal
 

@@ -1,6 +1,6 @@
 use Rattle.std.proofs.Common.{◌≡◌, List, [], ◌∷◌, ◌++◌, drop, map}
 use Rattle.nm_types.specs.Path.{PathStep}
-use Rattle.nm_rules.specs.Places.{choice_step}
+use Rattle.nm_validate_rules.specs.Places.{choice_step}
 use Rattle.nm_incremental.proofs.candidates.put_choice.Given as goal
 
 abbrev pub invariant-loop-above : goal.invariant-loop-above

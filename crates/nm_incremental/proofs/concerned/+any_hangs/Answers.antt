@@ -1,7 +1,7 @@
 use Rattle.std.proofs.Common.{◌≡◌, Bool, IfOk, sym, subst, ap, ◌∙◌}
 use Rattle.std.specs.List.{list_any}
-use Rattle.nm_rules.specs.Places.{chain}
-use Rattle.nm_reads.specs.Reads.{hangs}
+use Rattle.nm_validate_rules.specs.Places.{chain}
+use Rattle.nm_validate_rules.specs.Reads.{hangs}
 use Rattle.nm_incremental.proofs.Chains.{passes_here, passes_above}
 use Rattle.nm_incremental.proofs.concerned.+any_hangs.Goals as goal
 

@@ -1,7 +1,7 @@
 use Rattle.std.proofs.Common.{◌≡◌, suc, ◌-◌, ◌<◌, ℕ, List, length, take, sym, ap, ◌∙◌, arith}
 use Rattle.nm_types.specs.Path.{PathStep}
 use Rattle.nm_incremental.specs.Hanging.{tells_case}
-use Rattle.nm_rule_at.proofs.Loops.{any_here, any_on, any_done}
+use Rattle.nm_incremental.proofs.Loops.{any_here, any_on, any_done}
 use Rattle.nm_incremental.proofs.concerned.case_hangs_in.Goals as goal
 
 pub returns-then-is : goal.returns-then-is

@@ -1,7 +1,7 @@
 use Rattle.std.proofs.Common.{◌≡◌, ◌-◌, ◌<◌, ℕ, length, sym, ap, ◌∙◌, arith}
-use Rattle.nm_tree.specs.Nodes.{reference_at}
-use Rattle.nm_reads.specs.Concerns.{concerns, reference_concerns}
-use Rattle.nm_rule_at.proofs.Loops.{any_here, any_on, any_done}
+use Rattle.nm_schema_tree.specs.Nodes.{reference_at}
+use Rattle.nm_validate_rules.specs.Concerns.{concerns, reference_concerns}
+use Rattle.nm_incremental.proofs.Loops.{any_here, any_on, any_done}
 use Rattle.nm_incremental.proofs.concerned.concerns_leafrefs.Goals as goal
 
 pub returns-then-is : goal.returns-then-is

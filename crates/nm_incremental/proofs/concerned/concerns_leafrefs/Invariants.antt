@@ -1,8 +1,8 @@
 use Rattle.std.proofs.Common.{◌≡◌, ℕ, ◌-◌, length}
 use Rattle.std.specs.List.{list_any, range_with_len}
-use Rattle.nm_tree.specs.Nodes.{reference_at}
-use Rattle.nm_rules.specs.Cases.{numbers}
-use Rattle.nm_reads.specs.Concerns.{reference_concerns}
+use Rattle.nm_schema_tree.specs.Nodes.{reference_at}
+use Rattle.nm_validate_rules.specs.Cases.{numbers}
+use Rattle.nm_validate_rules.specs.Concerns.{reference_concerns}
 use Rattle.nm_incremental.proofs.concerned.concerns_leafrefs.Given as goal
 
 abbrev pub invariant-loop-at : goal.invariant-loop-at

@@ -1,8 +1,8 @@
 use Rattle.std.proofs.Common.{◌≡◌, ◌-◌, ◌<◌, ℕ, List, length, sym, ap, ◌∙◌, arith}
 use Rattle.std.specs.List.{list_any}
-use Rattle.nm_tree.specs.Nodes.{uniques_at}
-use Rattle.nm_reads.specs.Concerns.{concerns, unique_concerns}
-use Rattle.nm_rule_at.proofs.Loops.{any_here, any_on, any_done}
+use Rattle.nm_schema_tree.specs.Nodes.{uniques_at}
+use Rattle.nm_validate_rules.specs.Concerns.{concerns, unique_concerns}
+use Rattle.nm_incremental.proofs.Loops.{any_here, any_on, any_done}
 use Rattle.nm_incremental.proofs.concerned.concerns_uniques.Goals as goal
 
 pub returns-then-is : goal.returns-then-is

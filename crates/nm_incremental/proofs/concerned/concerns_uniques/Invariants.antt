@@ -1,8 +1,8 @@
 use Rattle.std.proofs.Common.{◌≡◌, ℕ, List, ◌-◌, length}
 use Rattle.std.specs.List.{list_any, range_with_len}
-use Rattle.nm_tree.specs.Nodes.{uniques_at}
-use Rattle.nm_rules.specs.Cases.{numbers}
-use Rattle.nm_reads.specs.Concerns.{unique_concerns}
+use Rattle.nm_schema_tree.specs.Nodes.{uniques_at}
+use Rattle.nm_validate_rules.specs.Cases.{numbers}
+use Rattle.nm_validate_rules.specs.Concerns.{unique_concerns}
 use Rattle.nm_incremental.proofs.concerned.concerns_uniques.Given as goal
 
 abbrev pub invariant-loop-at : goal.invariant-loop-at

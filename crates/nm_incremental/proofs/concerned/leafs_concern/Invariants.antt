@@ -1,6 +1,6 @@
 use Rattle.std.proofs.Common.{◌≡◌, ℕ, drop}
 use Rattle.std.specs.List.{list_any}
-use Rattle.nm_reads.specs.Concerns.{leaf_concerns}
+use Rattle.nm_validate_rules.specs.Concerns.{leaf_concerns}
 use Rattle.nm_incremental.proofs.concerned.leafs_concern.Given as goal
 
 abbrev pub invariant-loop-leaf : goal.invariant-loop-leaf

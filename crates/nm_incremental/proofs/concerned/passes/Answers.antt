@@ -1,7 +1,7 @@
 use Rattle.std.proofs.Common.{◌≡◌, suc, ◌-◌, ◌<◌, ℕ, length, take, sym, ap, ◌∙◌, arith}
-use Rattle.nm_rules.specs.Guards.{leads_to}
-use Rattle.nm_reads.specs.Concerns.{passes}
-use Rattle.nm_rule_at.proofs.Loops.{any_here, any_on, any_done}
+use Rattle.nm_validate_rules.specs.Guards.{leads_to}
+use Rattle.nm_validate_rules.specs.Concerns.{passes}
+use Rattle.nm_incremental.proofs.Loops.{any_here, any_on, any_done}
 use Rattle.nm_incremental.proofs.concerned.passes.Goals as goal
 
 pub returns-then-leads_to : goal.returns-then-leads_to

@@ -1,6 +1,6 @@
 use Rattle.std.proofs.Common.{◌≡◌, ℕ, suc, ◌-◌, length, take}
 use Rattle.std.specs.List.{list_any, range_with_len}
-use Rattle.nm_rules.specs.Guards.{leads_to}
+use Rattle.nm_validate_rules.specs.Guards.{leads_to}
 use Rattle.nm_incremental.proofs.concerned.passes.Given as goal
 
 abbrev pub invariant-loop-count : goal.invariant-loop-count

@@ -1,6 +1,6 @@
 use Rattle.std.proofs.Common.{◌≡◌, ℕ, List, drop}
 use Rattle.std.specs.List.{list_any}
-use Rattle.nm_reads.specs.Concerns.{unique_concerns}
+use Rattle.nm_validate_rules.specs.Concerns.{unique_concerns}
 use Rattle.nm_incremental.proofs.concerned.uniques_concern.Given as goal
 
 abbrev pub invariant-loop-leafs : goal.invariant-loop-leafs

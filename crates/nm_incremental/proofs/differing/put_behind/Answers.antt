@@ -2,7 +2,7 @@ use Rattle.std.proofs.Common.{[], ◌∷◌, ◌++◌, sym, ap, ◌∙◌, subst
 use Rattle.std.specs.Prelude.{filter, option_copied}
 use Rattle.std.specs.FinMap.{keys}
 use Rattle.nm_config.specs.Under.{is_under}
-use Rattle.nm_validate.proofs.Counting.{IsBehind, from_first, next_behind, walk_shorter, turn_behind}
+use Rattle.nm_validate_places.proofs.Counting.{IsBehind, from_first, next_behind, walk_shorter, turn_behind}
 use Rattle.nm_incremental.proofs.Walks.{at_start, one_more, no_more}
 use Rattle.nm_incremental.proofs.differing.put_behind.Goals as goal
 

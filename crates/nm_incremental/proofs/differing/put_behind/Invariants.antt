@@ -2,8 +2,8 @@ use Rattle.std.proofs.Common.{◌≡◌, ◌++◌, length}
 use Rattle.std.specs.Prelude.{filter, option_copied}
 use Rattle.std.specs.FinMap.{keys}
 use Rattle.nm_config.specs.Under.{is_under}
-use Rattle.nm_validate.specs.Counts.{behind}
-use Rattle.nm_validate.proofs.Counting.{IsBehind, from_first}
+use Rattle.nm_validate_places.specs.Counts.{behind}
+use Rattle.nm_validate_places.proofs.Counting.{IsBehind, from_first}
 use Rattle.nm_incremental.proofs.differing.put_behind.Given as goal
 
 abbrev pub invariant-rows : goal.invariant-rows

@@ -3,7 +3,7 @@ use Rattle.std.specs.Prelude.{filter}
 use Rattle.std.specs.FinMap.{contains_key, keys}
 use Rattle.nm_types.specs.Path.{PathStep}
 use Rattle.nm_config.specs.Under.{is_under}
-use Rattle.nm_validate.specs.Counts.{behind}
+use Rattle.nm_validate_places.specs.Counts.{behind}
 use Rattle.nm_incremental.proofs.Walks.{rows_are}
 use Rattle.nm_incremental.proofs.differing.rows_at.Goals as goal
 

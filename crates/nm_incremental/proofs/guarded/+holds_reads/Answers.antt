@@ -1,7 +1,7 @@
 use Rattle.std.proofs.Common.{◌≡◌, Bool, List, IfOk, ap, subst, sym, ◌∙◌, arith}
 use Rattle.nm_types.specs.Path.{PathStep}
-use Rattle.nm_reads.specs.Reads.{holds_reads}
-use Rattle.nm_validate.proofs.InUse.{front_less, some_steps}
+use Rattle.nm_validate_rules.specs.Reads.{holds_reads}
+use Rattle.nm_validate_places.proofs.InUse.{front_less, some_steps}
 use Rattle.nm_incremental.specs.Guarded.{open_by}
 use Rattle.nm_incremental.proofs.Guards.{holds_top, holds_own, holds_other}
 use Rattle.nm_incremental.proofs.guarded.+holds_reads.Goals as goal

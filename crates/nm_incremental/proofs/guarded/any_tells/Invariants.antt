@@ -1,6 +1,6 @@
 use Rattle.std.proofs.Common.{◌≡◌, ℕ, drop}
 use Rattle.std.specs.List.{list_any}
-use Rattle.nm_reads.specs.Reads.{tells}
+use Rattle.nm_validate_rules.specs.Reads.{tells}
 use Rattle.nm_incremental.proofs.guarded.any_tells.Given as goal
 
 abbrev pub invariant-loop-at : goal.invariant-loop-at

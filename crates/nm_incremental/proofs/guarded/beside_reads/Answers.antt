@@ -1,8 +1,8 @@
 use Rattle.std.proofs.Common.{◌≡◌, ℕ, Bool, IfOk, ap, ◌∙◌, subst}
 use Rattle.std.specs.List.{list_any}
-use Rattle.nm_tree.specs.Nodes.{case_at}
-use Rattle.nm_validate.specs.Members.{AreOthers}
-use Rattle.nm_reads.specs.Reads.{tells}
+use Rattle.nm_schema_tree.specs.Nodes.{case_at}
+use Rattle.nm_validate_places.specs.Members.{AreOthers}
+use Rattle.nm_validate_rules.specs.Reads.{tells}
 use Rattle.nm_incremental.proofs.Beside.{beside_of}
 use Rattle.nm_incremental.proofs.guarded.beside_reads.Goals as goal
 

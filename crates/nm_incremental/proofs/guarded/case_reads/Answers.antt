@@ -1,8 +1,8 @@
 use Rattle.std.proofs.Common.{◌≡◌, ◌<◌, ℕ, Bool, IfOk, ap, ◌∙◌, subst}
 use Rattle.std.specs.List.{list_any}
-use Rattle.nm_rules.specs.Cases.{is_in_case, numbers}
-use Rattle.nm_validate.proofs.Below.{any_kept}
-use Rattle.nm_reads.specs.Reads.{case_reads, tells}
+use Rattle.nm_validate_rules.specs.Cases.{is_in_case, numbers}
+use Rattle.nm_validate_places.proofs.Below.{any_kept}
+use Rattle.nm_validate_rules.specs.Reads.{case_reads, tells}
 use Rattle.nm_incremental.proofs.guarded.case_reads.Goals as goal
 
 pub returns-then-case-cases : goal.returns-then-case-cases

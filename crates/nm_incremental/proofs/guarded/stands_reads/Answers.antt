@@ -1,6 +1,6 @@
 use Rattle.std.proofs.Common.{◌≡◌, Bool, List, IfOk, ap, subst, sym, ◌∙◌}
 use Rattle.nm_types.specs.Path.{PathStep}
-use Rattle.nm_reads.specs.Reads.{holds_reads}
+use Rattle.nm_validate_rules.specs.Reads.{holds_reads}
 use Rattle.nm_incremental.specs.Guarded.{open_by}
 use Rattle.nm_incremental.proofs.Guards.{stands_top, stands_other}
 use Rattle.nm_incremental.proofs.guarded.stands_reads.Goals as goal

@@ -1,8 +1,8 @@
 use Rattle.std.proofs.Common.{◌≡◌, ◌≤◌, ◌+◌, length, map}
 use Rattle.std.specs.List.{find}
 use Rattle.std.specs.FinMap.{keys}
-use Rattle.nm_rules.specs.Violated.{violated}
-use Rattle.nm_validate.specs.Listed.{Row}
+use Rattle.nm_validate_rules.specs.Violated.{violated}
+use Rattle.nm_validate_places.specs.Listed.{Row}
 use Rattle.nm_incremental.specs.Read.{looked_at}
 use Rattle.nm_incremental.proofs.local.first_violated.Given as goal
 

@@ -1,7 +1,7 @@
 use Rattle.std.proofs.Common.{◌≡◌, List, ◌++◌, map}
 use Rattle.std.specs.Prelude.{filter}
 use Rattle.nm_types.specs.Path.{PathStep}
-use Rattle.nm_reads.specs.Reads.{reads}
+use Rattle.nm_validate_rules.specs.Reads.{reads}
 use Rattle.nm_incremental.specs.Read.{present}
 use Rattle.nm_incremental.proofs.local.put_read.Given as goal
 

@@ -1,7 +1,7 @@
 use Rattle.std.proofs.Common.{◌+◌, ◌∷◌, ◌++◌, List, map, drop, refl, ap, sym, ◌∙◌}
 use Rattle.std.proofs.lemmas.List.{drop_more}
 use Rattle.nm_types.specs.Path.{PathStep}
-use Rattle.nm_reads.specs.Candidates.{candidates}
+use Rattle.nm_validate_rules.specs.Candidates.{candidates}
 use Rattle.nm_incremental.specs.Read.{present, read_of}
 use Rattle.nm_incremental.proofs.Beside.{read_more}
 use Rattle.nm_incremental.proofs.local.read_set.Goals as goal

@@ -1,7 +1,7 @@
 use Rattle.std.proofs.Common.{◌-◌, ap, sym, ◌∙◌, arith}
 use Rattle.nm_base.specs.Numbers.{is_among}
-use Rattle.nm_rules.specs.Cases.{outwards}
-use Rattle.nm_validate.proofs.Outwards.{out_none, out_zero, out_here, out_on}
+use Rattle.nm_validate_rules.specs.Cases.{outwards}
+use Rattle.nm_validate_places.proofs.Outwards.{out_none, out_zero, out_here, out_on}
 use Rattle.nm_incremental.proofs.members.is_outwards.Goals as goal
 
 pub returns-in_default : goal.returns-in_default

@@ -1,6 +1,6 @@
 use Rattle.std.proofs.Common.{◌≡◌}
 use Rattle.nm_base.specs.Numbers.{is_among}
-use Rattle.nm_rules.specs.Cases.{outwards}
+use Rattle.nm_validate_rules.specs.Cases.{outwards}
 use Rattle.nm_incremental.proofs.members.is_outwards.Given as goal
 
 abbrev pub invariant-outwards : goal.invariant-outwards

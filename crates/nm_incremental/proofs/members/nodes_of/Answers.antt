@@ -1,6 +1,6 @@
 use Rattle.std.proofs.Common.{◌<◌, length, ap, sym, ◌∙◌, arith}
-use Rattle.nm_rules.specs.Cases.{is_in_case}
-use Rattle.nm_validate.proofs.Below.{kept_in, kept_out}
+use Rattle.nm_validate_rules.specs.Cases.{is_in_case}
+use Rattle.nm_validate_places.proofs.Below.{kept_in, kept_out}
 use Rattle.nm_incremental.proofs.members.nodes_of.Goals as goal
 use Rattle.nm_incremental.proofs.members.nodes_of.Goals.{then-is_in_case+in_ok-push, else-is_in_case}
 

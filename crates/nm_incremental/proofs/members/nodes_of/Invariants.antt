@@ -1,7 +1,7 @@
 use Rattle.std.proofs.Common.{◌≡◌, ◌++◌, ◌-◌, length}
 use Rattle.std.specs.Prelude.{filter}
 use Rattle.std.specs.List.{range_with_len}
-use Rattle.nm_rules.specs.Cases.{is_in_case, numbers}
+use Rattle.nm_validate_rules.specs.Cases.{is_in_case, numbers}
 use Rattle.nm_incremental.proofs.members.nodes_of.Given as goal
 
 abbrev pub invariant-loop-at : goal.invariant-loop-at

@@ -1,6 +1,6 @@
 use Rattle.std.proofs.Common.{ap, ◌∙◌}
 use Rattle.nm_base.specs.Numbers.{is_among}
-use Rattle.nm_rules.specs.Places.{chain}
+use Rattle.nm_validate_rules.specs.Places.{chain}
 use Rattle.nm_incremental.proofs.Chains.{on_none, on_here, on_above}
 use Rattle.nm_incremental.proofs.paths.+is_on_chain.Goals as goal
 

@@ -1,9 +1,9 @@
 use Rattle.std.proofs.Common.{◌≡◌, ℕ, Bool, IfOk, ap, subst, ◌∙◌}
 use Rattle.std.specs.List.{list_any}
-use Rattle.nm_rules.specs.Cases.{numbers}
-use Rattle.nm_rules.specs.Violated.{is_of_choice}
-use Rattle.nm_validate.proofs.Below.{any_kept}
-use Rattle.nm_reads.specs.Reads.{choice_reads, tells}
+use Rattle.nm_validate_rules.specs.Cases.{numbers}
+use Rattle.nm_validate_rules.specs.Violated.{is_of_choice}
+use Rattle.nm_validate_places.proofs.Below.{any_kept}
+use Rattle.nm_validate_rules.specs.Reads.{choice_reads, tells}
 use Rattle.nm_incremental.proofs.reading.choice_reads.Goals as goal
 
 pub returns : goal.returns

@@ -1,6 +1,6 @@
 use Rattle.std.proofs.Common.{◌≡◌, ◌-◌, ◌<◌, ℕ, length, slice_get, sym, ◌∙◌, arith}
-use Rattle.nm_reads.specs.Reads.{missing_reads}
-use Rattle.nm_rule_at.proofs.Loops.{any_here, any_on, any_done}
+use Rattle.nm_validate_rules.specs.Reads.{missing_reads}
+use Rattle.nm_incremental.proofs.Loops.{any_here, any_on, any_done}
 use Rattle.nm_incremental.proofs.reading.choices_read.Goals as goal
 
 pub returns-then-is : goal.returns-then-is

@@ -1,6 +1,6 @@
 use Rattle.std.proofs.Common.{◌≡◌, ℕ, ◌-◌, length, slice_get}
 use Rattle.std.specs.List.{list_any, range_with_len}
-use Rattle.nm_reads.specs.Reads.{missing_reads}
+use Rattle.nm_validate_rules.specs.Reads.{missing_reads}
 use Rattle.nm_incremental.proofs.reading.choices_read.Given as goal
 
 abbrev pub invariant-loop-at : goal.invariant-loop-at

@@ -1,5 +1,5 @@
 use Rattle.std.proofs.Common.{◌≡◌, ◌≤◌, ◌+◌, drop, length}
-use Rattle.nm_rules.specs.Rule.{all_rules}
+use Rattle.nm_validate_rules.specs.Rule.{all_rules}
 use Rattle.nm_incremental.specs.Read.{all_judged, first_found}
 use Rattle.nm_incremental.proofs.touched.violation_in.Given as goal
 

@@ -1,7 +1,7 @@
 use Rattle.std.proofs.Common.{◌≡◌, List, Option, IfOk, ap, subst, ◌∙◌}
 use Rattle.nm_types.specs.Path.{PathStep}
-use Rattle.nm_rules.specs.Rule.{all_rules}
-use Rattle.nm_rules.specs.Violation.{Violation}
+use Rattle.nm_validate_rules.specs.Rule.{all_rules}
+use Rattle.nm_validate_rules.specs.Violation.{Violation}
 use Rattle.nm_incremental.specs.Differing.{differing}
 use Rattle.nm_incremental.specs.Read.{first_found}
 use Rattle.nm_incremental.proofs.Bounding.{bounded_by}

@@ -1,7 +1,7 @@
 use Rattle.std.proofs.Common.{◌≡◌, drop}
 use Rattle.std.specs.List.{list_any}
-use Rattle.nm_rules.specs.declared.rule.Rule.TheVariants.{Unique}
-use Rattle.nm_reads.specs.Concerns.{concerns}
+use Rattle.nm_validate_rules.specs.declared.rule.Rule.TheVariants.{Unique}
+use Rattle.nm_validate_rules.specs.Concerns.{concerns}
 use Rattle.nm_incremental.proofs.whole.any_uniques.Given as goal
 
 abbrev pub invariant-loop-row : goal.invariant-loop-row

@@ -1,7 +1,7 @@
 use Rattle.std.proofs.Common.{◌≡◌, suc, ◌-◌, ◌<◌, ℕ, length, take, sym, ap, ◌∙◌, arith}
 use Rattle.nm_path.specs.Spelling.{node_of}
 use Rattle.nm_incremental.specs.Whole.{is_cased, passes_case}
-use Rattle.nm_rule_at.proofs.Loops.{any_here, any_on, any_done}
+use Rattle.nm_incremental.proofs.Loops.{any_here, any_on, any_done}
 use Rattle.nm_incremental.proofs.whole.passes_case.Goals as goal
 
 pub returns-then-is_cased : goal.returns-then-is_cased

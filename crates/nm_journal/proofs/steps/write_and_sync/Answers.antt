@@ -9,18 +9,18 @@ use Rattle.nm_journal.proofs.steps.write_and_sync.Goals as goal
 -- the write
 pub returns-in_err-write_at-clause-any_moment : goal.returns-in_err-write_at-clause-any_moment
 returns-in_err-write_at-clause-any_moment g c = λ some.
-    let disk = c.args.disk.now in
-    one_call g.D.Disk.moment g.D.Disk.might_have_left g.D.Disk.may_leave disk c.write_at.new.self (MayTear (g.D.Disk.may_leave disk) c.args.at (length c.args.piece.now)) (g.met.D.Disk.only_now disk) c.write_at.ensures.time
+    let disk = g.D.Disk.state c.args.disk.now in
+    one_call disk (g.D.Disk.state c.write_at.new.self) (MayTear disk c.args.at (length c.args.piece.now)) (g.met.D.Disk.only_now c.args.disk.now) c.write_at.ensures.time
     (λ image was. (image, was, torn_same c.args.at (length c.args.piece.now) image)) (c.write_at.ensures.crash some)
 
 -- the write and the sync
 pub returns-clause-any_moment : goal.returns-clause-any_moment
 returns-clause-any_moment g c = λ some.
-    let disk = c.args.disk.now in
-    let tears = MayTear (g.D.Disk.may_leave disk) c.args.at (length c.args.piece.now) in
-    let still : IsSome (g.D.Disk.told c.write_at.new.self) = told_still (g.D.Disk.told disk) (g.D.Disk.told c.write_at.new.self) c.args.at c.args.piece.now c.in_ok-write_at.ensures.written some in
-    let written = one_call g.D.Disk.moment g.D.Disk.might_have_left g.D.Disk.may_leave disk c.write_at.new.self tears (g.met.D.Disk.only_now disk) c.write_at.ensures.time
+    let disk = g.D.Disk.state c.args.disk.now in
+    let tears = MayTear disk c.args.at (length c.args.piece.now) in
+    let still : IsSome (g.D.Disk.state c.write_at.new.self).contents = told_still disk.contents (g.D.Disk.state c.write_at.new.self).contents c.args.at c.args.piece.now c.in_ok-write_at.ensures.written some in
+    let written = one_call disk (g.D.Disk.state c.write_at.new.self) tears (g.met.D.Disk.only_now c.args.disk.now) c.write_at.ensures.time
     (λ image was. (image, was, torn_same c.args.at (length c.args.piece.now) image)) (c.write_at.ensures.crash some) in
-    let synced = one_call g.D.Disk.moment g.D.Disk.might_have_left g.D.Disk.may_leave c.write_at.new.self c.sync.new.self tears (g.met.D.Disk.only_now c.write_at.new.self) c.sync.ensures.time
+    let synced = one_call (g.D.Disk.state c.write_at.new.self) (g.D.Disk.state c.sync.new.self) tears (g.met.D.Disk.only_now c.write_at.new.self) c.sync.ensures.time
     (c.write_at.ensures.crash some) (λ image now. c.write_at.ensures.crash some image (c.sync.ensures.crash still image now)) in
-    and_then g.D.Disk.moment g.D.Disk.might_have_left g.D.Disk.may_leave disk c.write_at.new.self c.sync.new.self tears written synced
+    and_then disk (g.D.Disk.state c.write_at.new.self) (g.D.Disk.state c.sync.new.self) tears written synced

@@ -4,7 +4,7 @@ use Rattle.serde_json.specs.View.{view, members_view}
 use Rattle.serde_json.proofs.Views.{members_view-insert_entry}
 use Rattle.nm_json.proofs.put.put_member.Goals as goal
 
-pub returns : goal.returns
-returns c =
+pub returns-in-Ok-insert : goal.returns-in-Ok-insert
+returns-in-Ok-insert c =
     let old = c.args.members.now.entries in
-    ap members_view c.in_ok-insert.ensures.entries ∙ members_view-insert_entry old c.in_ok-key.key c.args.part ∙ ap (λ name. put name (view c.args.part) (members_view old)) c.in_ok-key.ensures.ok
+    ap members_view c.in-Ok-insert.ensures.entries ∙ members_view-insert_entry old c.in-Ok.key c.args.part ∙ ap (λ name. put name (view c.args.part) (members_view old)) c.in-Ok.ensures.ok

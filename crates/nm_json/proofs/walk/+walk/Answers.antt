@@ -1,11 +1,9 @@
-use Rattle.std.proofs.Common.{◌≡◌, length, rules, OnOk, refl, subst, sym, ap, ◌∙◌}
+use Rattle.std.proofs.Common.{◌≡◌, OnOk, subst, sym, ap, ◌∙◌}
 use Rattle.serde_json.specs.View.{view, members_view}
 use Rattle.serde_json.proofs.Views.{view-Object}
-use Rattle.nm_json.specs.Findings.{bare, list_item, row}
-use Rattle.nm_json.specs.Noted.{noted}
-use Rattle.nm_types.specs.declared.value.Value.TheVariants.{Present}
+use Rattle.nm_json.specs.Findings.{list_item}
 use Rattle.nm_json.specs.Spots.{spot_of}
-use Rattle.nm_json.proofs.Gathering.{items_step, items_end, members_next, members_end, member_ignored, wanted_nowhere, wanted_key, wanted_past, container_whole, entry_whole}
+use Rattle.nm_json.proofs.Gathering.{items_step, items_end, members_next, members_end, member_ignored, wanted_nowhere, wanted_key, wanted_past, container_whole}
 use Rattle.nm_json.proofs.walk.+walk.Goals as goal
 
 pub read_container-returns-in_ok-path-in-Object : goal.read_container-returns-in_ok-path-in-Object
@@ -13,7 +11,7 @@ read_container-returns-in_ok-path-in-Object t c =
     let is = ap view c.in-Object.is ∙ view-Object c.in-Object.members in
     let whole = container_whole c.args.schema.now (spot_of c.args.spot.now) c.args.presence (view c.args.part.now) (members_view c.in-Object.members.entries) c.args.gathered.now c.note_presence.new.gathered
     c.in_ok-path-in-Object.path is c.in_ok-note_presence-in-Object.ensures c.in_ok-path-in-Object.ensures in
-    subst (λ u. OnOk c.read_members.result (c.read_members.new.gathered ≡ u)) whole c.read_members.ensures
+    subst (λ u. OnOk c.read_members-read.result (c.read_members-read.new.gathered ≡ u)) whole c.read_members-read.ensures
 
 pub read_entries-loop-item-preserved : goal.read_entries-loop-item-preserved
 read_entries-loop-item-preserved t c =
@@ -23,18 +21,6 @@ read_entries-loop-item-preserved t c =
 pub read_entries-returns : goal.read_entries-returns
 read_entries-returns t c =
     items_end c.args.schema.now (list_item (spot_of c.args.spot.now) c.args.keys.now) c.args.items.now c.loop-item.item-index c.loop-item.gathered _ c.loop-item-test.false c.loop-item.invariant
-
-pub read_entry-returns-in_ok-note_row-in-Object : goal.read_entry-returns-in_ok-note_row-in-Object
-read_entry-returns-in_ok-note_row-in-Object t c =
-    let is = ap view c.in-Object.is ∙ view-Object c.in-Object.members in
-    let keys = c.in_ok-values-in-Object.ensures in
-    let held : c.len.result ≡ length c.in_ok-values-in-Object.values.items = search rules in
-    let count = sym held ∙ c.if-len-keys.false in
-    let noted_row = c.in_ok-note_row-in-Object.ensures ∙ ap (λ q. noted c.read_keys.new.gathered (row q Present)) c.in_ok-copy-in-Object.ensures in
-    let whole = entry_whole c.args.schema.now (spot_of c.args.spot.now) c.args.keys.now (view c.args.part.now) (members_view c.in-Object.members.entries) c.args.gathered.now c.read_keys.new.gathered
-    c.note_row.new.self (bare (spot_of c.args.spot.now)) c.in_ok-path-in-Object.path c.in_ok-values-in-Object.values.items is refl keys.values keys.faults count
-    c.in_ok-path-in-Object.ensures noted_row in
-    subst (λ u. OnOk c.read_members.result (c.read_members.new.gathered ≡ u)) whole c.read_members.ensures
 
 pub read_member-returns-in_default : goal.read_member-returns-in_default
 read_member-returns-in_default t c =

@@ -8,7 +8,7 @@ use Rattle.nm_json.proofs.write.whole_value.Goals as goal
 pub loop-path-preserved : goal.loop-path-preserved
 loop-path-preserved c =
     let put = put_row c.args.schema.now in
-    ap (λ ms. fold put ms c.next.new.self) c.in_ok-put_row.ensures
+    ap (λ ms. fold put ms c.next.new.self) c.in-Ok.ensures
     ∙ sym (ap (fold put (members_view c.loop-path.members.entries)) c.in-Some.ensures.steps)
     ∙ c.loop-path.invariant
 

@@ -6,7 +6,7 @@ use Rattle.std.specs.Map.Iter.{deref_pair}
 use Rattle.json.specs.Token.{Token}
 use Rattle.nm_types.specs.Path.{PathStep}
 use Rattle.nm_types.specs.Chosen.{choice_of}
-use Rattle.nm_tree.specs.Nodes.{keys_at}
+use Rattle.nm_schema_tree.specs.Nodes.{keys_at}
 use Rattle.nm_json.specs.Writing.{key_members}
 use Rattle.serde_json.specs.Data.{no_members}
 use Rattle.nm_json_text.specs.Passing as spec

@@ -1,5 +1,5 @@
 use Rattle.std.proofs.Common.{sym, subst, ap}
-use Rattle.nm_network.specs.World.{AreSound}
+use Rattle.nm_world.specs.World.{AreSound}
 use Rattle.nm_report.proofs.Texts.{whole}
 use Rattle.nm_report.proofs.change_text.write_world.Goals as goal
 

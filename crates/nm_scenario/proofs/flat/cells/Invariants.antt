@@ -1,7 +1,7 @@
 use Rattle.std.proofs.Common.{◌≡◌}
 use Rattle.std.specs.FinMap.{empty}
 use Rattle.serde_json.specs.View.{members_view}
-use Rattle.nm_scenario_parts.specs.Reading.{natural_of}
+use Rattle.nm_scenario_form.specs.Reading.{natural_of}
 use Rattle.nm_scenario.specs.Flat.{entries_read}
 use Rattle.nm_scenario.proofs.flat.cells.Given as goal
 

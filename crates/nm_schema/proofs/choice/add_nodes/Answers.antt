@@ -1,9 +1,9 @@
 use Rattle.std.proofs.Common.{◌≡◌, ◌∙◌, ◌<◌, ◌+◌, List, None, Some, length, get_or, slice_get, refl, sym, ap, subst, arith}
 use Rattle.std.proofs.lemmas.Option.{slice_get-get_or}
-use Rattle.nm_schema_rows.specs.Rows.{roots}
-use Rattle.nm_tree.specs.Nodes.{SchemaTree}
-use Rattle.nm_schema_expansion.specs.declared.instance.Instance.{Instance}
-use Rattle.nm_schema_expansion.specs.Expansion.{Expanded, IsExpansion, children}
+use Rattle.nm_schema_statements.specs.Rows.{roots}
+use Rattle.nm_schema_tree.specs.Nodes.{SchemaTree}
+use Rattle.nm_schema_nodes.specs.declared.instance.Instance.{Instance}
+use Rattle.nm_schema_nodes.specs.Expansion.{Expanded, IsExpansion, children}
 use Rattle.nm_schema.specs.Choices.{places, place_for, AreChosen}
 use Rattle.nm_schema.proofs.Chosen.{AreBeside, chosen_next, node_there, children_beside}
 use Rattle.nm_schema.proofs.choice.add_nodes.Goals as goal

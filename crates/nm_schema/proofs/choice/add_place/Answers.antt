@@ -1,8 +1,8 @@
 use Rattle.std.proofs.Common.{◌∙◌, ℕ, ◌+◌, ◌≤◌, ◌^◌, List, Option, length, sym, ap, subst, arith}
-use Rattle.nm_schema_rows.specs.declared.row.Row.{Row}
-use Rattle.nm_schema_shape.specs.Outline.{Outline}
-use Rattle.nm_schema_choice.specs.Forks.{Forking}
-use Rattle.nm_schema_choice.specs.Choices.{forks_of}
+use Rattle.nm_schema_statements.specs.declared.row.Row.{Row}
+use Rattle.nm_schema_uses.specs.Outline.{Outline}
+use Rattle.nm_schema_nodes.specs.Forks.{Forking}
+use Rattle.nm_schema_nodes.specs.Choices.{forks_of}
 use Rattle.nm_schema.specs.Choices.{place_for, forks_in, with_place, with_spots, AreRoom}
 use Rattle.nm_schema.proofs.Placing.{spots_room}
 use Rattle.nm_schema.proofs.Chosen.{none_placed, none_cased, forks_known}

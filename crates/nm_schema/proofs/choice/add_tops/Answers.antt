@@ -1,8 +1,8 @@
 use Rattle.std.proofs.Common.{◌∙◌, ◌<◌, List, None, length, get_or, refl, sym, ap, subst}
-use Rattle.nm_schema_rows.specs.declared.row.Row.{Row}
-use Rattle.nm_schema_rows.specs.Rows.{roots}
-use Rattle.nm_tree.specs.Nodes.{SchemaTree}
-use Rattle.nm_schema_expansion.specs.Expansion.{Expanded, IsExpansion, tops}
+use Rattle.nm_schema_statements.specs.declared.row.Row.{Row}
+use Rattle.nm_schema_statements.specs.Rows.{roots}
+use Rattle.nm_schema_tree.specs.Nodes.{SchemaTree}
+use Rattle.nm_schema_nodes.specs.Expansion.{Expanded, IsExpansion, tops}
 use Rattle.nm_schema.specs.Choices.{place_for}
 use Rattle.nm_schema.proofs.Chosen.{AreBeside, chosen_next, top_there, tops_beside}
 use Rattle.nm_schema.proofs.choice.add_tops.Goals as goal

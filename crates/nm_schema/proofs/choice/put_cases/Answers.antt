@@ -1,7 +1,7 @@
 use Rattle.std.proofs.Common.{length, ap, arith}
-use Rattle.nm_schema_choice.specs.declared.fork.Branch.{Branch}
-use Rattle.nm_tree.specs.declared.choice.CaseNode.{CaseNode}
-use Rattle.nm_tree.specs.Nodes.{SchemaTree}
+use Rattle.nm_schema_nodes.specs.declared.fork.Branch.{Branch}
+use Rattle.nm_schema_tree.specs.declared.choice.CaseNode.{CaseNode}
+use Rattle.nm_schema_tree.specs.Nodes.{SchemaTree}
 use Rattle.nm_schema.specs.Choices.{case_node}
 use Rattle.nm_schema.proofs.choice.put_cases.Goals as goal
 

@@ -1,5 +1,5 @@
 use Rattle.std.proofs.Common.{◌∙◌, None, length, replicate, ap, subst}
-use Rattle.nm_schema_expansion.specs.Expansion.{Expanded, IsExpansion}
+use Rattle.nm_schema_nodes.specs.Expansion.{Expanded, IsExpansion}
 use Rattle.nm_schema.proofs.Chosen.{chosen_start, chosen_all}
 use Rattle.nm_schema.proofs.choice.put_choices.Goals as goal
 

@@ -1,7 +1,7 @@
 use Rattle.std.proofs.Common.{◌≡◌, ◌∙◌, ◌<◌, ◌≤◌, ◌+◌, ◌^◌, List, None, length, map, get_or, slice_range, sym, ap, subst, arith}
-use Rattle.nm_schema_choice.specs.declared.fork.Fork.{Fork}
-use Rattle.nm_schema_choice.specs.declared.fork.Branch.{Branch}
-use Rattle.nm_schema_choice.specs.Forks.{IsRoom}
+use Rattle.nm_schema_nodes.specs.declared.fork.Fork.{Fork}
+use Rattle.nm_schema_nodes.specs.declared.fork.Branch.{Branch}
+use Rattle.nm_schema_nodes.specs.Forks.{IsRoom}
 use Rattle.nm_schema.specs.Choices.{place_for, case_node, choice_node, until, with_cases, with_place, AreOfChoices}
 use Rattle.nm_schema.proofs.Placing.{next_room, case_room, fork_bounds, next_cases, last_cases, placing_size, placing_next, placing_all, choice_stands, on_ok}
 use Rattle.nm_schema.proofs.choice.put_place.Goals as goal

@@ -1,5 +1,5 @@
 use Rattle.std.proofs.Common.{ap}
-use Rattle.nm_tree.specs.Nodes.{SchemaTree}
+use Rattle.nm_schema_tree.specs.Nodes.{SchemaTree}
 use Rattle.nm_schema.proofs.Marking.{changes-follows, applied-follows, change-follows}
 use Rattle.nm_schema.proofs.marker.put_marker.Goals as goal
 

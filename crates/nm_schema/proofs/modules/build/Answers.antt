@@ -1,5 +1,5 @@
 use Rattle.std.proofs.Common.{List, subst}
-use Rattle.nm_schema_rows.specs.declared.row.Row.{Row}
+use Rattle.nm_schema_statements.specs.declared.row.Row.{Row}
 use Rattle.nm_schema.specs.Built.{Answered}
 use Rattle.nm_schema.proofs.Sound.{answer_named, answer_sound}
 use Rattle.nm_schema.proofs.Marked.{answer_marked}

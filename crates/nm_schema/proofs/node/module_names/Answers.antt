@@ -1,6 +1,6 @@
 use Rattle.std.proofs.Common.{◌∙◌, ◌++◌, ◌∷◌, [], ℕ, List, get_or, map, take, sym, ap}
 use Rattle.std.proofs.lemmas.List.{map-append, take_all, take_more}
-use Rattle.nm_schema_shape.specs.Arguments.{argument_at}
+use Rattle.nm_schema_uses.specs.Arguments.{argument_at}
 use Rattle.nm_schema.specs.Choices.{module_names}
 use Rattle.nm_schema.proofs.node.module_names.Goals as goal
 

@@ -1,5 +1,5 @@
 use Rattle.std.proofs.Common.{◌≡◌, map, take}
-use Rattle.nm_schema_shape.specs.Arguments.{argument_at}
+use Rattle.nm_schema_uses.specs.Arguments.{argument_at}
 use Rattle.nm_schema.proofs.node.module_names.Given as goal
 
 abbrev pub invariant-loop-root : goal.invariant-loop-root

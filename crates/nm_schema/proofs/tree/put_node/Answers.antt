@@ -1,5 +1,5 @@
 use Rattle.std.proofs.Common.{◌∙◌, ap, sym}
-use Rattle.nm_tree.specs.Nodes.{SchemaTree}
+use Rattle.nm_schema_tree.specs.Nodes.{SchemaTree}
 use Rattle.nm_schema.proofs.Putting.{follows, are-more}
 use Rattle.nm_schema.proofs.tree.put_node.Goals as goal
 

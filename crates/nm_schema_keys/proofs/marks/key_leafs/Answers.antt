@@ -1,6 +1,6 @@
 use Rattle.std.proofs.Common.{◌≡◌, ◌∙◌, List, length, ap, subst, arith}
-use Rattle.nm_schema_rows.specs.declared.row.Row.{Row}
-use Rattle.nm_schema_rows.specs.Rows.{AreRows}
+use Rattle.nm_schema_statements.specs.declared.row.Row.{Row}
+use Rattle.nm_schema_statements.specs.Rows.{AreRows}
 use Rattle.nm_schema_keys.proofs.Marking.{marked_next, marked_all}
 use Rattle.nm_schema_keys.proofs.marks.key_leafs.Goals as goal
 

@@ -1,8 +1,8 @@
 use Rattle.std.proofs.Common.{◌≡◌, ◌+◌, ◌-◌, ◌∙◌, List, ℕ, refl, ap, arith, cond, get_or, Some}
 use Rattle.std.proofs.lemmas.Map.Text.{btree_map_updates_str}
 use Rattle.std.specs.Str.{bytes_eq}
-use Rattle.nm_schema_rows.specs.declared.row.Row.{Row}
-use Rattle.nm_schema_shape.specs.Arguments.{argument_at}
+use Rattle.nm_schema_statements.specs.declared.row.Row.{Row}
+use Rattle.nm_schema_uses.specs.Arguments.{argument_at}
 use Rattle.nm_schema_keys.specs.Membership.{led}
 use Rattle.nm_schema_keys.proofs.Looking.{unfilled, filled}
 use Rattle.nm_schema_keys.proofs.members.first_of_each.Goals as goal

@@ -1,6 +1,6 @@
 use Rattle.std.proofs.Common.{◌∙◌, List, ℕ, Bor, map, filter, ap}
 use Rattle.std.proofs.lemmas.List.{take_all}
-use Rattle.nm_schema_rows.specs.Text.{is_some_text}
+use Rattle.nm_schema_statements.specs.Text.{is_some_text}
 use Rattle.nm_schema_keys.proofs.words.some_texts.Goals as goal
 
 pub returns : goal.returns

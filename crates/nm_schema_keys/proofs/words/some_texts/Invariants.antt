@@ -1,5 +1,5 @@
 use Rattle.std.proofs.Common.{◌≡◌, List, ℕ, Bor, map, filter, take}
-use Rattle.nm_schema_rows.specs.Text.{is_some_text}
+use Rattle.nm_schema_statements.specs.Text.{is_some_text}
 use Rattle.nm_schema_keys.proofs.words.some_texts.Given as goal
 
 abbrev pub invariant-loop-text : goal.invariant-loop-text

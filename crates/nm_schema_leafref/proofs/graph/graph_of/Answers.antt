@@ -1,5 +1,5 @@
 use Rattle.std.proofs.Common.{◌≡◌, length, subst, arith}
-use Rattle.nm_schema_shape.proofs.Graphs.{IsDrawn, drawn_more, drawn_all}
+use Rattle.nm_schema_uses.proofs.Graphs.{IsDrawn, drawn_more, drawn_all}
 use Rattle.nm_schema_leafref.specs.Known.{targets_in}
 use Rattle.nm_schema_leafref.proofs.Targets.{target-in, targets_in-past}
 use Rattle.nm_schema_leafref.proofs.graph.graph_of.Goals as goal

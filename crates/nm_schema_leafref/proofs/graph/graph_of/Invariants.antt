@@ -1,5 +1,5 @@
 use Rattle.std.proofs.Common.{length}
-use Rattle.nm_schema_shape.proofs.Graphs.{IsDrawn}
+use Rattle.nm_schema_uses.proofs.Graphs.{IsDrawn}
 use Rattle.nm_schema_leafref.specs.Known.{targets_in}
 use Rattle.nm_schema_leafref.proofs.graph.graph_of.Given as goal
 

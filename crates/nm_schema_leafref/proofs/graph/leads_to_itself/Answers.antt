@@ -1,7 +1,7 @@
 use Rattle.std.proofs.Common.{◌≡◌, ◌∙◌, sym, ap, subst, List, ℕ, Bool, false, true, slice_index_or, ◌↔◌}
 use Rattle.nm_graph.specs.Graph.{successors_of, ReachedFrom}
 use Rattle.nm_graph.proofs.Acyclic.{itself-from_reached, reached-from_itself}
-use Rattle.nm_schema_shape.proofs.Graphs.{successors-read}
+use Rattle.nm_schema_uses.proofs.Graphs.{successors-read}
 use Rattle.nm_schema_leafref.proofs.graph.leads_to_itself.Goals as goal
 
 pub returns : goal.returns

@@ -1,7 +1,7 @@
 use Rattle.std.proofs.Common.{◌∙◌, sym, ap, subst, length, List, Option, Bool}
 use Rattle.nm_graph.specs.Graph.{Graph}
 use Rattle.nm_graph.specs.Value.{strict, Holds}
-use Rattle.nm_schema_shape.specs.Config.{Marks}
+use Rattle.nm_schema_uses.specs.Config.{Marks}
 use Rattle.nm_schema_leafref.specs.declared.led.Led.{Led}
 use Rattle.nm_schema_leafref.specs.Known.{LeadsBack}
 use Rattle.nm_schema_leafref.specs.Target.{IsCircular, type_step}

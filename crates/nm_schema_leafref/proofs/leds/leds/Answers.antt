@@ -1,6 +1,6 @@
 use Rattle.std.proofs.Common.{◌≡◌, ◌∙◌, ap, length, List, None, arith}
-use Rattle.nm_schema_expansion.specs.declared.instance.Instance.{Instance}
-use Rattle.nm_schema_expansion.specs.Expansion.{Expanded}
+use Rattle.nm_schema_nodes.specs.declared.instance.Instance.{Instance}
+use Rattle.nm_schema_nodes.specs.Expansion.{Expanded}
 use Rattle.nm_schema_leafref.specs.Walk.{led_to}
 use Rattle.nm_schema_leafref.proofs.Lists.{lists_more, lists_all}
 use Rattle.nm_schema_leafref.proofs.Targets.{led_to-past}

@@ -1,5 +1,5 @@
 use Rattle.std.proofs.Common.{◌≡◌, ◌∙◌, ap, false, length, List, ℕ, arith}
-use Rattle.nm_schema_rows.specs.Rows.{roots}
+use Rattle.nm_schema_statements.specs.Rows.{roots}
 use Rattle.nm_schema_leafref.specs.Place.{is_known_module}
 use Rattle.nm_schema_leafref.proofs.Lists.{lists_all}
 use Rattle.nm_schema_leafref.proofs.Places.{module-unknown}

@@ -1,5 +1,5 @@
 use Rattle.std.proofs.Common.{◌≡◌, ap, false, length, List, arith}
-use Rattle.nm_schema_expansion.specs.declared.instance.Instance.{Instance}
+use Rattle.nm_schema_nodes.specs.declared.instance.Instance.{Instance}
 use Rattle.nm_schema_leafref.specs.Place.{is_known_node}
 use Rattle.nm_schema_leafref.proofs.Lists.{lists_more, lists_all}
 use Rattle.nm_schema_leafref.proofs.Places.{node-known, node-unknown}

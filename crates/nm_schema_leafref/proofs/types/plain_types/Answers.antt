@@ -1,6 +1,6 @@
 use Rattle.std.proofs.Common.{◌≡◌, ◌∙◌, ap, length, List, None, arith}
-use Rattle.nm_schema_expansion.specs.declared.instance.Instance.{Instance}
-use Rattle.nm_schema_expansion.specs.Expansion.{Expanded, row_of}
+use Rattle.nm_schema_nodes.specs.declared.instance.Instance.{Instance}
+use Rattle.nm_schema_nodes.specs.Expansion.{Expanded, row_of}
 use Rattle.nm_schema_leafref.proofs.Lists.{lists_more, lists_all}
 use Rattle.nm_schema_leafref.proofs.Typings.{own_type, own_type-past, own-type-is}
 use Rattle.nm_schema_leafref.proofs.types.plain_types.Goals as goal

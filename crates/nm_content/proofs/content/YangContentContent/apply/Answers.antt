@@ -1,6 +1,6 @@
 use Rattle.std.proofs.Common.{◌≡◌, Result, Ok, sym, ap, ◌∙◌}
 use Rattle.nm_proto.specs.Content.{Refusal}
-use Rattle.nm_tree.specs.Nodes.{SchemaTree}
+use Rattle.nm_schema_tree.specs.Nodes.{SchemaTree}
 use Rattle.nm_overlay.specs.Differences.{Overlaid}
 use Rattle.nm_edit.specs.Edited.{edited_rows}
 use Rattle.nm_content.specs.Meaning.{over}

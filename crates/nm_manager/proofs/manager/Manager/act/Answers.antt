@@ -4,15 +4,15 @@ use Rattle.nm_manager.proofs.manager.Manager.act.Goals as goal
 
 pub returns-in-Wait-clause-any_moment : goal.returns-in-Wait-clause-any_moment
 returns-in-Wait-clause-any_moment g c =
-    still_reads g.D.Disk.told g.D.Disk.may_leave g.D.Disk.moment g.D.Disk.might_have_left (journal_of c.args.self.now) c.args.disk.now _
+    still_reads (journal_of c.args.self.now) (g.D.Disk.state c.args.disk.now) _
     c.requires.whole c.requires.fits (g.met.D.Disk.only_now c.args.disk.now)
 
 pub returns-in-Ok-clause-any_moment : goal.returns-in-Ok-clause-any_moment
 returns-in-Ok-clause-any_moment g c =
-    still_reads g.D.Disk.told g.D.Disk.may_leave g.D.Disk.moment g.D.Disk.might_have_left (journal_of c.args.self.now) c.args.disk.now _
+    still_reads (journal_of c.args.self.now) (g.D.Disk.state c.args.disk.now) _
     c.requires.whole c.requires.fits (g.met.D.Disk.only_now c.args.disk.now)
 
 pub returns-in-Err-clause-any_moment : goal.returns-in-Err-clause-any_moment
 returns-in-Err-clause-any_moment g c =
-    still_reads g.D.Disk.told g.D.Disk.may_leave g.D.Disk.moment g.D.Disk.might_have_left (journal_of c.args.self.now) c.args.disk.now _
+    still_reads (journal_of c.args.self.now) (g.D.Disk.state c.args.disk.now) _
     c.requires.whole c.requires.fits (g.met.D.Disk.only_now c.args.disk.now)

@@ -1,5 +1,5 @@
 use Rattle.std.proofs.Common.{◌≡◌, ◌∙◌, sym, ap}
-use Rattle.nm_schema_shape.specs.Outline.{Outline}
+use Rattle.nm_schema_uses.specs.Outline.{Outline}
 use Rattle.nm_schema_keys.specs.Kept.{members_at}
 use Rattle.nm_schema_keys.proofs.Keeping.{keeps_more, keeps_same}
 use Rattle.nm_schema_keys.proofs.finder.Finder.keep.Goals as goal

@@ -1,6 +1,6 @@
 use Rattle.std.proofs.Common.{◌≡◌, ◌∙◌, sym, ap}
-use Rattle.nm_schema_shape.specs.Outline.{Outline}
-use Rattle.nm_schema_shape.specs.Config.{is_state}
+use Rattle.nm_schema_uses.specs.Outline.{Outline}
+use Rattle.nm_schema_uses.specs.Config.{is_state}
 use Rattle.nm_schema_keys.proofs.Keeping.{keeps_more, keeps_same}
 use Rattle.nm_schema_keys.proofs.finder.Finder.keep_state.Goals as goal
 

@@ -1,8 +1,8 @@
 use Rattle.std.proofs.Common.{◌≡◌, ◌∙◌, ◌≤◌, ◌+◌, ℕ, List, length, Bool, Option, is_some, ap, subst, arith}
 use Rattle.std.proofs.lemmas.Bool.{cases_lt}
 use Rattle.std.proofs.lemmas.List.{length_push}
-use Rattle.nm_schema_rows.specs.declared.flaw.Flaw.{Flaw}
-use Rattle.nm_schema_shape.specs.Outline.{Outline}
+use Rattle.nm_schema_statements.specs.declared.flaw.Flaw.{Flaw}
+use Rattle.nm_schema_uses.specs.Outline.{Outline}
 use Rattle.nm_schema_keys.specs.ConfigUse.{ConfigUse, IsConfigUse}
 use Rattle.nm_schema_keys.specs.Uniques.{unique_flaw}
 use Rattle.nm_schema_keys.proofs.Flawing.{marked_all, marked_more}

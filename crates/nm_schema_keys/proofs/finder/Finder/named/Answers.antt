@@ -1,5 +1,5 @@
 use Rattle.std.proofs.Common.{◌∙◌, ap}
-use Rattle.nm_schema_shape.specs.Outline.{Outline}
+use Rattle.nm_schema_uses.specs.Outline.{Outline}
 use Rattle.nm_schema_keys.specs.Found.{seen_among, member_named}
 use Rattle.nm_schema_keys.specs.Membership.{Sight}
 use Rattle.nm_schema_keys.specs.Kept.{members_at}

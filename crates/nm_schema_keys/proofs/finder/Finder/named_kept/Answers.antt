@@ -1,5 +1,5 @@
 use Rattle.std.proofs.Common.{◌≡◌, subst}
-use Rattle.nm_schema_shape.specs.Outline.{Outline}
+use Rattle.nm_schema_uses.specs.Outline.{Outline}
 use Rattle.nm_schema_keys.specs.Found.{member_named}
 use Rattle.nm_schema_keys.proofs.Keeping.{kept-found}
 use Rattle.nm_schema_keys.proofs.finder.Finder.named_kept.Goals as goal

@@ -1,4 +1,4 @@
-use Rattle.nm_schema_shape.specs.Config.{is_state}
+use Rattle.nm_schema_uses.specs.Config.{is_state}
 use Rattle.nm_schema_keys.specs.Kept.{members_at}
 use Rattle.nm_schema_keys.proofs.Keeping.{keeps_none}
 use Rattle.nm_schema_keys.proofs.finder.Finder.new.Goals as goal

@@ -1,6 +1,6 @@
 use Rattle.std.proofs.Common.{◌≡◌, ◌∙◌, IfSome, subst}
-use Rattle.nm_schema_shape.specs.Outline.{Outline}
-use Rattle.nm_schema_shape.specs.Config.{is_state}
+use Rattle.nm_schema_uses.specs.Outline.{Outline}
+use Rattle.nm_schema_uses.specs.Config.{is_state}
 use Rattle.nm_schema_keys.proofs.Keeping.{kept_if}
 use Rattle.nm_schema_keys.proofs.finder.Finder.state_kept.Goals as goal
 

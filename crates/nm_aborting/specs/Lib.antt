@@ -1,2 +1,0 @@
-pub mod Aborts
-pub mod Support

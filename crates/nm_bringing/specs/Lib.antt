@@ -1,3 +1,0 @@
-pub mod Brings
-pub mod Course
-pub mod Support

@@ -1,5 +1,0 @@
-use Rattle.nm_calm.proofs.Rests.{calm_commits}
-use Rattle.nm_calm.proofs.laws.calm_runs_commit.Goals as goal
-
-pub returns : goal.returns
-returns g c = λ setting running plan steps calm rest. calm_commits (g.C.Content.meaning c.args.content.now) setting running plan calm steps rest

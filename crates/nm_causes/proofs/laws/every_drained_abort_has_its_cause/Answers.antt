@@ -1,5 +1,0 @@
-use Rattle.nm_causes.proofs.Runs.{drained_has_causes}
-use Rattle.nm_causes.proofs.laws.every_drained_abort_has_its_cause.Goals as goal
-
-pub returns : goal.returns
-returns g c = λ setting running events steps proper. drained_has_causes (g.C.Content.meaning c.args.content.now) (g.met.C.Content.laws c.args.content.now) setting running events proper steps

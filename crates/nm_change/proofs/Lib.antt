@@ -1,4 +1,0 @@
-pub mod Nodes
-pub mod Paths
-pub mod Exact
-pub mod Outcome

@@ -1,6 +1,0 @@
-use Rattle.std.proofs.Common.{◌≡◌, drop}
-use Rattle.nm_check.specs.Others.{any_in}
-use Rattle.nm_check.proofs.one_case.any_below.Given as goal
-
-abbrev pub invariant-loop-at : goal.invariant-loop-at
-invariant-loop-at l = any_in l.schema (drop l.at-index l.nodes) l.within ≡ any_in l.schema l.nodes l.within

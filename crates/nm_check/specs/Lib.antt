@@ -1,5 +1,0 @@
-pub mod Told
-pub mod Places
-pub mod Led
-pub mod Others
-pub mod Sample

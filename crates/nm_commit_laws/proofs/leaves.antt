@@ -1,0 +1,14 @@
+pub mod Tables
+pub mod Words
+pub mod Course
+pub mod Slots
+pub mod Links
+pub mod Keeping
+pub mod Others
+pub mod Own
+pub mod Told
+pub mod Commits
+pub mod Start
+pub mod Runs
+pub mod Alone
+pub mod Drained

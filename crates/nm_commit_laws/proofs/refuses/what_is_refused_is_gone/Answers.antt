@@ -1,0 +1,5 @@
+use Rattle.nm_commit_laws.proofs.refuses.Alone.{run_refuses}
+use Rattle.nm_commit_laws.proofs.refuses.what_is_refused_is_gone.Goals as goal
+
+pub returns : goal.returns
+returns g c = λ setting running events proper. run_refuses (g.C.Content.meaning c.args.content.now) (g.met.C.Content.laws c.args.content.now) setting running events proper

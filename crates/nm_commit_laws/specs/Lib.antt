@@ -1,0 +1,11 @@
+pub mod Brings
+pub mod Course
+pub mod BringsSupport
+pub mod Leaves
+pub mod Standing
+pub mod LeavesSupport
+pub mod Marks
+pub mod Waits
+pub mod Stays
+pub mod Refuses
+pub mod RefusesSupport

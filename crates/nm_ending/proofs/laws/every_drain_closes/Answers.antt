@@ -1,5 +1,0 @@
-use Rattle.nm_ending.proofs.Closes.{drain_closes}
-use Rattle.nm_ending.proofs.laws.every_drain_closes.Goals as goal
-
-pub returns : goal.returns
-returns g c = λ setting w. drain_closes (g.C.Content.meaning c.args.content.now) setting w

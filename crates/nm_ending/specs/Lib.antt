@@ -1,4 +1,0 @@
-pub mod Closing
-pub mod Steady
-pub mod Turns
-pub mod Rest

@@ -1,0 +1,10 @@
+use Rattle.std.proofs.Common.{ap, sym, ◌∙◌}
+use Rattle.std.specs.FinMap as map
+use Rattle.nm_flat.proofs.Maps.{get_number, one_removed}
+use Rattle.nm_flat.proofs.number_map.NumberMap.remove.Goals as goal
+
+pub returns-clause-before : goal.returns-clause-before
+returns-clause-before g c = c.remove.ensures.value ∙ sym (get_number c.self.inside.tree.entries c.args.number) ∙ ap (λ m. map.get m c.args.number) c.self.view_is
+
+pub returns-clause-removed : goal.returns-clause-removed
+returns-clause-removed g c = one_removed c.self.inside.tree.entries c.remove.new.self.entries c.args.number c.remove.ensures.updates.0 ∙ ap (λ m. map.remove m c.args.number) c.self.view_is

@@ -1,0 +1,3 @@
+pub mod NumberMap
+pub mod Flat
+pub mod FlatContent

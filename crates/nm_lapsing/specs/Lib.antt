@@ -1,2 +1,0 @@
-pub mod Lapses
-pub mod Support

@@ -1,5 +1,0 @@
-use Rattle.nm_leaving.proofs.Alone.{run_leaves}
-use Rattle.nm_leaving.proofs.laws.other_commits_leave_running.Goals as goal
-
-pub returns : goal.returns
-returns g c = λ setting running events proper. run_leaves (g.C.Content.meaning c.args.content.now) (g.met.C.Content.laws c.args.content.now) setting running events proper

@@ -1,8 +1,0 @@
-use Rattle.std.proofs.Common.{◌≡◌, ◌+◌, ◌-◌, ◌++◌, length}
-use Rattle.nm_network.specs.Report.{each_from, differs_at}
-use Rattle.nm_network.proofs.report.push_differing.Given as goal
-
--- the pairs so far and those that are left make all
-abbrev pub invariant-loop-place : goal.invariant-loop-place
-invariant-loop-place g l = l.pairs ++ each_from (differs_at l.devices l.committed l.change) (l.place + 1) (length l.devices - l.place)
-    ≡ l.initial.pairs ++ each_from (differs_at l.devices l.committed l.change) 1 (length l.devices)

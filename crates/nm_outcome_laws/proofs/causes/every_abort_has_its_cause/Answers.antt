@@ -1,0 +1,5 @@
+use Rattle.nm_outcome_laws.proofs.causes.Runs.{run_has_causes}
+use Rattle.nm_outcome_laws.proofs.causes.every_abort_has_its_cause.Goals as goal
+
+pub returns : goal.returns
+returns g c = λ setting running events proper. run_has_causes (g.C.Content.meaning c.args.content.now) (g.met.C.Content.laws c.args.content.now) setting running events proper

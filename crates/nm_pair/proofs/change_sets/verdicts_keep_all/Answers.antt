@@ -1,5 +1,0 @@
-use Rattle.nm_pair.proofs.Slots.{decided_holds}
-use Rattle.nm_pair.proofs.change_sets.verdicts_keep_all.Goals as goal
-
-pub returns : goal.returns
-returns g c = λ change v slot devices acked all. decided_holds change devices slot v acked all

@@ -1,8 +1,0 @@
-use Rattle.nm_pair.proofs.Steps.{decided_stays, entered_stays}
-use Rattle.nm_pair.proofs.laws.entries_keep_step.Goals as goal
-
-pub returns-clause-decided : goal.returns-clause-decided
-returns-clause-decided c = decided_stays
-
-pub returns-clause-other : goal.returns-clause-other
-returns-clause-other c = entered_stays

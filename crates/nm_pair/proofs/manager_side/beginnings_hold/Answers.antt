@@ -1,5 +1,0 @@
-use Rattle.nm_pair.proofs.Begun.{fresh_pair}
-use Rattle.nm_pair.proofs.manager_side.beginnings_hold.Goals as goal
-
-pub returns : goal.returns
-returns g c = fresh_pair

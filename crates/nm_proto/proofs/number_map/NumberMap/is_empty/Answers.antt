@@ -1,5 +1,0 @@
-use Rattle.nm_proto.proofs.Maps.{empty_by_len}
-use Rattle.nm_proto.proofs.number_map.NumberMap.is_empty.Goals as goal
-
-pub returns : goal.returns
-returns g c = empty_by_len c.args.self.now c.len.result c.len.ensures

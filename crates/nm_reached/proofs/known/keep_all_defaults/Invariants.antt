@@ -1,9 +1,0 @@
-use Rattle.std.proofs.Common.{◌≡◌, drop}
-use Rattle.nm_rules.specs.Values.{default_in_use}
-use Rattle.nm_reached.specs.Kept.{with_values}
-use Rattle.nm_reached.proofs.known.keep_all_defaults.Given as goal
-
-abbrev pub invariant-loop-path : goal.invariant-loop-path
-invariant-loop-path g l =
-    with_values l.at l.depth (λ path. default_in_use l.schema (g.M.RowMap.rows l.config) path l.at) l.kept (drop l.path-index l.places)
-    ≡ with_values l.at l.depth (λ path. default_in_use l.schema (g.M.RowMap.rows l.config) path l.at) l.fn.kept l.places

@@ -1,4 +1,0 @@
-pub mod Reads
-pub mod Concerns
-pub mod Reaches
-pub mod Candidates

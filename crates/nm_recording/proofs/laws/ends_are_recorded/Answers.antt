@@ -1,6 +1,0 @@
-use Rattle.nm_recording.proofs.Whole.{run_ends_so}
-use Rattle.nm_recording.proofs.laws.ends_are_recorded.Goals as goal
-
-pub returns : goal.returns
-returns g c = λ setting running events.
-    run_ends_so (g.C.Content.meaning c.args.content.now) (g.met.C.Content.laws c.args.content.now) setting running events

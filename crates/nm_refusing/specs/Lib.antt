@@ -1,2 +1,0 @@
-pub mod Refuses
-pub mod Support

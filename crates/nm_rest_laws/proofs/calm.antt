@@ -1,0 +1,10 @@
+pub mod Legs
+pub mod Forms
+pub mod Lists
+pub mod Planned
+pub mod Core
+pub mod Steps
+pub mod Turns
+pub mod Drains
+pub mod Starts
+pub mod Rests

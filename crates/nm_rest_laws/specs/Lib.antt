@@ -1,0 +1,5 @@
+pub mod Calm
+pub mod Closing
+pub mod Steady
+pub mod Turns
+pub mod Rest

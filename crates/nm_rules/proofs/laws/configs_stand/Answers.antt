@@ -1,5 +1,0 @@
-use Rattle.nm_rules.proofs.Configs.{config_stands}
-use Rattle.nm_rules.proofs.laws.configs_stand.Goals as goal
-
-pub returns : goal.returns
-returns c = config_stands

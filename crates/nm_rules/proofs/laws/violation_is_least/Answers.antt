@@ -1,5 +1,0 @@
-use Rattle.nm_rules.proofs.Telling.{violation_is_told}
-use Rattle.nm_rules.proofs.laws.violation_is_least.Goals as goal
-
-pub returns : goal.returns
-returns c = violation_is_told

@@ -1,9 +1,0 @@
-pub mod Standing
-pub mod Cases
-pub mod Guards
-pub mod Places
-pub mod Values
-pub mod Rule
-pub mod Violated
-pub mod Violation
-pub mod Sample

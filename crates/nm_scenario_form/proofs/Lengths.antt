@@ -1,0 +1,11 @@
+-- Counts of what is seen as JSON.
+use Rattle.std.proofs.Common.{◌≡◌, List, [], ◌∷◌, length, refl, arith}
+use Rattle.serde_json.specs.View.{items_view}
+use Rattle.serde_json.specs.declared.value.Value.{Value}
+use Rattle.nm_scenario_form.specs.Reading.{count_of}
+
+pub count_of-items_view : (vs : List Value) → count_of (items_view vs) ≡ length vs
+count_of-items_view [] = refl
+count_of-items_view (v ∷ vs) = omega (arith, count_of-items_view vs)
+
+pub ruleset counts = (count_of-items_view)

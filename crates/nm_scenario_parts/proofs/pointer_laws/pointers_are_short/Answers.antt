@@ -1,5 +1,0 @@
-use Rattle.nm_scenario_parts.proofs.Pointers.{pointer_short}
-use Rattle.nm_scenario_parts.proofs.pointer_laws.pointers_are_short.Goals as goal
-
-pub returns : goal.returns
-returns c = pointer_short

@@ -1,6 +1,0 @@
-use Rattle.std.proofs.Common.{◌≡◌, ◌++◌, map, take}
-use Rattle.nm_schema_choice.specs.Forks.{shifted}
-use Rattle.nm_schema_choice.proofs.forks.put_spots.Given as goal
-
-abbrev pub invariant-loop-spot : goal.invariant-loop-spot
-invariant-loop-spot l = l.spots.items ≡ l.initial.spots.items ++ map (shifted l.cases) (take l.spot-index l.others)

@@ -1,9 +1,0 @@
-use Rattle.nm_schema_shape.specs.Worth.{AreWorth}
-use Rattle.nm_schema_clash.specs.Clash.{AreCasesTaken, case_clash}
-use Rattle.nm_schema_clash.proofs.cases.case_clashes.Given as goal
-
-abbrev pub invariant-loop-at : goal.invariant-loop-at
-invariant-loop-at l = record {
-  taken : AreCasesTaken l.rows l.at l.taken.items;
-  found : AreWorth (case_clash l.rows) l.at l.clashes.items;
-}

@@ -1,5 +1,0 @@
-use Rattle.std.proofs.Common.{◌≡◌, [], replicate}
-use Rattle.nm_schema_clash.proofs.cases.no_cases.Given as goal
-
-abbrev pub invariant-loop : goal.invariant-loop
-invariant-loop l = l.taken.items ≡ replicate l.counter []

@@ -1,5 +1,0 @@
-use Rattle.nm_schema_clash.specs.Clash.{AreHolders}
-use Rattle.nm_schema_clash.proofs.claims.holders_of.Given as goal
-
-abbrev pub invariant-loop-at : goal.invariant-loop-at
-invariant-loop-at l = AreHolders l.rows l.at l.holders.items

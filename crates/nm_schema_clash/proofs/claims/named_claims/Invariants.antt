@@ -1,7 +1,0 @@
-use Rattle.std.proofs.Common.{length}
-use Rattle.nm_schema_shape.proofs.Graphs.{IsDrawn}
-use Rattle.nm_schema_clash.specs.Clash.{claiming_to}
-use Rattle.nm_schema_clash.proofs.claims.named_claims.Given as goal
-
-abbrev pub invariant-loop-at : goal.invariant-loop-at
-invariant-loop-at l = IsDrawn (claiming_to l.rows l.groupings 0) (length l.rows) l.graph.items l.at

@@ -1,6 +1,0 @@
-use Rattle.std.proofs.Common.{◌≡◌, replicate}
-use Rattle.nm_schema_clash.specs.Clash.{no_parts}
-use Rattle.nm_schema_clash.proofs.clash.none_taken.Given as goal
-
-abbrev pub invariant-loop : goal.invariant-loop
-invariant-loop l = l.taken.items ≡ replicate l.counter no_parts

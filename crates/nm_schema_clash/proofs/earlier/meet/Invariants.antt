@@ -1,8 +1,0 @@
-use Rattle.std.proofs.Common.{◌≡◌, drop, map}
-use Rattle.std.specs.List.{list_any}
-use Rattle.nm_schema_shape.specs.Arguments.{argument_at}
-use Rattle.nm_schema_clash.specs.Clash.{brought_by, names_at}
-use Rattle.nm_schema_clash.proofs.earlier.meet.Given as goal
-
-abbrev pub invariant-loop-node : goal.invariant-loop-node
-invariant-loop-node l = list_any (brought_by l.known l.at) (map (argument_at l.known.rows) (drop l.node-index l.node-items)) ≡ list_any (brought_by l.known l.at) (names_at l.known l.other)

@@ -1,7 +1,0 @@
-use Rattle.std.proofs.Common.{◌≡◌, drop, map}
-use Rattle.nm_schema_shape.specs.Arguments.{argument_at}
-use Rattle.nm_schema_clash.specs.Clash.{has_name}
-use Rattle.nm_schema_clash.proofs.known.has_name.Given as goal
-
-abbrev pub invariant-loop-node : goal.invariant-loop-node
-invariant-loop-node l = has_name (map (argument_at l.rows) (drop l.node-index l.nodes)) l.name ≡ has_name (map (argument_at l.rows) l.nodes) l.name

@@ -1,7 +1,0 @@
-use Rattle.std.proofs.Common.{◌∙◌, List, ℕ, ap}
-use Rattle.nm_schema_clash.specs.Clash.{has_name}
-use Rattle.nm_schema_clash.proofs.Naming.{contained}
-use Rattle.nm_schema_clash.proofs.names.NameSet.has.Goals as goal
-
-pub returns : goal.returns
-returns c = c.contains.ensures ∙ contained c.self.inside.set.keys c.args.name.now ∙ ap (λ (k : List (List ℕ)). has_name k c.args.name.now) c.self.view_is

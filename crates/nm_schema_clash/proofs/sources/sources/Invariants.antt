@@ -1,5 +1,0 @@
-use Rattle.nm_schema_clash.specs.Sharing.{AreSources}
-use Rattle.nm_schema_clash.proofs.sources.sources.Given as goal
-
-abbrev pub invariant-loop-node : goal.invariant-loop-node
-invariant-loop-node l = AreSources l.brought l.sources.items

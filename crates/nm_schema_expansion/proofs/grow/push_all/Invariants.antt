@@ -1,6 +1,0 @@
-use Rattle.std.proofs.Common.{◌≡◌, ◌++◌, map, take}
-use Rattle.nm_schema_expansion.specs.Growing.{instance}
-use Rattle.nm_schema_expansion.proofs.grow.push_all.Given as goal
-
-abbrev pub invariant-loop-row : goal.invariant-loop-row
-invariant-loop-row l = l.nodes.items ≡ l.initial.nodes.items ++ map (instance l.parent l.owner) (take l.row-index l.rows)

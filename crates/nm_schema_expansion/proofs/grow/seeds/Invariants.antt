@@ -1,5 +1,0 @@
-use Rattle.nm_schema_expansion.specs.Growing.{IsGrowing}
-use Rattle.nm_schema_expansion.proofs.grow.seeds.Given as goal
-
-abbrev pub invariant-loop-owner : goal.invariant-loop-owner
-invariant-loop-owner l = IsGrowing l.shape.rows l.shape.groupings l.owner 0 l.nodes.items

@@ -1,7 +1,0 @@
-use Rattle.std.proofs.Common.{take}
-use Rattle.nm_schema_expansion.specs.Expansion.{is_top}
-use Rattle.nm_schema_expansion.proofs.Indexing.{IsListed}
-use Rattle.nm_schema_expansion.proofs.index.tops_each.Given as goal
-
-abbrev pub invariant-loop-at : goal.invariant-loop-at
-invariant-loop-at l = IsListed is_top l.count (take l.at l.nodes) l.tops.items

@@ -1,4 +1,0 @@
-pub mod Expansion
-pub mod Named
-pub mod Growing
-pub mod Index

@@ -1,6 +1,0 @@
-use Rattle.nm_schema_flaws.proofs.Marking.{AreMarked}
-use Rattle.nm_schema_flaws.proofs.grounds.Grounds.misfits.Given as goal
-
--- the nodes so far are marked
-abbrev pub invariant-loop-number : goal.invariant-loop-number
-invariant-loop-number l = AreMarked l.self.rows l.self.facts l.number l.marks.items

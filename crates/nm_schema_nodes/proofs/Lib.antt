@@ -1,0 +1,16 @@
+pub mod Walks
+pub mod Leading
+pub mod Joining
+pub mod Forked
+pub mod Spots
+pub mod Unfolding
+pub mod Counting
+pub mod Bounds
+pub mod Heights
+pub mod Places
+pub mod Growth
+pub mod Scanning
+pub mod Depths
+pub mod Indexing
+pub mod Tables
+pub mod Single

@@ -1,6 +1,0 @@
-use Rattle.std.proofs.Common.{◌≡◌, drop}
-use Rattle.nm_schema_rows.specs.Rows.{first_with}
-use Rattle.nm_schema_rows.proofs.rows.Rows.first_with.Given as goal
-
-abbrev pub invariant-loop-number : goal.invariant-loop-number
-invariant-loop-number l = first_with l.self l.wanted l.numbers ≡ first_with l.self l.wanted (drop l.number-index l.numbers)

@@ -1,4 +1,0 @@
-pub mod Word
-pub mod Text
-pub mod Rows
-pub mod Flaw

@@ -1,9 +1,0 @@
-use Rattle.std.proofs.Common.{length}
-use Rattle.nm_graph.specs.Graph.{successors_of}
-use Rattle.nm_schema_shape.specs.Config.{is_kept}
-use Rattle.nm_schema_shape.proofs.Graphs.{IsDrawn}
-use Rattle.nm_schema_shape.proofs.Configs.{picked_of}
-use Rattle.nm_schema_shape.proofs.config.kept_graph.Given as goal
-
-abbrev pub invariant-loop-nodes : goal.invariant-loop-nodes
-invariant-loop-nodes l = IsDrawn (picked_of (is_kept l.rows) (successors_of l.graph)) (length l.graph) l.kept.items l.nodes-index

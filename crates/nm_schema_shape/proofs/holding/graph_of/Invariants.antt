@@ -1,7 +1,0 @@
-use Rattle.std.proofs.Common.{length}
-use Rattle.nm_schema_shape.specs.Holding.{holding}
-use Rattle.nm_schema_shape.proofs.Graphs.{IsDrawn}
-use Rattle.nm_schema_shape.proofs.holding.graph_of.Given as goal
-
-abbrev pub invariant-loop-at : goal.invariant-loop-at
-invariant-loop-at l = IsDrawn (holding l.rows l.groupings) (length l.rows) l.graph.items l.at

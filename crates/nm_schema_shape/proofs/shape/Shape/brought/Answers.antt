@@ -1,9 +1,0 @@
-use Rattle.std.proofs.Common.{◌≡◌, None, subst, arith}
-use Rattle.nm_schema_shape.specs.Members.{brought}
-use Rattle.nm_schema_shape.specs.Outline.{Outline}
-use Rattle.nm_schema_shape.proofs.Bringing.{brought-past}
-use Rattle.nm_schema_shape.proofs.shape.Shape.brought.Goals as goal
-
-pub returns : goal.returns
-returns c = subst (λ (s : Outline). brought s.rows s.groupings c.args.at ≡ None) c.self.view_is
-    (let size = c.self.invariant.bring.size in brought-past c.self.inside.rows.now c.self.inside.groupings.now c.args.at (omega arith))

@@ -1,7 +1,0 @@
-use Rattle.std.proofs.Common.{◌≡◌, drop}
-use Rattle.nm_graph.specs.Value.{all_there, values_at}
-use Rattle.nm_schema_shape.specs.Sizes.{highest}
-use Rattle.nm_schema_shape.proofs.sizes.highest.Given as goal
-
-abbrev pub invariant-loop-next : goal.invariant-loop-next
-invariant-loop-next l = highest l.top (all_there (values_at l.values (drop l.next-index l.successors))) ≡ highest 0 (all_there (values_at l.values l.successors))

@@ -1,0 +1,3 @@
+-- Schema trees as lists of nodes, and what finds a node by its name.
+pub mod Nodes
+pub mod Levels

@@ -1,0 +1,7 @@
+use Rattle.std.proofs.Common.{length}
+use Rattle.nm_schema_uses.specs.Holding.{holding}
+use Rattle.nm_schema_uses.proofs.Graphs.{IsDrawn}
+use Rattle.nm_schema_uses.proofs.holding.graph_of.Given as goal
+
+abbrev pub invariant-loop-at : goal.invariant-loop-at
+invariant-loop-at l = IsDrawn (holding l.rows l.groupings) (length l.rows) l.graph.items l.at

@@ -1,5 +1,0 @@
-use Rattle.nm_standing.proofs.Outcomes.{never_without}
-use Rattle.nm_standing.proofs.laws.outcomes_need_commits.Goals as goal
-
-pub returns : goal.returns
-returns c token history e = never_without token history e

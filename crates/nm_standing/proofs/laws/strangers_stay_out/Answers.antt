@@ -1,5 +1,0 @@
-use Rattle.nm_standing.proofs.Strangers.{strangers_kept_out}
-use Rattle.nm_standing.proofs.laws.strangers_stay_out.Goals as goal
-
-pub returns : goal.returns
-returns g c s at out = strangers_kept_out (g.C.Content.meaning c.args.content.now) at.tables s at.event at.h at.happens out

@@ -1,5 +1,0 @@
-use Rattle.nm_standing.proofs.Tokens.{token_kept}
-use Rattle.nm_standing.proofs.laws.tokens_stand.Goals as goal
-
-pub returns : goal.returns
-returns g c s at token leaves = token_kept (g.C.Content.meaning c.args.content.now) at.tables token s at.event at.h at.happens leaves

@@ -1,3 +1,0 @@
-pub mod Repeated
-pub mod Marks
-pub mod Ways

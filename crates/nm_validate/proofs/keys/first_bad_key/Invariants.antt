@@ -1,6 +1,0 @@
-use Rattle.std.proofs.Common.{◌≡◌, drop}
-use Rattle.nm_validate.specs.Listed.{first_bad_key}
-use Rattle.nm_validate.proofs.keys.first_bad_key.Given as goal
-
-abbrev pub invariant-loop-row : goal.invariant-loop-row
-invariant-loop-row l = first_bad_key l.schema.nodes (drop l.row-index l.rows) ≡ first_bad_key l.schema.nodes l.rows

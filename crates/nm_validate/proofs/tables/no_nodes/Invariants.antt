@@ -1,5 +1,0 @@
-use Rattle.nm_validate.specs.Tables.{AreNone}
-use Rattle.nm_validate.proofs.tables.no_nodes.Given as goal
-
-abbrev pub invariant-loop-at : goal.invariant-loop-at
-invariant-loop-at l = AreNone l._at l.groups.items

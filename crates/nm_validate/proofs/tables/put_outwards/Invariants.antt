@@ -1,8 +1,0 @@
-use Rattle.nm_validate.proofs.Tabled.{AreLeft}
-use Rattle.nm_validate.proofs.tables.put_outwards.Given as goal
-
-abbrev pub invariant-outwards : goal.invariant-outwards
-invariant-outwards l = AreLeft l.schema l.by l.at l.left l.over l.most l.fn.from l.fn.groups.items l.groups.items
-
-abbrev pub decreases-outwards : goal.decreases-outwards
-decreases-outwards l = l.left

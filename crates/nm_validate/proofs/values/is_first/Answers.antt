@@ -1,6 +1,0 @@
-use Rattle.std.proofs.Common.{sym, ◌∙◌}
-use Rattle.nm_validate.proofs.Rows.{first_at}
-use Rattle.nm_validate.proofs.values.is_first.Goals as goal
-
-pub returns : goal.returns
-returns c m h same = first_at m c.args.near.now c.row-item.result c.args.path.now c.in-len1-up.len_at_least c.row-item.is (sym c.eq.ensures ∙ same) h

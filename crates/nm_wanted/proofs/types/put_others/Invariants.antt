@@ -1,9 +1,0 @@
-use Rattle.std.proofs.Common.{◌≡◌, ◌++◌, length}
-use Rattle.nm_wanted.specs.Types as spec
-use Rattle.nm_wanted.proofs.types.put_others.Given as goal
-
-abbrev pub invariant-names : goal.invariant-names
-invariant-names l = l.out.items ++ spec.others_text l.rest ≡ l.initial.out.items ++ spec.others_text l.fn.names
-
-abbrev pub decreases-names : goal.decreases-names
-decreases-names l = length l.rest

@@ -1,4 +1,0 @@
-pub mod Place
-pub mod Numbers
-pub mod Types
-pub mod Wanted

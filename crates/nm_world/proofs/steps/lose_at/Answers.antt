@@ -1,0 +1,25 @@
+use Rattle.std.proofs.Common.{◌<◌, length, arith}
+use Rattle.std.proofs.lemmas.List.Elements.{All-set}
+use Rattle.nm_device.specs.Device.{IsSound}
+use Rattle.nm_history.specs.History.{RecordedState}
+use Rattle.nm_world.specs.World.{losing_at}
+use Rattle.nm_world.proofs.Clocks.{time_kept}
+use Rattle.nm_world.proofs.Staging.{all_met}
+use Rattle.nm_world.proofs.steps.lose_at.Goals as goal
+
+pub returns-clause-met : goal.returns-clause-met
+returns-clause-met g c =
+    let within : c.place_of-place.result < length c.args.devices.now.items = omega (arith, c.if-place-len.false, c.len.ensures) in
+    all_met c.lose_on.result c.args.devices.now.items c.place_of-place.result c.args.device c.index_mut.result.now c.lose_on.new.device c.args.manager.now c.lose_on.new.manager
+    (losing_at (g.C.Content.meaning c.args.content.now) c.args.manager.now.state c.args.change c.args.device c.args.link)
+    c.place_of-place.ensures within c.index_mut.ensures.value c.lose_on.ensures.met
+
+pub returns-clause-sound : goal.returns-clause-sound
+returns-clause-sound g c =
+    All-set (λ (r : RecordedState _ _). IsSound (g.C.Content.meaning c.args.content.now) r.device) c.args.devices.now.items c.place_of-place.result c.lose_on.new.device
+    c.lose_on.ensures.sound c.requires.sound
+
+pub returns-clause-time : goal.returns-clause-time
+returns-clause-time g c =
+    let within : c.place_of-place.result < length c.args.devices.now.items = omega (arith, c.if-place-len.false, c.len.ensures) in
+    time_kept c.args.devices.now.items c.place_of-place.result c.index_mut.result.now c.lose_on.new.device within c.index_mut.ensures.value c.lose_on.ensures.clock
