@@ -1,169 +1,147 @@
-//! The beginning of a run over one device and one change set, what is asked there, and what is found of it.
+//! The beginning of a run over three devices and one change set. Device 1 stands behind its lock, of device 2 there are
+//! the phases that follow its history, and of device 3 there is its share of the board's ledger alone.
 
-ghost use Rattle.std.specs.Prelude.{◌≡◌, ◌+◌, Some, IfOk, ◌∷◌, [], length};
+ghost use Rattle.std.specs.Prelude.{◌≡◌, ◌≤◌, ◌+◌, Some, ◌∷◌, [], length};
 ghost use Rattle.nm_proto.specs.Fault.{IsPlan};
 
-use nm_base::{DeviceNo, EditNo, Label, NoMemory};
-use nm_cells::{CellState, Pass};
-use nm_chronicle::{CellShare, Chronicle, RunName, RunPlans, Shares, SlotShares};
+use crate::play::Row;
+use nm_base::{ChangeNo, DeviceNo, EditNo};
+use nm_cells::{CellState, DeviceCell, Pass, PassOwner};
+use nm_chronicle::{
+    BookShare, CellShare, Chronicle, Phases, RunName, RunPlans, Shares, SlotShares,
+};
 use nm_device::Device;
 use nm_flat::{FlatConfig, FlatContent, FlatEdit, NumberMap};
-use nm_history::Noted;
-use nm_proto::{
-    ChangePlan, Content, DefaultOperation, Listed, PlanEntry, PlannedEdit, Request, Store,
-};
+use nm_proto::{ChangePlan, Content, DefaultOperation, Listed, PlanEntry, PlannedEdit, Tables};
 use std::alloc::Global;
+use std::process::Abort;
 use std::sync::Mutex;
 use std::sync::ledger::Blank;
-use std::test::Fail;
 
-pub(crate) fn lock_running() -> Request {
-    Request::Lock {
-        store: Store::Running,
+// What requests are about.
+#[derive(Drop)]
+pub(crate) struct World {
+    pub(crate) content: FlatContent,
+    pub(crate) tables: Tables<FlatContent>,
+}
+
+// What was last told: a word, and a place or a number.
+#[derive(Clone, Copy)]
+pub(crate) struct Told {
+    pub(crate) word: &'static str,
+    pub(crate) place: u64,
+}
+
+// A run without device 1: the board, who calls on it, and the passes of two callers with what the first was last told.
+#[derive(Drop)]
+pub(crate) struct Rest<N: RunPlans> {
+    pub(crate) chronicle: Mutex<Chronicle<N>>,
+    pub(crate) slot: SlotShares<N>,
+    pub(crate) book: BookShare<N>,
+    pub(crate) phases: Phases<N>,
+    pub(crate) share: CellShare<N>,
+    pub(crate) pass: Pass,
+    pub(crate) other: Pass,
+    pub(crate) told: Told,
+}
+
+// The device of a number.
+pub(crate) fn device_of(rt: &impl Abort, number: &str) -> DeviceNo {
+    let number = number.parse::<u8>().expect(rt, "a number");
+    DeviceNo::new(number).expect(rt, "a device")
+}
+
+// Change set 1, with one edit for each of the row's devices.
+pub(crate) fn change_plan(rt: &impl Abort, alloc: Global, row: &Row<'_>) -> ChangePlan {
+    let mut edits = Listed::new(alloc);
+    for number in row.devices.split(' ') {
+        let edit = PlannedEdit {
+            device: device_of(rt, number),
+            edit: EditNo(0),
+            default_operation: DefaultOperation::Merge,
+        };
+        edits.push(edit).expect(rt, "memory");
+    }
+    ChangePlan {
+        timeout: 600,
+        edits,
     }
 }
 
-pub(crate) fn open(alloc: Global, user: &str) -> Result<Request, NoMemory> {
-    Ok(Request::OpenSession {
-        user: Label::new(alloc, user)?,
-    })
-}
-
-// One edit for device 1.
-pub(crate) fn planned_edits(alloc: Global) -> Result<Listed<PlannedEdit>, Fail> {
-    let device = DeviceNo::new(1).ok_or("a device")?;
-    let mut edits = Listed::new(alloc);
-    edits.push(PlannedEdit {
-        device,
-        edit: EditNo(0),
-        default_operation: DefaultOperation::Merge,
-    })?;
-    Ok(edits)
-}
-
-// Change set 1, which has it.
-pub(crate) fn change_plan(alloc: Global) -> Result<ChangePlan, Fail> {
-    Ok(ChangePlan {
-        timeout: 600,
-        edits: planned_edits(alloc)?,
-    })
-}
-
 // The configuration `{"7":1}`.
-pub(crate) fn seven(alloc: Global) -> Result<FlatConfig, Fail> {
+pub(crate) fn seven(rt: &impl Abort, alloc: Global) -> FlatConfig {
     let mut cells = NumberMap::new(alloc);
-    cells.insert(7, 1)?;
-    Ok(FlatConfig::new(alloc, cells))
+    cells.insert(7, 1).expect(rt, "memory");
+    FlatConfig::new(alloc, cells)
 }
 
-// The beginning of a run over one device and one change set.
-#[derive(Drop)]
-pub(crate) struct Begun<N: RunName<FlatContent, FlatConfig, FlatEdit>> {
-    pub(crate) cell: CellState<FlatContent, N>,
-    pub(crate) chronicle: Mutex<Chronicle<N>>,
-    pub(crate) slot: SlotShares<N>,
+// Whose the calls of a row are.
+fn owner_of(rt: &impl Abort, row: &Row<'_>) -> PassOwner {
+    if row.coordinates {
+        let change = ChangeNo::new(1).expect(rt, "1");
+        return PassOwner::Coordinator { change };
+    }
+    PassOwner::Operator { operator: 1 }
 }
 
-// A slot and the share of a device, the only ones that there are.
-fn parted<N: RunPlans>(shares: Shares<N>) -> Result<(SlotShares<N>, CellShare<N>), Fail>
-    requires { shares.cells.items ≡ 0 ∷ [] }
-    ensures { IfOk result (λ both. both.1 ≡ 0) }
+// The board of a run with all who call on it, and the share of device 1.
+pub(crate) fn begin<N: RunPlans>(
+    rt: &impl Abort,
+    alloc: Global,
+    blank: Blank,
+    changes: &[ChangePlan],
+    row: &Row<'_>,
+) -> (Rest<N>, CellShare<N>)
+    requires name { blank.name ≡ N.name }
+    requires parts { blank.parts ≡ N.parts }
+    requires one_each { blank.parts ≡ length changes.now + 3 + 1 }
+    requires changes { changes.now ≡ N.changes }
+    requires devices { 3 ≡ N.devices }
+    ensures share { result.1 ≡ 0 }
 {
+    let (chronicle, shares) = Chronicle::<N>::reserve(alloc, blank, changes, 3).expect(
+        rt, "memory",
+    );
     let Shares {
         mut slots,
         mut cells,
         book,
     } = shares;
-    drop(book);
-    let slot = slots.pop().ok_or("no slot")?;
-    let share = cells.pop().ok_or("no share")?;
-    Ok((slot, share))
+    let slot = slots.pop().expect(rt, "a slot");
+    let share = cells.pop().expect(rt, "device 3");
+    let second = cells.pop().expect(rt, "device 2");
+    let first = cells.pop().expect(rt, "device 1");
+    let rest = Rest {
+        chronicle: Mutex::new(chronicle),
+        slot,
+        book,
+        phases: Phases::new(alloc, second).expect(rt, "memory"),
+        share,
+        pass: Pass::new(alloc, owner_of(rt, row)),
+        other: Pass::new(alloc, PassOwner::Operator { operator: 2 }),
+        told: Told { word: "", place: 0 },
+    };
+    (rest, first)
 }
 
-// The board, the slot and the share of a device.
-fn reserve<N: RunPlans>(
-    alloc: Global,
-    blank: Blank,
-    changes: &[ChangePlan],
-) -> Result<(Chronicle<N>, SlotShares<N>, CellShare<N>), Fail>
-    requires name { blank.name ≡ N.name }
-    requires parts { blank.parts ≡ N.parts }
-    requires one_each { blank.parts ≡ length changes.now + 1 + 1 }
-    requires changes { changes.now ≡ N.changes }
-    requires devices { 1 ≡ N.devices }
-    ensures { IfOk result (λ reserved. reserved.2 ≡ 0) }
-{
-    let (chronicle, shares) = Chronicle::<N>::reserve(alloc, blank, changes, 1)?;
-    let (slot, share) = parted(shares)?;
-    Ok((chronicle, slot, share))
-}
-
-// Device 1.
-fn cell_of<N: RunName<FlatContent, FlatConfig, FlatEdit>>(
+// Device 1, behind its lock.
+pub(crate) fn cell_of<N: RunName<FlatContent, FlatConfig, FlatEdit>>(
+    rt: &impl Abort,
     alloc: Global,
     content: &FlatContent,
     running: FlatConfig,
     plan: Vec<PlanEntry>,
     share: CellShare<N>,
-) -> Result<CellState<FlatContent, N>, Fail>
+) -> DeviceCell<FlatContent, N>
     requires content { N.run.content ≡ Some content.now }
     requires starts { N.run.starts ≡ running ∷ [] }
     requires faults { N.run.faults ≡ plan.items ∷ [] }
     requires plan { IsPlan plan.items }
     requires share { share ≡ 0 }
 {
-    if content.check(&running).is_err() {
-        return Err(Fail::new("not valid"));
-    }
-    let number = DeviceNo::new(1).ok_or("1")?;
+    assert!(rt; content.check(&running).is_ok());
+    let number = DeviceNo::new(1).expect(rt, "1");
     let device = Device::new(alloc, running);
-    Ok(CellState::new(alloc, number, device, plan, share)?)
-}
-
-pub(crate) fn begin<N: RunName<FlatContent, FlatConfig, FlatEdit>>(
-    alloc: Global,
-    blank: Blank,
-    changes: &[ChangePlan],
-    content: &FlatContent,
-    running: FlatConfig,
-    plan: Vec<PlanEntry>,
-) -> Result<Begun<N>, Fail>
-    requires name { blank.name ≡ N.name }
-    requires parts { blank.parts ≡ N.parts }
-    requires one_each { blank.parts ≡ length changes.now + 1 + 1 }
-    requires changes { changes.now ≡ N.changes }
-    requires devices { 1 ≡ N.devices }
-    requires content { N.run.content ≡ Some content.now }
-    requires starts { N.run.starts ≡ running ∷ [] }
-    requires faults { N.run.faults ≡ plan.items ∷ [] }
-    requires plan { IsPlan plan.items }
-{
-    let (chronicle, slot, share) = reserve::<N>(alloc, blank, changes)?;
-    let cell = cell_of(alloc, content, running, plan, share)?;
-    Ok(Begun {
-        cell,
-        chronicle: Mutex::new(chronicle),
-        slot,
-    })
-}
-
-// Whether an entry stands in a history, at its place.
-pub(crate) fn is_entry(history: &[Noted], position: u32, entry: &Noted) -> bool {
-    if position == 0 {
-        return false;
-    }
-    match history.get(position as usize - 1) {
-        Some(noted) => noted.same(entry),
-        None => false,
-    }
-}
-
-// Whether each entry of a pass does.
-pub(crate) fn is_found(pass: &Pass, history: &[Noted]) -> bool {
-    for entry in pass.entries() {
-        if !is_entry(history, entry.position, &entry.noted) {
-            return false;
-        }
-    }
-    true
+    let state = CellState::new(alloc, number, device, plan, share).expect(rt, "memory");
+    DeviceCell::new(number, state)
 }

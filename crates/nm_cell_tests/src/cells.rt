@@ -1,528 +1,259 @@
-ghost use Rattle.std.specs.Prelude.{◌≡◌, ◌+◌, true, Some, IfOk, ◌∷◌, [], length};
+//! What callers ask at device 1, through its lock.
+
+ghost use Rattle.std.specs.Prelude.{◌≡◌, Some};
 ghost use Rattle.std.specs.List.{All};
-ghost use Rattle.nm_proto.specs.Fault.{IsPlan};
 ghost use Rattle.nm_flat.specs.FlatContent.{flat_meaning};
-ghost use Rattle.nm_cells.specs.Pass.{is_operator};
 
-use crate::begun::{Begun, begin, change_plan, is_found, lock_running, open, seven};
-use nm_base::{ChangeNo, SessionId};
-use nm_cells::{Asked, Faults, Pass, PassOwner};
-use nm_chronicle::RunName;
+use crate::begun::{Rest, Told, World};
+use crate::calls::calls;
+use crate::requests::request_of;
+use nm_base::SessionId;
+use nm_cells::{Asked, DeviceCell, Pass, PassOwner};
+use nm_chronicle::{Chronicle, RunName};
 use nm_flat::{FlatConfig, FlatContent, FlatEdit};
-use nm_history::{DeviceEvent, Noted};
-use nm_proto::{ChangePlan, Listed, PlanEntry, PlanFault, Reply, Request, Tables};
+use nm_proto::{Reply, Request};
 use std::alloc::Global;
-use std::marker::Brand;
-use std::sync::Wait;
-use std::sync::ledger::Blank;
-use std::test::Fail;
+use std::process::Abort;
+use std::sync::{Mutex, Wait};
+use std::thread::Threads;
+use std::{mem, thread};
 
-// A plan with a drop at the second request and an advance at the third.
-fn plan_of(alloc: Global) -> Result<Vec<PlanEntry>, Fail>
-    ensures { IfOk result (λ plan. IsPlan plan.items) }
-{
-    let mut plan = Vec::new(alloc);
-    plan.push(PlanEntry {
-        at: 2,
-        fault: PlanFault::Drop,
-    })?;
-    plan.push(PlanEntry {
-        at: 3,
-        fault: PlanFault::Advance { seconds: 5 },
-    })?;
-    Ok(plan)
-}
-
-fn is_drop(due: Option<PlanFault>) -> bool {
-    due == Some(PlanFault::Drop)
-}
-
-fn is_advance(due: Option<PlanFault>) -> bool {
-    due == Some(PlanFault::Advance { seconds: 5 })
-}
-
-// Each fault comes at just the request that it names, and an advance that was done doesn't come again.
-#[test]
-fn faults_come_at_their_requests(rt: HostRuntime) -> Result<(), Fail> {
-    let mut faults = Faults::new(plan_of(rt.alloc())?);
-    let first = faults.due();
-    faults.count();
-    let second = faults.due();
-    faults.count_if(false);
-    let again = faults.due();
-    faults.count_if(true);
-    let third = faults.due();
-    faults.come();
-    assert!(rt; first.is_none() && is_drop(second) && is_drop(again) && is_advance(third));
-    assert!(rt; faults.due().is_none() && faults.counted() == 2);
-    Ok(())
-}
-
-fn discard() -> Request {
-    Request::Discard
-}
-
-// Whether a call was answered so, at this place.
-fn is_answered(asked: &Asked, place: u32, want: &Reply) -> bool {
-    match asked {
-        Asked::Answered { position, reply } => *position == place && reply.same(want),
-        Asked::Broken { .. } => false,
+// Session 1, and None where a request opens one.
+fn session_of(request: &Request) -> Option<SessionId> {
+    match request {
+        Request::OpenSession { .. } => None,
+        _ => SessionId::new(1),
     }
 }
 
-fn is_broken(asked: &Asked, place: u32) -> bool {
+// The session that a call opened.
+fn opened_by(asked: &Asked) -> Option<SessionId> {
     match asked {
-        Asked::Answered { .. } => false,
-        Asked::Broken { position } => *position == place,
+        Asked::Answered { reply, .. } => match reply {
+            Reply::Opened(session) => Some(*session),
+            _ => None,
+        },
+        Asked::Broken { .. } => None,
     }
 }
 
-// Whether a pass holds the entries of a history, each at its place, and no others.
-fn holds_all(pass: &Pass, history: &[Noted]) -> bool {
-    pass.entries().len() == history.len() && is_found(pass, history)
+// How a call was answered, as far as scripts ask for it. It is session 1 that is opened.
+fn word_of(reply: &Reply) -> &'static str {
+    match reply {
+        Reply::Done => "done",
+        Reply::Opened(session) => {
+            if session.get() == 1 {
+                return "opened";
+            }
+            "other"
+        }
+        _ => "other",
+    }
 }
 
-// ---- what is called
+// What a caller was told, with its place in the history.
+fn told_by(asked: &Asked) -> Told {
+    match asked {
+        Asked::Answered { position, reply } => Told {
+            word: word_of(reply),
+            place: u64::from(*position),
+        },
+        Asked::Broken { position } => Told {
+            word: "broken",
+            place: u64::from(*position),
+        },
+    }
+}
 
-// A call at device 1, and what its caller is told.
-fn call<N: RunName<FlatContent, FlatConfig, FlatEdit>, R: Wait>(
+// Whether a word is a request, which is then asked.
+fn asks<N: RunName<FlatContent, FlatConfig, FlatEdit>, R: Wait + Abort>(
     rt: &R,
-    content: &FlatContent,
-    tables: &Tables<FlatContent>,
-    begun: &mut Begun<N>,
-    pass: &mut Pass,
-    session: Option<SessionId>,
-    ask: &Request,
-) -> Result<Asked, Fail>
-    requires content { N.run.content ≡ Some content.now }
-    requires tables { N.run.tables ≡ tables.now }
-    requires edits_belong { All flat_meaning.edit_belongs tables.now.edits }
-    ensures owner { pass.new.owner ≡ pass.old.owner }
+    alloc: Global,
+    world: &World,
+    cell: &DeviceCell<FlatContent, N>,
+    rest: &mut Rest<N>,
+    word: &str,
+) -> bool
+    requires content { N.run.content ≡ Some world.now.content }
+    requires tables { N.run.tables ≡ world.now.tables }
+    requires edits_belong { All flat_meaning.edit_belongs world.now.tables.edits }
 {
-    let number = begun.cell.number();
-    Ok(
-        begun.cell.serve(
+    let Some(request) = request_of(rt, alloc, word) else {
+        return false;
+    };
+    let asked = cell
+        .ask(
             rt,
-            number,
-            content,
-            tables,
-            &begun.chronicle,
-            pass,
-            session,
-            ask,
-        )?,
-    )
+            &world.content,
+            &world.tables,
+            &rest.chronicle,
+            &mut rest.pass,
+            session_of(&request),
+            &request,
+        )
+        .expect(rt, "memory");
+    rest.told = told_by(&asked);
+    true
 }
 
-// Whether a call opened session 1, by the first entry.
-fn is_opened(asked: &Asked) -> bool {
-    match SessionId::new(1) {
-        Some(session) => is_answered(asked, 1, &Reply::Opened(session)),
-        None => false,
+// Whether a coordinator's request is broken. Its slot is lent, and the board is told where a device is asked to commit.
+fn breaks<N: RunName<FlatContent, FlatConfig, FlatEdit>, R: Wait + Abort>(
+    rt: &R,
+    alloc: Global,
+    world: &World,
+    cell: &DeviceCell<FlatContent, N>,
+    rest: &mut Rest<N>,
+    word: &str,
+) -> bool
+    requires content { N.run.content ≡ Some world.now.content }
+    requires tables { N.run.tables ≡ world.now.tables }
+    requires edits_belong { All flat_meaning.edit_belongs world.now.tables.edits }
+{
+    if word == "commit" {
+        assert!(rt; calls(rt, rest, "asked", "1"));
+    }
+    let request = request_of(rt, alloc, word).expect(rt, "a request");
+    let asked = cell
+        .ask_change(
+            rt,
+            &world.content,
+            &world.tables,
+            &rest.chronicle,
+            &mut rest.slot,
+            &mut rest.pass,
+            session_of(&request),
+            &request,
+        )
+        .expect(rt, "memory");
+    matches!(asked, Asked::Broken { .. })
+}
+
+// A coordinator's first pass, up to the request that is broken, if one is. Gives how many went through.
+fn first_pass<N: RunName<FlatContent, FlatConfig, FlatEdit>, R: Wait + Abort>(
+    rt: &R,
+    alloc: Global,
+    world: &World,
+    cell: &DeviceCell<FlatContent, N>,
+    rest: &mut Rest<N>,
+) -> usize
+    requires content { N.run.content ≡ Some world.now.content }
+    requires tables { N.run.tables ≡ world.now.tables }
+    requires edits_belong { All flat_meaning.edit_belongs world.now.tables.edits }
+{
+    let words = "netm lock candidate merge validate commit";
+    for (before, word) in words.split(' ').enumerate() {
+        if breaks(rt, alloc, world, cell, rest, word) {
+            return before;
+        }
+    }
+    6
+}
+
+// A caller hangs up session 1, if it is an operator. Gives the place of the loss, and 0 where nothing was lost.
+fn hang_up<N: RunName<FlatContent, FlatConfig, FlatEdit>, R: Wait + Abort>(
+    rt: &R,
+    world: &World,
+    cell: &DeviceCell<FlatContent, N>,
+    board: &Mutex<Chronicle<N>>,
+    pass: &mut Pass,
+) -> Told
+    requires content { N.run.content ≡ Some world.now.content }
+{
+    let session = SessionId::new(1).expect(rt, "1");
+    let PassOwner::Operator { .. } = pass.owner() else {
+        panic!(rt; "no operator");
+    };
+    let ended = cell
+        .hang_up(rt, &world.content, board, pass, session)
+        .expect(rt, "memory");
+    Told {
+        word: "ended",
+        place: u64::from(ended.unwrap_or(0)),
     }
 }
 
-// Whether a request opens it.
-fn opens<N: RunName<FlatContent, FlatConfig, FlatEdit>, R: Wait>(
-    rt: &R,
-    content: &FlatContent,
-    tables: &Tables<FlatContent>,
-    begun: &mut Begun<N>,
-    pass: &mut Pass,
-    ask: &Request,
-) -> Result<bool, Fail>
-    requires content { N.run.content ≡ Some content.now }
-    requires tables { N.run.tables ≡ tables.now }
-    requires edits_belong { All flat_meaning.edit_belongs tables.now.edits }
-    ensures owner { pass.new.owner ≡ pass.old.owner }
-{
-    let asked = call(rt, content, tables, begun, pass, None, ask)?;
-    Ok(is_opened(&asked))
-}
-
-// Whether it is opened for a user.
-fn enters<N: RunName<FlatContent, FlatConfig, FlatEdit>, R: Wait>(
+// An operator opens a session and hangs it up.
+fn come_and_go<N: RunName<FlatContent, FlatConfig, FlatEdit>, R: Wait + Abort>(
     rt: &R,
     alloc: Global,
-    content: &FlatContent,
-    tables: &Tables<FlatContent>,
-    begun: &mut Begun<N>,
-    pass: &mut Pass,
-    user: &str,
-) -> Result<bool, Fail>
-    requires content { N.run.content ≡ Some content.now }
-    requires tables { N.run.tables ≡ tables.now }
-    requires edits_belong { All flat_meaning.edit_belongs tables.now.edits }
-    ensures owner { pass.new.owner ≡ pass.old.owner }
+    world: &World,
+    cell: &DeviceCell<FlatContent, N>,
+    board: &Mutex<Chronicle<N>>,
+    operator: u32,
+) -> Pass
+    requires content { N.run.content ≡ Some world.now.content }
+    requires tables { N.run.tables ≡ world.now.tables }
+    requires edits_belong { All flat_meaning.edit_belongs world.now.tables.edits }
 {
-    let ask = open(alloc, user)?;
-    opens(rt, content, tables, begun, pass, &ask)
+    let mut pass = Pass::new(alloc, PassOwner::Operator { operator });
+    let request = request_of(rt, alloc, "alice").expect(rt, "a request");
+    let asked = cell
+        .ask(
+            rt,
+            &world.content,
+            &world.tables,
+            board,
+            &mut pass,
+            None,
+            &request,
+        )
+        .expect(rt, "memory");
+    let session = opened_by(&asked).expect(rt, "a session");
+    cell.hang_up(rt, &world.content, board, &mut pass, session)
+        .expect(rt, "memory");
+    pass
 }
 
-// What session 1 is told of a request.
-fn asks<N: RunName<FlatContent, FlatConfig, FlatEdit>, R: Wait>(
-    rt: &R,
-    content: &FlatContent,
-    tables: &Tables<FlatContent>,
-    begun: &mut Begun<N>,
-    pass: &mut Pass,
-    ask: &Request,
-) -> Result<Asked, Fail>
-    requires content { N.run.content ≡ Some content.now }
-    requires tables { N.run.tables ≡ tables.now }
-    requires edits_belong { All flat_meaning.edit_belongs tables.now.edits }
-    ensures owner { pass.new.owner ≡ pass.old.owner }
+// Two operators come and go in two threads, and keep what they found.
+fn meet<
+    N: RunName<FlatContent, FlatConfig, FlatEdit> + Send + Sync,
+    R: Threads + Wait + Sync + Abort,
+>(rt: &R, alloc: Global, world: &World, cell: &DeviceCell<FlatContent, N>, rest: &mut Rest<N>)
+    requires content { N.run.content ≡ Some world.now.content }
+    requires tables { N.run.tables ≡ world.now.tables }
+    requires edits_belong { All flat_meaning.edit_belongs world.now.tables.edits }
 {
-    let session = SessionId::new(1).ok_or("1")?;
-    call(rt, content, tables, begun, pass, Some(session), ask)
-}
-
-// Whether a call was done, by the second entry.
-fn is_done(asked: &Asked) -> bool {
-    is_answered(asked, 2, &Reply::Done)
-}
-
-// Whether a request of session 1 is done.
-fn does<N: RunName<FlatContent, FlatConfig, FlatEdit>, R: Wait>(
-    rt: &R,
-    content: &FlatContent,
-    tables: &Tables<FlatContent>,
-    begun: &mut Begun<N>,
-    pass: &mut Pass,
-    ask: &Request,
-) -> Result<bool, Fail>
-    requires content { N.run.content ≡ Some content.now }
-    requires tables { N.run.tables ≡ tables.now }
-    requires edits_belong { All flat_meaning.edit_belongs tables.now.edits }
-    ensures owner { pass.new.owner ≡ pass.old.owner }
-{
-    let asked = asks(rt, content, tables, begun, pass, ask)?;
-    Ok(is_done(&asked))
-}
-
-// Whether session 1 gets the lock of running.
-fn locks<N: RunName<FlatContent, FlatConfig, FlatEdit>, R: Wait>(
-    rt: &R,
-    content: &FlatContent,
-    tables: &Tables<FlatContent>,
-    begun: &mut Begun<N>,
-    pass: &mut Pass,
-) -> Result<bool, Fail>
-    requires content { N.run.content ≡ Some content.now }
-    requires tables { N.run.tables ≡ tables.now }
-    requires edits_belong { All flat_meaning.edit_belongs tables.now.edits }
-    ensures owner { pass.new.owner ≡ pass.old.owner }
-{
-    let ask = lock_running();
-    does(rt, content, tables, begun, pass, &ask)
-}
-
-// Whether a request of session 1 is broken by the second entry.
-fn breaks<N: RunName<FlatContent, FlatConfig, FlatEdit>, R: Wait>(
-    rt: &R,
-    content: &FlatContent,
-    tables: &Tables<FlatContent>,
-    begun: &mut Begun<N>,
-    pass: &mut Pass,
-    ask: &Request,
-) -> Result<bool, Fail>
-    requires content { N.run.content ≡ Some content.now }
-    requires tables { N.run.tables ≡ tables.now }
-    requires edits_belong { All flat_meaning.edit_belongs tables.now.edits }
-    ensures owner { pass.new.owner ≡ pass.old.owner }
-{
-    let asked = asks(rt, content, tables, begun, pass, ask)?;
-    Ok(is_broken(&asked, 2))
-}
-
-// Session 1 is hung up.
-fn hang_up<N: RunName<FlatContent, FlatConfig, FlatEdit>, R: Wait>(
-    rt: &R,
-    content: &FlatContent,
-    begun: &mut Begun<N>,
-    pass: &mut Pass,
-) -> Result<Option<u32>, Fail>
-    requires operator { is_operator pass.old.owner ≡ true }
-    requires content { N.run.content ≡ Some content.now }
-{
-    let number = begun.cell.number();
-    let session = SessionId::new(1).ok_or("1")?;
-    Ok(
-        begun
-            .cell
-            .end(rt, number, content, &begun.chronicle, pass, session)?,
-    )
-}
-
-// The same by another caller.
-fn hang_up_again<N: RunName<FlatContent, FlatConfig, FlatEdit>, R: Wait>(
-    rt: &R,
-    alloc: Global,
-    content: &FlatContent,
-    begun: &mut Begun<N>,
-) -> Result<Option<u32>, Fail>
-    requires content { N.run.content ≡ Some content.now }
-{
-    let mut pass = Pass::new(alloc, PassOwner::Operator { operator: 1 });
-    hang_up(rt, content, begun, &mut pass)
-}
-
-// ---- an operator's calls
-
-// What is seen of a device and a pass: the calls and hangings up, and whether the pass holds just the history.
-#[derive(Clone, Copy)]
-struct Seen {
-    locked: bool,
-    first: Option<u32>,
-    again: Option<u32>,
-    entries: usize,
-    agree: bool,
-}
-
-// Whether alice opens a session and locks running.
-fn opens_and_locks<N: RunName<FlatContent, FlatConfig, FlatEdit>, R: Wait>(
-    rt: &R,
-    alloc: Global,
-    content: &FlatContent,
-    tables: &Tables<FlatContent>,
-    begun: &mut Begun<N>,
-    pass: &mut Pass,
-) -> Result<bool, Fail>
-    requires content { N.run.content ≡ Some content.now }
-    requires tables { N.run.tables ≡ tables.now }
-    requires edits_belong { All flat_meaning.edit_belongs tables.now.edits }
-    ensures owner { pass.new.owner ≡ pass.old.owner }
-{
-    Ok(
-        enters(rt, alloc, content, tables, begun, pass, "alice")?
-            && locks(rt, content, tables, begun, pass)?,
-    )
-}
-
-// Alice opens a session, locks running and hangs up, twice.
-fn come_twice<N: RunName<FlatContent, FlatConfig, FlatEdit>, R: Wait>(
-    rt: &R,
-    alloc: Global,
-    content: &FlatContent,
-    tables: &Tables<FlatContent>,
-    begun: &mut Begun<N>,
-) -> Result<Seen, Fail>
-    requires content { N.run.content ≡ Some content.now }
-    requires tables { N.run.tables ≡ tables.now }
-    requires edits_belong { All flat_meaning.edit_belongs tables.now.edits }
-{
-    let mut pass = Pass::new(alloc, PassOwner::Operator { operator: 1 });
-    let locked = opens_and_locks(rt, alloc, content, tables, begun, &mut pass)?;
-    let first = hang_up(rt, content, begun, &mut pass)?;
-    let again = hang_up_again(rt, alloc, content, begun)?;
-    let history = begun.cell.history();
-    Ok(Seen {
-        locked,
-        first,
-        again,
-        entries: history.len(),
-        agree: holds_all(&pass, history),
-    })
-}
-
-fn story<N: RunName<FlatContent, FlatConfig, FlatEdit>, R: Wait>(
-    rt: &R,
-    alloc: Global,
-    blank: Blank,
-    changes: &[ChangePlan],
-    content: &FlatContent,
-    tables: &Tables<FlatContent>,
-    running: FlatConfig,
-    plan: Vec<PlanEntry>,
-) -> Result<Seen, Fail>
-    requires name { blank.name ≡ N.name }
-    requires parts { blank.parts ≡ N.parts }
-    requires one_each { blank.parts ≡ length changes.now + 1 + 1 }
-    requires changes { changes.now ≡ N.changes }
-    requires devices { 1 ≡ N.devices }
-    requires content { N.run.content ≡ Some content.now }
-    requires tables { N.run.tables ≡ tables.now }
-    requires edits_belong { All flat_meaning.edit_belongs tables.now.edits }
-    requires starts { N.run.starts ≡ running ∷ [] }
-    requires faults { N.run.faults ≡ plan.items ∷ [] }
-    requires plan { IsPlan plan.items }
-{
-    let mut begun = begin::<N>(alloc, blank, changes, content, running, plan)?;
-    come_twice(rt, alloc, content, tables, &mut begun)
-}
-
-// The same at a device that runs `{"7":1}`, without planned faults.
-fn run_story<R: Wait>(rt: &R, alloc: Global) -> Result<Seen, Fail> {
-    let content = FlatContent::new(alloc);
-    let tables = Tables::new(Listed::new(alloc), Listed::new(alloc));
-    let changes = [change_plan(alloc)?];
-    story::<Brand, R>(
+    let board = &rest.chronicle;
+    let (first, second) = thread::join(
         rt,
-        alloc,
-        Blank::new(3),
-        &changes,
-        &content,
-        &tables,
-        seven(alloc)?,
-        Vec::new(alloc),
-    )
+        || -> Pass
+            requires { (N.run.content ≡ Some world.now.content) × (N.run.tables ≡ world.now.tables) × All flat_meaning.edit_belongs world.now.tables.edits }
+        { come_and_go(rt, alloc, world, cell, board, 1) },
+        || -> Pass
+            requires { (N.run.content ≡ Some world.now.content) × (N.run.tables ≡ world.now.tables) × All flat_meaning.edit_belongs world.now.tables.edits }
+        { come_and_go(rt, alloc, world, cell, board, 2) },
+    );
+    drop(mem::replace(&mut rest.pass, first));
+    drop(mem::replace(&mut rest.other, second));
 }
 
-// Whether it was done by the first three entries.
-fn is_seen(seen: &Seen) -> bool {
-    seen.locked && seen.first == Some(3) && seen.again.is_none() && seen.entries == 3 && seen.agree
-}
-
-// The pass of an operator holds what happened, at the places of the history.
-#[test]
-fn histories_and_passes_agree(rt: HostRuntime) -> Result<(), Fail> {
-    assert!(rt; is_seen(&run_story(&rt, rt.alloc())?));
-    Ok(())
-}
-
-// What is seen of a device that drops a session: the calls, and whether the pass holds just the history, at whose end the
-// session is lost.
-#[derive(Clone, Copy)]
-struct Dropped {
-    broken: bool,
-    entries: usize,
-    agree: bool,
-    lost: bool,
-}
-
-// Whether a history ends with the loss of session 1.
-fn is_lost(history: &[Noted]) -> Option<bool> {
-    let session = SessionId::new(1)?;
-    let last = history.last()?;
-    Some(last.event.same(&DeviceEvent::Lost { session }))
-}
-
-// Whether a request for the lock of running is broken.
-fn breaks_lock<N: RunName<FlatContent, FlatConfig, FlatEdit>, R: Wait>(
-    rt: &R,
-    content: &FlatContent,
-    tables: &Tables<FlatContent>,
-    begun: &mut Begun<N>,
-    pass: &mut Pass,
-) -> Result<bool, Fail>
-    requires content { N.run.content ≡ Some content.now }
-    requires tables { N.run.tables ≡ tables.now }
-    requires edits_belong { All flat_meaning.edit_belongs tables.now.edits }
-{
-    let ask = lock_running();
-    breaks(rt, content, tables, begun, pass, &ask)
-}
-
-// Whether a discard is.
-fn breaks_discard<N: RunName<FlatContent, FlatConfig, FlatEdit>, R: Wait>(
-    rt: &R,
-    content: &FlatContent,
-    tables: &Tables<FlatContent>,
-    begun: &mut Begun<N>,
-    pass: &mut Pass,
-) -> Result<bool, Fail>
-    requires content { N.run.content ≡ Some content.now }
-    requires tables { N.run.tables ≡ tables.now }
-    requires edits_belong { All flat_meaning.edit_belongs tables.now.edits }
-{
-    let ask = discard();
-    breaks(rt, content, tables, begun, pass, &ask)
-}
-
-// Whether both are, one after the other, once a session is opened.
-fn opens_and_breaks<N: RunName<FlatContent, FlatConfig, FlatEdit>, R: Wait>(
+// Whether a word is a call at device 1, which is then done.
+pub(crate) fn serves<
+    N: RunName<FlatContent, FlatConfig, FlatEdit> + Send + Sync,
+    R: Threads + Wait + Sync + Abort,
+>(
     rt: &R,
     alloc: Global,
-    content: &FlatContent,
-    tables: &Tables<FlatContent>,
-    begun: &mut Begun<N>,
-    pass: &mut Pass,
-) -> Result<bool, Fail>
-    requires content { N.run.content ≡ Some content.now }
-    requires tables { N.run.tables ≡ tables.now }
-    requires edits_belong { All flat_meaning.edit_belongs tables.now.edits }
+    world: &World,
+    cell: &DeviceCell<FlatContent, N>,
+    rest: &mut Rest<N>,
+    word: &str,
+) -> bool
+    requires content { N.run.content ≡ Some world.now.content }
+    requires tables { N.run.tables ≡ world.now.tables }
+    requires edits_belong { All flat_meaning.edit_belongs world.now.tables.edits }
 {
-    Ok(
-        enters(rt, alloc, content, tables, begun, pass, "netm")?
-            && breaks_lock(rt, content, tables, begun, pass)?
-            && breaks_discard(rt, content, tables, begun, pass)?,
-    )
-}
-
-// A coordinator opens a session and locks running, where the session is dropped; then it asks on it again.
-fn come_dropped<N: RunName<FlatContent, FlatConfig, FlatEdit>, R: Wait>(
-    rt: &R,
-    alloc: Global,
-    content: &FlatContent,
-    tables: &Tables<FlatContent>,
-    begun: &mut Begun<N>,
-) -> Result<Dropped, Fail>
-    requires content { N.run.content ≡ Some content.now }
-    requires tables { N.run.tables ≡ tables.now }
-    requires edits_belong { All flat_meaning.edit_belongs tables.now.edits }
-{
-    let change = ChangeNo::new(1).ok_or("1")?;
-    let mut pass = Pass::new(alloc, PassOwner::Coordinator { change });
-    let broken = opens_and_breaks(rt, alloc, content, tables, begun, &mut pass)?;
-    let history = begun.cell.history();
-    Ok(Dropped {
-        broken,
-        entries: history.len(),
-        agree: holds_all(&pass, history),
-        lost: is_lost(history) == Some(true),
-    })
-}
-
-fn drop_story<N: RunName<FlatContent, FlatConfig, FlatEdit>, R: Wait>(
-    rt: &R,
-    alloc: Global,
-    blank: Blank,
-    changes: &[ChangePlan],
-    content: &FlatContent,
-    tables: &Tables<FlatContent>,
-    running: FlatConfig,
-    plan: Vec<PlanEntry>,
-) -> Result<Dropped, Fail>
-    requires name { blank.name ≡ N.name }
-    requires parts { blank.parts ≡ N.parts }
-    requires one_each { blank.parts ≡ length changes.now + 1 + 1 }
-    requires changes { changes.now ≡ N.changes }
-    requires devices { 1 ≡ N.devices }
-    requires content { N.run.content ≡ Some content.now }
-    requires tables { N.run.tables ≡ tables.now }
-    requires edits_belong { All flat_meaning.edit_belongs tables.now.edits }
-    requires starts { N.run.starts ≡ running ∷ [] }
-    requires faults { N.run.faults ≡ plan.items ∷ [] }
-    requires plan { IsPlan plan.items }
-{
-    let mut begun = begin::<N>(alloc, blank, changes, content, running, plan)?;
-    come_dropped(rt, alloc, content, tables, &mut begun)
-}
-
-// The same at a device that runs `{"7":1}`, with a drop at the manager's second request.
-fn run_drop<R: Wait>(rt: &R, alloc: Global) -> Result<Dropped, Fail> {
-    let content = FlatContent::new(alloc);
-    let tables = Tables::new(Listed::new(alloc), Listed::new(alloc));
-    let changes = [change_plan(alloc)?];
-    drop_story::<Brand, R>(
-        rt,
-        alloc,
-        Blank::new(3),
-        &changes,
-        &content,
-        &tables,
-        seven(alloc)?,
-        plan_of(alloc)?,
-    )
-}
-
-fn is_dropped(seen: &Dropped) -> bool {
-    seen.broken && seen.entries == 2 && seen.agree && seen.lost
-}
-
-// A call that a drop broke is told the place of the loss, and so is a call after it, which changes nothing.
-#[test]
-fn a_drop_breaks_its_call(rt: HostRuntime) -> Result<(), Fail> {
-    assert!(rt; is_dropped(&run_drop(&rt, rt.alloc())?));
-    Ok(())
+    match word {
+        "hang-up" => rest.told = hang_up(rt, world, cell, &rest.chronicle, &mut rest.pass),
+        "again" => rest.told = hang_up(rt, world, cell, &rest.chronicle, &mut rest.other),
+        "first-pass" => {
+            rest.told = Told {
+                word: "through",
+                place: first_pass(rt, alloc, world, cell, rest) as u64,
+            };
+        }
+        "meet" => meet(rt, alloc, world, cell, rest),
+        _ => return asks(rt, alloc, world, cell, rest, word),
+    }
+    true
 }
