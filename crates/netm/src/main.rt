@@ -1,8 +1,8 @@
 //! The program `netm`: `console` over the process's own words, standard input, standard output and journal.
 #![tactic(auto)]
 
-use nm_base::NoMemory;
-use nm_console::command::journal_path;
+use nm_base::{Label, NoMemory};
+use nm_console::command::{Command, command_of, journal_path};
 use nm_console::console::console;
 use nm_console::status::Status;
 use nm_disk::{AnyDisk, FileDisk, MemoryDisk};
@@ -39,15 +39,22 @@ const DISK_BYTES: u64 = 8192;
 
 const DISK_CALLS: u32 = 1_000_000;
 
-// The file that the words name, and else an empty disk in memory.
+// The file that the words name, and else an empty disk in memory. To list a journal its file is read as it is.
 fn disk(
     rt: HostRuntime,
     alloc: Global,
     words: &[String],
 ) -> Result<AnyDisk<HostRuntime>, NoMemory> {
     match journal_path(alloc, words)? {
-        Some(path) => Ok(AnyDisk::File(FileDisk::at(rt, path))),
+        Some(path) => Ok(AnyDisk::File(file(rt, path, words))),
         None => Ok(AnyDisk::Memory(MemoryDisk::with_limit(alloc, DISK_BYTES, DISK_CALLS)?)),
+    }
+}
+
+fn file(rt: HostRuntime, path: Label, words: &[String]) -> FileDisk<HostRuntime> {
+    match command_of(words) {
+        Some(Command::Journal) => FileDisk::read_only(rt, path),
+        _ => FileDisk::at(rt, path),
     }
 }
 

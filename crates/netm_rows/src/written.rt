@@ -4,8 +4,8 @@ use crate::frame::Frame;
 use nm_base::{NoMemory, write_decimal};
 use nm_console::console::console;
 use nm_disk::{Disk, MemoryDisk};
-use nm_explain::explain;
 use nm_io::{MemorySink, MemorySource};
+use nm_tell::tell;
 use std::alloc::Global;
 
 /// The status and the text of each command, one after another over one journal.
@@ -92,10 +92,10 @@ fn status_of(
     output: &mut MemorySink,
     journal: &mut MemoryDisk,
 ) -> Result<u8, NoMemory> {
-    if command == "explain" {
-        return Ok(explain(alloc, &[], input, output).code());
-    }
     let words = words_of(alloc, command)?;
+    if command == "explain" {
+        return Ok(tell(alloc, words.as_slice(), input, output).code());
+    }
     Ok(console(alloc, words.as_slice(), input, output, journal).code())
 }
 

@@ -18,11 +18,12 @@ use std::process::Abort;
 use std::sync::Mutex;
 use std::sync::ledger::Blank;
 
-// What requests are about.
+// What requests are about, and the change sets of the run.
 #[derive(Drop)]
 pub(crate) struct World {
     pub(crate) content: FlatContent,
     pub(crate) tables: Tables<FlatContent>,
+    pub(crate) changes: Vec<ChangePlan>,
 }
 
 // What was last told: a word, and a place or a number.
@@ -51,8 +52,19 @@ pub(crate) fn device_of(rt: &impl Abort, number: &str) -> DeviceNo {
     DeviceNo::new(number).expect(rt, "a device")
 }
 
+// Change set 1 alone.
+pub(crate) fn changes_of(rt: &impl Abort, alloc: Global, row: &Row<'_>) -> Vec<ChangePlan>
+    ensures { length result.items ≡ 1 }
+{
+    let mut changes = Vec::new(alloc);
+    changes
+        .push(change_plan(rt, alloc, row))
+        .expect(rt, "memory");
+    changes
+}
+
 // Change set 1, with one edit for each of the row's devices.
-pub(crate) fn change_plan(rt: &impl Abort, alloc: Global, row: &Row<'_>) -> ChangePlan {
+fn change_plan(rt: &impl Abort, alloc: Global, row: &Row<'_>) -> ChangePlan {
     let mut edits = Listed::new(alloc);
     for number in row.devices.split(' ') {
         let edit = PlannedEdit {

@@ -8,7 +8,7 @@ use crate::begun::{Rest, Told, World};
 use crate::calls::calls;
 use crate::requests::request_of;
 use nm_base::SessionId;
-use nm_cells::{Asked, DeviceCell, Pass, PassOwner};
+use nm_cells::{Asked, DeviceCell, Pass, PassOwner, is_in_turn, may_operate};
 use nm_chronicle::{Chronicle, RunName};
 use nm_flat::{FlatConfig, FlatContent, FlatEdit};
 use nm_proto::{Reply, Request};
@@ -65,6 +65,67 @@ fn told_by(asked: &Asked) -> Told {
     }
 }
 
+// What the caller of a run is told that asks this at device 1: the coordinator of change set 1, whose slot is lent, or an
+// operator.
+fn told<N: RunName<FlatContent, FlatConfig, FlatEdit>, R: Wait + Abort>(
+    rt: &R,
+    world: &World,
+    cell: &DeviceCell<FlatContent, N>,
+    rest: &mut Rest<N>,
+    request: &Request,
+) -> Asked
+    requires changes { N.changes ≡ world.now.changes.items }
+    requires content { N.run.content ≡ Some world.now.content }
+    requires tables { N.run.tables ≡ world.now.tables }
+    requires edits_belong { All flat_meaning.edit_belongs world.now.tables.edits }
+{
+    let owner = rest.pass.owner();
+    let changes = world.changes.as_slice();
+    if is_in_turn(changes, &owner, &rest.slot, cell.device(), request) {
+        return cell
+            .ask_change(
+                rt,
+                &world.content,
+                &world.tables,
+                &rest.chronicle,
+                &mut rest.slot,
+                &mut rest.pass,
+                session_of(request),
+                request,
+            )
+            .expect(rt, "memory");
+    }
+    operator_told(rt, world, cell, &rest.chronicle, &mut rest.pass, request)
+}
+
+// What an operator is told.
+fn operator_told<N: RunName<FlatContent, FlatConfig, FlatEdit>, R: Wait + Abort>(
+    rt: &R,
+    world: &World,
+    cell: &DeviceCell<FlatContent, N>,
+    board: &Mutex<Chronicle<N>>,
+    pass: &mut Pass,
+    request: &Request,
+) -> Asked
+    requires content { N.run.content ≡ Some world.now.content }
+    requires tables { N.run.tables ≡ world.now.tables }
+    requires edits_belong { All flat_meaning.edit_belongs world.now.tables.edits }
+    ensures owner { pass.new.owner ≡ pass.old.owner }
+{
+    let owner = pass.owner();
+    assert!(rt; may_operate(&owner, request));
+    cell.ask(
+        rt,
+        &world.content,
+        &world.tables,
+        board,
+        pass,
+        session_of(request),
+        request,
+    )
+    .expect(rt, "memory")
+}
+
 // Whether a word is a request, which is then asked.
 fn asks<N: RunName<FlatContent, FlatConfig, FlatEdit>, R: Wait + Abort>(
     rt: &R,
@@ -74,6 +135,7 @@ fn asks<N: RunName<FlatContent, FlatConfig, FlatEdit>, R: Wait + Abort>(
     rest: &mut Rest<N>,
     word: &str,
 ) -> bool
+    requires changes { N.changes ≡ world.now.changes.items }
     requires content { N.run.content ≡ Some world.now.content }
     requires tables { N.run.tables ≡ world.now.tables }
     requires edits_belong { All flat_meaning.edit_belongs world.now.tables.edits }
@@ -81,22 +143,12 @@ fn asks<N: RunName<FlatContent, FlatConfig, FlatEdit>, R: Wait + Abort>(
     let Some(request) = request_of(rt, alloc, word) else {
         return false;
     };
-    let asked = cell
-        .ask(
-            rt,
-            &world.content,
-            &world.tables,
-            &rest.chronicle,
-            &mut rest.pass,
-            session_of(&request),
-            &request,
-        )
-        .expect(rt, "memory");
+    let asked = told(rt, world, cell, rest, &request);
     rest.told = told_by(&asked);
     true
 }
 
-// Whether a coordinator's request is broken. Its slot is lent, and the board is told where a device is asked to commit.
+// Whether a coordinator's request is broken. The board is told where a device is asked to commit.
 fn breaks<N: RunName<FlatContent, FlatConfig, FlatEdit>, R: Wait + Abort>(
     rt: &R,
     alloc: Global,
@@ -105,6 +157,7 @@ fn breaks<N: RunName<FlatContent, FlatConfig, FlatEdit>, R: Wait + Abort>(
     rest: &mut Rest<N>,
     word: &str,
 ) -> bool
+    requires changes { N.changes ≡ world.now.changes.items }
     requires content { N.run.content ≡ Some world.now.content }
     requires tables { N.run.tables ≡ world.now.tables }
     requires edits_belong { All flat_meaning.edit_belongs world.now.tables.edits }
@@ -113,18 +166,7 @@ fn breaks<N: RunName<FlatContent, FlatConfig, FlatEdit>, R: Wait + Abort>(
         assert!(rt; calls(rt, rest, "asked", "1"));
     }
     let request = request_of(rt, alloc, word).expect(rt, "a request");
-    let asked = cell
-        .ask_change(
-            rt,
-            &world.content,
-            &world.tables,
-            &rest.chronicle,
-            &mut rest.slot,
-            &mut rest.pass,
-            session_of(&request),
-            &request,
-        )
-        .expect(rt, "memory");
+    let asked = told(rt, world, cell, rest, &request);
     matches!(asked, Asked::Broken { .. })
 }
 
@@ -136,6 +178,7 @@ fn first_pass<N: RunName<FlatContent, FlatConfig, FlatEdit>, R: Wait + Abort>(
     cell: &DeviceCell<FlatContent, N>,
     rest: &mut Rest<N>,
 ) -> usize
+    requires changes { N.changes ≡ world.now.changes.items }
     requires content { N.run.content ≡ Some world.now.content }
     requires tables { N.run.tables ≡ world.now.tables }
     requires edits_belong { All flat_meaning.edit_belongs world.now.tables.edits }
@@ -187,17 +230,7 @@ fn come_and_go<N: RunName<FlatContent, FlatConfig, FlatEdit>, R: Wait + Abort>(
 {
     let mut pass = Pass::new(alloc, PassOwner::Operator { operator });
     let request = request_of(rt, alloc, "alice").expect(rt, "a request");
-    let asked = cell
-        .ask(
-            rt,
-            &world.content,
-            &world.tables,
-            board,
-            &mut pass,
-            None,
-            &request,
-        )
-        .expect(rt, "memory");
+    let asked = operator_told(rt, world, cell, board, &mut pass, &request);
     let session = opened_by(&asked).expect(rt, "a session");
     cell.hang_up(rt, &world.content, board, &mut pass, session)
         .expect(rt, "memory");
@@ -239,6 +272,7 @@ pub(crate) fn serves<
     rest: &mut Rest<N>,
     word: &str,
 ) -> bool
+    requires changes { N.changes ≡ world.now.changes.items }
     requires content { N.run.content ≡ Some world.now.content }
     requires tables { N.run.tables ≡ world.now.tables }
     requires edits_belong { All flat_meaning.edit_belongs world.now.tables.edits }

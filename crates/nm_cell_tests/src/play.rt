@@ -5,7 +5,7 @@ ghost use Rattle.std.specs.List.{All};
 ghost use Rattle.nm_proto.specs.Fault.{IsPlan};
 ghost use Rattle.nm_flat.specs.FlatContent.{flat_meaning};
 
-use crate::begun::{Rest, World, begin, cell_of, change_plan, seven};
+use crate::begun::{Rest, World, begin, cell_of, changes_of, seven};
 use crate::calls::calls;
 use crate::cells::serves;
 use crate::faults::plan_of;
@@ -14,7 +14,7 @@ use crate::seen::are_so;
 use nm_cells::DeviceCell;
 use nm_chronicle::RunName;
 use nm_flat::{FlatConfig, FlatContent, FlatEdit};
-use nm_proto::{ChangePlan, Listed, PlanEntry, Tables};
+use nm_proto::{Listed, PlanEntry, Tables};
 use std::alloc::Global;
 use std::marker::Brand;
 use std::process::Abort;
@@ -75,6 +75,7 @@ fn goes<
     rest: &mut Rest<N>,
     step: &str,
 ) -> bool
+    requires changes { N.changes ≡ world.now.changes.items }
     requires content { N.run.content ≡ Some world.now.content }
     requires tables { N.run.tables ≡ world.now.tables }
     requires edits_belong { All flat_meaning.edit_belongs world.now.tables.edits }
@@ -102,6 +103,7 @@ fn go<
     rest: &mut Rest<N>,
     steps: &str,
 ) -> bool
+    requires changes { N.changes ≡ world.now.changes.items }
     requires content { N.run.content ≡ Some world.now.content }
     requires tables { N.run.tables ≡ world.now.tables }
     requires edits_belong { All flat_meaning.edit_belongs world.now.tables.edits }
@@ -122,7 +124,6 @@ fn story<
     rt: &R,
     alloc: Global,
     blank: Blank,
-    changes: &[ChangePlan],
     world: &World,
     running: FlatConfig,
     plan: Vec<PlanEntry>,
@@ -130,8 +131,8 @@ fn story<
 ) -> bool
     requires name { blank.name ≡ N.name }
     requires parts { blank.parts ≡ N.parts }
-    requires one_each { blank.parts ≡ length changes.now + 3 + 1 }
-    requires changes { changes.now ≡ N.changes }
+    requires one_each { blank.parts ≡ length world.now.changes.items + 3 + 1 }
+    requires changes { N.changes ≡ world.now.changes.items }
     requires devices { 3 ≡ N.devices }
     requires content { N.run.content ≡ Some world.now.content }
     requires tables { N.run.tables ≡ world.now.tables }
@@ -140,7 +141,7 @@ fn story<
     requires faults { N.run.faults ≡ plan.items ∷ [] }
     requires plan { IsPlan plan.items }
 {
-    let (mut rest, share) = begin::<N>(rt, alloc, blank, changes, row);
+    let (mut rest, share) = begin::<N>(rt, alloc, blank, world.changes.as_slice(), row);
     let cell = cell_of(rt, alloc, &world.content, running, plan, share);
     let gone = go(rt, alloc, world, &cell, &mut rest, row.steps);
     let cell = cell.into_state();
@@ -152,13 +153,12 @@ fn is_row<R: Threads + Wait + Sync + Abort>(rt: &R, alloc: Global, row: &Row<'_>
     let world = World {
         content: FlatContent::new(alloc),
         tables: Tables::new(Listed::new(alloc), Listed::new(alloc)),
+        changes: changes_of(rt, alloc, row),
     };
-    let changes = [change_plan(rt, alloc, row)];
     story::<Brand, R>(
         rt,
         alloc,
         Blank::new(5),
-        &changes,
         &world,
         seven(rt, alloc),
         plan_of(rt, alloc, row.faults),

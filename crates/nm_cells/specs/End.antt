@@ -24,6 +24,7 @@ module _ {Config TheEdit Node : Type 0} (m : Meaning Config TheEdit Node) where
               (losing m old.recorded.device session);
         })
 
+  -- nothing happens, and nothing comes into the pass
   pub record Stays (position : Option ℕ) (old new : KeptState Config Node) (pass after : PassState) : Type 0 where
     pub position_is : position ≡ None
     pub device_is : new ≡ old

@@ -17,6 +17,7 @@ use Rattle.nm_cells.specs.declared.ended.Found.{Found}
 
 -- ---- what ends a session
 
+-- it was answered Done
 abbrev pub is_done : Option Reply → Bool
 is_done (Some Done) = true
 is_done _ = false
@@ -35,6 +36,7 @@ ends_with session (Lost other) reply = other == session
 ends_with session (Advanced seconds) reply = false
 ends_with session Restarted reply = true
 
+-- an entry ends a session
 abbrev pub ends : ℕ → Noted → Bool
 ends session entry = ends_with session entry.event entry.reply
 
@@ -47,10 +49,12 @@ abbrev pub end_after : ℕ → List Noted → Option ℕ → Option ℕ
 end_after opening later None = None
 end_after opening later (Some place) = Some (opening + 1 + place)
 
+-- the place of the entry that ends a session, behind its opening
 abbrev pub end_from : ℕ → List Noted → Option ℕ → Option ℕ
 end_from session history None = None
 end_from session history (Some opening) = end_after opening history (position (ends session) (drop (opening + 1) history))
 
+-- the place of the entry that ends a session, where one does
 abbrev pub end_of : ℕ → List Noted → Option ℕ
 end_of session history = end_from session history (position (opened_by session) history)
 
@@ -60,6 +64,7 @@ end_of session history = end_from session history (position (opened_by session) 
 abbrev pub is_entry : ℕ → ℕ → PassEntry → Bool
 is_entry device place entry = entry.device == device && entry.position == place
 
+-- a pass has the entry at a place of a device
 abbrev pub holds : ℕ → ℕ → List PassEntry → Bool
 holds device place entries = list_any (is_entry device place) entries
 
@@ -67,25 +72,26 @@ holds device place entries = list_any (is_entry device place) entries
 abbrev pub is_opening_of : ℕ → ℕ → PassEntry → Bool
 is_opening_of device session entry = entry.device == device && opens session entry.noted.reply
 
+-- a pass opened a session
 abbrev pub opened_in : ℕ → ℕ → List PassEntry → Bool
 opened_in device session entries = list_any (is_opening_of device session) entries
+
+abbrev pub is_kill : Request → Bool
+is_kill (Kill other) = true
+is_kill _ = false
 
 module _ (device place : ℕ) (entries : List PassEntry) where
   -- a coordinator knows of a restart, of another's kill, and of what it did itself
   abbrev pub by_request : ℕ → Request → Bool
-  by_request asker (Kill other) = not (opened_in device asker entries)
-  by_request asker _ = holds device place entries
+  by_request asker request = if is_kill request then not (opened_in device asker entries) else holds device place entries
 
+  -- what ends a session of a coordinator and stands in no other pass
   abbrev pub coordinator_knows : DeviceEvent → Bool
   coordinator_knows (Asked asker request) = by_request asker request
   coordinator_knows Restarted = true
   coordinator_knows _ = holds device place entries
 
 -- an operator knows of a restart and of a kill
-abbrev pub is_kill : Request → Bool
-is_kill (Kill other) = true
-is_kill _ = false
-
 abbrev pub operator_knows : DeviceEvent → Bool
 operator_knows (Asked asker request) = is_kill request
 operator_knows Restarted = true
@@ -103,11 +109,13 @@ abbrev pub lost_nowhere : ℕ → Found
 lost_nowhere session = record { position = 0; noted = record { event = Lost session; reply = None; undone = false } }
 
 module _ (owner : PassOwner) (managers : Bool) (device session : ℕ) (entries : List PassEntry) where
+  -- what ended a session, by the entry at a place
   abbrev pub found_if : ℕ → Option Noted → Found
   found_if place None = lost_nowhere session
   found_if place (Some entry) = if knows owner managers device place entries entry.event
       then record { position = place; noted = entry } else lost_nowhere session
 
+  -- the same by the place, where there is one
   abbrev pub found_at : List Noted → Option ℕ → Found
   found_at history None = lost_nowhere session
   found_at history (Some before) = found_if (before + 1) (slice_get history before)

@@ -18,6 +18,7 @@ abbrev pub fault_at : List PlanEntry → ℕ → Option PlanFault
 fault_at [] request = None
 fault_at (entry ∷ later) request = if entry.at == request then Some entry.fault else fault_at later request
 
+-- a plan of which nothing has come
 abbrev pub planned : List PlanEntry → FaultsState
 planned plan = record { plan = plan; spent = 0; reached = 0; counted = 0 }
 

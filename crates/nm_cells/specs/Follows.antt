@@ -44,9 +44,11 @@ breaks_manager before (Lost session) = is_managers session before
 breaks_manager before (Advanced seconds) = false
 breaks_manager before Restarted = true
 
+-- how many requests of the manager stand in a history
 abbrev pub requests : List Noted → ℕ
 requests history = count_along is_asked_for_manager [] history
 
+-- how many breaks stand in it
 abbrev pub breaks_in : List Noted → ℕ
 breaks_in history = count_along is_break [] history
 
@@ -58,15 +60,18 @@ clock_of_event (Lost session) = []
 clock_of_event (Advanced seconds) = Advance seconds ∷ []
 clock_of_event Restarted = Restart ∷ []
 
+-- the advance that an entry is
 abbrev pub clock_of_entry : Noted → List PlanFault
 clock_of_entry entry = clock_of_event entry.event
 
+-- the advance that a fault asks for
 abbrev pub clock_of_fault : PlanFault → List PlanFault
 clock_of_fault Drop = []
 clock_of_fault Cut = []
 clock_of_fault Restart = Restart ∷ []
 clock_of_fault (Advance seconds) = Advance seconds ∷ []
 
+-- the same of an entry of a plan
 abbrev pub clock_of_planned : PlanEntry → List PlanFault
 clock_of_planned entry = clock_of_fault entry.fault
 
@@ -87,6 +92,7 @@ is_breaking Cut = true
 is_breaking Restart = true
 is_breaking (Advance seconds) = false
 
+-- a plan has a fault that breaks
 abbrev pub plans_breaks : List PlanEntry → Bool
 plans_breaks plan = list_any (λ entry. is_breaking entry.fault) plan
 

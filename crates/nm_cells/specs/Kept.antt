@@ -85,6 +85,7 @@ module _ {Config Node : Type 0} where
   abbrev pub with_room : KeptState Config Node → KeptState Config Node
   with_room kept = record kept { spare = if nat_le 3 kept.spare then kept.spare else 3 }
 
+  -- the faults that have come are others
   abbrev pub with_faults : KeptState Config Node → FaultsState → KeptState Config Node
   with_faults kept faults = record kept { faults = faults }
 

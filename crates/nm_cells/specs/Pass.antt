@@ -4,10 +4,12 @@ use Rattle.nm_cells.specs.declared.pass.PassOwner.{PassOwner}
 use Rattle.nm_cells.specs.declared.pass.PassOwner.TheVariants.{Coordinator, Operator}
 use Rattle.nm_cells.specs.declared.pass.PassEntry.{PassEntry}
 
+-- whose pass it is, and its entries
 pub record PassState : Type 0 where
   pub owner : PassOwner
   pub entries : List PassEntry
 
+-- a pass without entries
 abbrev pub fresh_pass : PassOwner → PassState
 fresh_pass owner = record { owner = owner; entries = [] }
 
@@ -15,6 +17,7 @@ fresh_pass owner = record { owner = owner; entries = [] }
 abbrev pub seen : PassState → PassEntry → PassState
 seen pass entry = record pass { entries = pass.entries ++ entry ∷ [] }
 
+-- it is an operator's
 abbrev pub is_operator : PassOwner → Bool
 is_operator (Coordinator change) = false
 is_operator (Operator number) = true

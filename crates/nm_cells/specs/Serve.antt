@@ -36,6 +36,7 @@ advance_of (Some Restart) = None
 advance_of (Some (Advance seconds)) = Some seconds
 
 module _ {Config TheEdit Node : Type 0} (m : Meaning Config TheEdit Node) where
+  -- the clock rises by what the plan asks, where it asks
   abbrev pub advanced_by : KeptState Config Node → Option ℕ → KeptState Config Node
   advanced_by kept None = kept
   advanced_by kept (Some seconds) =
@@ -99,6 +100,7 @@ opened_session (Some (Opened session)) = Some session
 opened_session _ = None
 
 module _ {Config TheEdit Node : Type 0} (m : Meaning Config TheEdit Node) (tables : TablesState TheEdit) (device : ℕ) where
+  -- what a device does with a request of a session
   abbrev pub asking : KeptState Config Node → ℕ → Request → Happened Config Node
   asking old session request = answered old.recorded.device request (device_step m tables old.recorded.device session request)
 
@@ -156,6 +158,7 @@ module _ {Config Node : Type 0} where
     pub pass_is : after ≡ with_found device entries it
 
 module _ {Config TheEdit Node : Type 0} (m : Meaning Config TheEdit Node) (tables : TablesState TheEdit) (device : ℕ) (owner : PassOwner) where
+  -- a call of a session is served
   abbrev pub ServesSession : Told → KeptState Config Node → KeptState Config Node → List PassEntry → List PassEntry → ℕ → Request → Type 0
   ServesSession told old new entries after session request =
       MatchBool (may_ask owner old session)
@@ -169,6 +172,7 @@ module _ {Config TheEdit Node : Type 0} (m : Meaning Config TheEdit Node) (table
   ServesBy None (Some session) told old new entries after request = ServesSession told old new entries after session request
   ServesBy None None told old new entries after request = (told ≡ Broken 0) × (new ≡ old) × (after ≡ entries)
 
+  -- a call is served
   abbrev pub Serves : Told → KeptState Config Node → KeptState Config Node → List PassEntry → List PassEntry → Option ℕ → Request → Type 0
   Serves told old new entries after session request = ServesBy (opening_user request) session told old new entries after request
 

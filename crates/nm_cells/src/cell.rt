@@ -7,7 +7,7 @@ ghost use Rattle.nm_cells.specs.Kept.{IsKept};
 ghost use Rattle.nm_cells.specs.Asking.{FindsBy, is_plain};
 ghost use Rattle.nm_cells.specs.Follows.{FollowsPlans};
 ghost use Rattle.nm_cells.specs.Pass.{is_operator};
-ghost use Rattle.nm_cells.specs.State.{acknowledged, slot_after};
+ghost use Rattle.nm_cells.specs.State.{acknowledged, is_in_turn, may_operate, slot_after};
 
 use crate::asked::Asked;
 use crate::pass::Pass;
@@ -43,8 +43,15 @@ impl<C: Content, N: RunName<C, C::Config, C::Edit>> DeviceCell<C, N> {
         }
     }
 
-    /// A request of a caller, once the lock is free, as `CellState::serve` answers it. What the caller finds of it stands in the
-    /// pass, at the place that is told.
+    /// The number under which passes tell of the device.
+    pub fn device(&self) -> DeviceNo
+        ensures { result ≡ self.now.device }
+    {
+        self.device
+    }
+
+    /// A request of an operator, once the lock is free, as `CellState::serve` answers it. What the operator finds of it stands in
+    /// the pass, at the place that is told.
     #[tactic(auto, using(crate::proofs::Finds::finds))]
     pub fn ask<R: Wait>(
         &self,
@@ -56,10 +63,12 @@ impl<C: Content, N: RunName<C, C::Config, C::Edit>> DeviceCell<C, N> {
         session: Option<SessionId>,
         request: &Request,
     ) -> Result<Asked, NoMemory>
+        requires operator { may_operate pass.old.owner request.now ≡ true }
         requires content { N.run.content ≡ Some content.now }
         requires tables { N.run.tables ≡ tables.now }
         requires edits_belong { All (C.meaning content.now).edit_belongs tables.now.edits }
-        ensures found { IfOk result (λ asked. FindsBy (event_of session request.now) asked pass.old.entries pass.new.entries self.now.device) }
+        ensures found { IfOk result
+            (λ asked. FindsBy pass.old.owner (event_of session request.now) asked pass.old.entries pass.new.entries self.now.device) }
         ensures owner { pass.new.owner ≡ pass.old.owner }
         ensures unchanged { OnErr result (pass.new ≡ pass.old) }
         ensures plain { IfOk result (λ asked. is_plain asked ≡ true) }
@@ -76,8 +85,9 @@ impl<C: Content, N: RunName<C, C::Config, C::Edit>> DeviceCell<C, N> {
         )
     }
 
-    /// A request of the coordinator of a change set, whose slot is lent, as `CellState::serve_change` answers it.
-    #[tactic(auto, using(crate::proofs::Finds::finds))]
+    /// A request of the coordinator of a change set, whose slot is lent, as `CellState::serve_change` answers it. `is_in_turn`
+    /// tells whether it may ask this.
+    #[tactic(auto, using(crate::proofs::Finds::finds_change))]
     pub fn ask_change<R: Wait>(
         &self,
         rt: &R,
@@ -89,10 +99,12 @@ impl<C: Content, N: RunName<C, C::Config, C::Edit>> DeviceCell<C, N> {
         session: Option<SessionId>,
         request: &Request,
     ) -> Result<Asked, NoMemory>
+        requires turn { is_in_turn N.changes pass.old.owner slot.old self.now.device request.now ≡ true }
         requires content { N.run.content ≡ Some content.now }
         requires tables { N.run.tables ≡ tables.now }
         requires edits_belong { All (C.meaning content.now).edit_belongs tables.now.edits }
-        ensures found { IfOk result (λ asked. FindsBy (event_of session request.now) asked pass.old.entries pass.new.entries self.now.device) }
+        ensures found { IfOk result
+            (λ asked. FindsBy pass.old.owner (event_of session request.now) asked pass.old.entries pass.new.entries self.now.device) }
         ensures slot { IfOk result (λ asked. slot.new ≡ slot_after slot.old (acknowledged pass.old.owner request.now asked)) }
         ensures owner { pass.new.owner ≡ pass.old.owner }
         ensures unchanged { OnErr result (pass.new ≡ pass.old) }

@@ -21,4 +21,4 @@ pub use cell::DeviceCell;
 pub use faults::Faults;
 pub use kept::{HISTORY_LIMIT, KeptDevice};
 pub use pass::{Pass, PassEntry, PassOwner};
-pub use state::CellState;
+pub use state::{CellState, is_in_turn, may_operate};

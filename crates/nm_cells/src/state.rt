@@ -4,21 +4,23 @@ ghost use Rattle.std.specs.Prelude.{◌≡◌, ◌≤◌, ◌+◌, ◌-◌, ◌^
 ghost use Rattle.std.specs.List.{All, sum_by};
 ghost use Rattle.nm_base.specs.Token.{token_of};
 ghost use Rattle.nm_history.specs.Outcome.{outcome_of};
+ghost use Rattle.nm_device.specs.Device.{is_manager};
+ghost use Rattle.nm_device.specs.Table.{opening_user};
 ghost use Rattle.nm_proto.specs.Fault.{IsPlan};
 ghost use Rattle.nm_chronicle.specs.Line.{phase_weight};
 ghost use Rattle.nm_chronicle.specs.Phases.{fresh_phases, outcome_phase, Follow};
 ghost use Rattle.nm_cells.specs.Asking.{is_plain};
 ghost use Rattle.nm_cells.specs.Pass.{is_operator};
-ghost use Rattle.nm_cells.specs.State.{acknowledged, slot_after, commits_for, is_answered_done, is_change};
+ghost use Rattle.nm_cells.specs.State.{acknowledged, is_answered_done, is_in_turn, may_operate, slot_after};
 
 use crate::asked::Asked;
 use crate::kept::KeptDevice;
 use crate::pass::{Pass, PassOwner};
-use nm_base::{ChangeNo, DeviceNo, NoMemory, SessionId};
-use nm_chronicle::{CellShare, Chronicle, Phases, RunName, SlotShares, named_by};
+use nm_base::{ChangeNo, DeviceNo, MANAGER, NoMemory, SessionId};
+use nm_chronicle::{CellShare, Chronicle, Phases, RunName, RunPlans, SlotShares, commits_for};
 use nm_device::Device;
 use nm_history::Noted;
-use nm_proto::{Content, PlanEntry, Reply, Request, Tables};
+use nm_proto::{ChangePlan, Content, PlanEntry, Reply, Request, Tables};
 use std::alloc::Global;
 use std::marker::Model;
 use std::sync::{Mutex, Wait};
@@ -128,7 +130,7 @@ impl<C: Content, N: RunName<C, C::Config, C::Edit>> CellState<C, N> {
     ghost use Rattle.nm_cells.specs.Serve.{Serves, StaysOrAdvances};
     ghost use Rattle.nm_cells.specs.End.{Ends};
 
-    /// A request of a caller, on a session or for one, under the faults that are planned for the device, as
+    /// A request of an operator, on a session or for one, under the faults that are planned for the device, as
     /// `KeptDevice::serve` does it. Where a phase changes, the board is told, once it is free.
     pub fn serve<R: Wait>(
         &mut self,
@@ -141,6 +143,7 @@ impl<C: Content, N: RunName<C, C::Config, C::Edit>> CellState<C, N> {
         session: Option<SessionId>,
         request: &Request,
     ) -> Result<Asked, NoMemory>
+        requires operator { may_operate pass.old.owner request.now ≡ true }
         requires content { N.run.content ≡ Some content.now }
         requires tables { N.run.tables ≡ tables.now }
         requires edits_belong { All (C.meaning content.now).edit_belongs tables.now.edits }
@@ -158,7 +161,7 @@ impl<C: Content, N: RunName<C, C::Config, C::Edit>> CellState<C, N> {
     }
 
     /// The same for the coordinator of a change set, whose slot is lent: where its confirmed commit is answered Done, that is
-    /// acknowledged.
+    /// acknowledged. `is_in_turn` tells whether it may ask this.
     pub fn serve_change<R: Wait>(
         &mut self,
         rt: &R,
@@ -171,6 +174,7 @@ impl<C: Content, N: RunName<C, C::Config, C::Edit>> CellState<C, N> {
         session: Option<SessionId>,
         request: &Request,
     ) -> Result<Asked, NoMemory>
+        requires turn { is_in_turn N.changes pass.old.owner slot.old device request.now ≡ true }
         requires content { N.run.content ≡ Some content.now }
         requires tables { N.run.tables ≡ tables.now }
         requires edits_belong { All (C.meaning content.now).edit_belongs tables.now.edits }
@@ -290,6 +294,43 @@ fn tell_gained<C: Content, N: RunName<C, C::Config, C::Edit>>(
     phases.tell(board, device, gained);
 }
 
+/// Whether a caller is an operator and may ask this: anything but for a session of the manager.
+pub fn may_operate(owner: &PassOwner, request: &Request) -> bool
+    ensures { result ≡ may_operate owner.now request.now }
+{
+    match owner {
+        PassOwner::Coordinator { .. } => false,
+        PassOwner::Operator { .. } => !opens_for_manager(request),
+    }
+}
+
+/// Whether a caller is the coordinator of a change set, whose slot this is, and may ask this of a device now, as
+/// `SlotShares::allows` tells.
+pub fn is_in_turn<N: RunPlans>(
+    changes: &[ChangePlan],
+    owner: &PassOwner,
+    slot: &SlotShares<N>,
+    device: DeviceNo,
+    request: &Request,
+) -> bool
+    ensures { result ≡ is_in_turn changes.now owner.now slot.now device request.now }
+{
+    match owner {
+        PassOwner::Coordinator { change } => slot.allows(changes, *change, device, request),
+        PassOwner::Operator { .. } => false,
+    }
+}
+
+// Whether a request asks for a session of the manager.
+fn opens_for_manager(request: &Request) -> bool
+    ensures { result ≡ is_manager (opening_user request.now) }
+{
+    match request {
+        Request::OpenSession { user } => user.as_str() == MANAGER,
+        _ => false,
+    }
+}
+
 // The change set whose coordinator learns that its confirmed commit was done.
 fn acknowledged(owner: &PassOwner, request: &Request, asked: &Asked) -> Option<ChangeNo>
     ensures { result ≡ acknowledged owner.now request.now asked.now }
@@ -302,30 +343,6 @@ fn acknowledged(owner: &PassOwner, request: &Request, asked: &Asked) -> Option<C
             None
         }
         PassOwner::Operator { .. } => None,
-    }
-}
-
-// A confirmed commit that gives the token of the change set.
-fn commits_for(change: ChangeNo, request: &Request) -> bool
-    ensures { result ≡ commits_for change request.now }
-{
-    match request {
-        Request::Commit {
-            confirmed,
-            persist,
-            ..
-        } => *confirmed && is_change(change, named_by(persist)),
-        _ => false,
-    }
-}
-
-// Whether a token named this change set.
-fn is_change(change: ChangeNo, named: Option<ChangeNo>) -> bool
-    ensures { result ≡ is_change change named }
-{
-    match named {
-        Some(other) => other == change,
-        None => false,
     }
 }
 

@@ -5,8 +5,8 @@ ghost use Rattle.nm_chronicle.specs.Line.{count_to, size};
 
 use nm_base::{DeviceMask, DeviceNo};
 
-// How many of the devices from 1 to the last are in the set.
-pub(crate) fn count_to(mask: DeviceMask, last: u8) -> u32
+/// How many of the devices from 1 to the last are in the set: the last one's place among them, where it is in it.
+pub fn count_to(mask: DeviceMask, last: u8) -> u32
     requires { last ≤ 32 }
     ensures value { result ≡ count_to mask.0 last }
     ensures few { result ≤ last }

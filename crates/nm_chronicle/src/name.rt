@@ -15,6 +15,9 @@ pub trait RunPlans: Ledger {
 
     /// The change sets.
     ghost changes: { List ChangePlan };
+
+    /// How many faults the journal's disk had counted when it was opened.
+    ghost disk_faults: { ℕ };
 }
 
 /// A run over a content. A type that stands for a run is picked where the top call names it.
@@ -26,6 +29,8 @@ impl RunPlans for Brand {
     ghost devices = { 0 };
 
     ghost changes = { [] };
+
+    ghost disk_faults = { 0 };
 }
 
 impl RunName<FlatContent, FlatConfig, FlatEdit> for Brand {

@@ -6,14 +6,10 @@ pub mod First
 pub mod Slots
 pub mod Links
 pub mod Keeping
-pub mod Histories
-pub mod Managed
-pub mod Others
-pub mod Ends
-pub mod Operators
-pub mod Start
 pub mod Told
-pub mod Deliver
+pub mod Decent
+pub mod Refusals
+pub mod Start
 pub mod Runs
 pub mod Alone
 pub mod Drained

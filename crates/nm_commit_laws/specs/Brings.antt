@@ -1,6 +1,6 @@
 -- What comes to a device with a change set: its own edit of what running was, with its mark, and nothing else (this project's own, over
 -- RFC 6241 sections 7.2 and 8.4). What others edited in candidate never comes with it.
-use Rattle.std.specs.Prelude.{◌≡◌, ℕ, suc, ◌-◌, ◌≤◌, ◌<◌, ◌^◌, List, [], ◌∷◌, ◌++◌, true, Option, Some, None, Ok, slice_get}
+use Rattle.std.specs.Prelude.{◌≡◌, ℕ, suc, ◌-◌, ◌≤◌, ◌<◌, ◌^◌, List, ◌++◌, true, Option, Some, None, Ok, slice_get}
 use Rattle.nm_base.specs.Mask.{mask_contains}
 use Rattle.nm_base.specs.Token.{token_of}
 use Rattle.nm_base.specs.declared.mask.ChangeMask.{ChangeMask}
@@ -18,6 +18,7 @@ use Rattle.nm_recovery.specs.Recovery.{is_ended_in, verdict_in}
 use Rattle.nm_device_laws.specs.Token.{commits_done, is_commit_done}
 use Rattle.nm_manager.specs.Requests.{edit_for}
 use Rattle.nm_world.specs.World.{Setting, WorldState}
+use Rattle.nm_safety.specs.Along.{Along}
 
 -- an edit that is the one which a change set plans for a device. With it the mark of the change set comes, and no mark goes but those of
 -- change sets that were ended before it was decided
@@ -50,14 +51,16 @@ pub record Brings {Config TheEdit Node : Type 0} (m : Meaning Config TheEdit Nod
   pub makes : m.edited before edit operation marks ≡ Ok now
 
 module _ {Config TheEdit Node : Type 0} (m : Meaning Config TheEdit Node) (setting : Setting TheEdit) (entries : List Entry) (device : ℕ) where
-  -- along a history, which is replayed from here: each commit that gives the token of a change set and is done makes running what that
-  -- change set's own edit makes of it. Numbers of change sets have 32 bits
+  -- a commit that gives the token of a change set and is done makes running what that change set's own edit makes of it. Numbers of
+  -- change sets have 32 bits
+  abbrev pub BringsOwn : DeviceState Config Node → Noted → Type 0
+  BringsOwn s entry =
+      (change : ℕ) → change < 2 ^ 32 → is_commit_done (token_of change) entry ≡ true
+      → Brings m setting entries change device s.stores.running (replayed m setting.tables s entry).stores.running
+
+  -- along a history, which is replayed from here: each of these commits does
   abbrev pub EachBrings : DeviceState Config Node → List Noted → Type 0
-  EachBrings s [] = Unit {0}
-  EachBrings s (entry ∷ history) =
-      ((change : ℕ) → change < 2 ^ 32 → is_commit_done (token_of change) entry ≡ true
-      → Brings m setting entries change device s.stores.running (replayed m setting.tables s entry).stores.running)
-      × EachBrings (replayed m setting.tables s entry) history
+  EachBrings s history = Along (replayed m setting.tables) BringsOwn s history
 
 -- a world that began with these running configurations. Change set c and device d stand at places c - 1 and d - 1
 pub record BringsAlone {Config TheEdit Node : Type 0} (m : Meaning Config TheEdit Node) (setting : Setting TheEdit) (running : List Config)

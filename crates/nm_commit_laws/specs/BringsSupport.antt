@@ -1,6 +1,6 @@
 -- What every world keeps besides, and from which it follows that a change set comes to a device as its own edit alone (this project's own,
 -- over RFC 6241 sections 7.2, 7.5 and 8.3).
-use Rattle.std.specs.Prelude.{◌≡◌, ℕ, suc, ◌≤◌, List, true, Option, Some, None, IfSome, slice_get}
+use Rattle.std.specs.Prelude.{◌≡◌, ℕ, suc, ◌≤◌, List, true, Option, Some, None, IfSome, is_some, slice_get}
 use Rattle.nm_proto.specs.declared.ask.Ask.TheVariants as ask
 use Rattle.nm_proto.specs.declared.message.Request.{Request}
 use Rattle.nm_proto.specs.declared.message.Request.TheVariants.{Edit}
@@ -11,19 +11,22 @@ use Rattle.nm_proto.specs.declared.plan.ChangePlan.{ChangePlan}
 use Rattle.nm_proto.specs.Content.{Meaning}
 use Rattle.nm_sessions.specs.Sessions.{is_open}
 use Rattle.nm_locks.specs.Locks.{owner_of}
-use Rattle.nm_device.specs.Device.{DeviceState, fresh_device}
-use Rattle.nm_history.specs.History.{RecordedState, replay}
+use Rattle.nm_device.specs.Device.{DeviceState}
+use Rattle.nm_history.specs.History.{RecordedState}
 use Rattle.nm_journal.specs.Record.{is_change}
 use Rattle.nm_recovery.specs.Recovery.{is_ended_in, verdict_in}
 use Rattle.nm_decider.specs.declared.seat.Seat.{Seat}
 use Rattle.nm_wire.specs.Link.{LinkState, asked_on, session_of}
 use Rattle.nm_wire.specs.Words.{commits_sent}
 use Rattle.nm_wire.specs.Wire.{WireState}
-use Rattle.nm_manager.specs.Slot.{SideState, SlotState}
+use Rattle.nm_manager.specs.Slot.{SlotState}
 use Rattle.nm_safety.specs.Pair.{asked_ask, first_link, is_live}
 use Rattle.nm_safety.specs.Support.{AllLinks}
-use Rattle.nm_world.specs.World.{Setting}
-use Rattle.nm_commit_laws.specs.Brings.{IsOwnEdit, Brings, EachBrings}
+use Rattle.nm_safety.specs.Along.{HistoryAt}
+use Rattle.nm_safety.specs.Pairs.{AllPairs, OfPair}
+use Rattle.nm_safety.specs.Keeping.{AreKept, OfDevice, OfSlot}
+use Rattle.nm_world.specs.World.{Setting, CoreState}
+use Rattle.nm_commit_laws.specs.Brings.{IsOwnEdit, Brings, BringsOwn}
 use Rattle.nm_commit_laws.specs.Course.{steps_of, steps_past, steps_known}
 
 -- ---- the course
@@ -36,17 +39,14 @@ pub record IsOnCourse (decided : Option Verdict) (seat : Seat) (wire : WireState
   pub most : decided ≡ None → is_live seat.stage ≡ true → commits_sent (first_link wire) ≡ 0
       → steps_past (first_link wire) ≤ steps_known seat.stage
 
-module _ {Config Node : Type 0} where
-  -- so at a place, where there is a device
-  abbrev pub OnCourseAt : Option Verdict → Option Seat → Option SideState → Option (RecordedState Config Node) → Type 0
-  OnCourseAt decided seat side None = Unit {0}
-  OnCourseAt decided None side (Some r) = Unit {0}
-  OnCourseAt decided (Some seat) None (Some r) = Unit {0}
-  OnCourseAt decided (Some seat) (Some side) (Some r) = IsOnCourse decided seat side.wire
+module _ {Config Node : Type 0} (decided : Option Verdict) (devices : List (RecordedState Config Node)) where
+  -- so by the verdict of the journal, where there is a device at the place
+  abbrev pub CoursePair : OfPair
+  CoursePair place of_course seat side = is_some (slice_get devices place) ≡ true → IsOnCourse decided seat side.wire
 
-  abbrev pub AllOnCourse : Option Verdict → SlotState → List (RecordedState Config Node) → Type 0
-  AllOnCourse decided slot devices =
-      (place : ℕ) → OnCourseAt decided (slice_get slot.course.seats place) (slice_get slot.sides place) (slice_get devices place)
+  -- each of a change set
+  abbrev pub AllOnCourse : SlotState → Type 0
+  AllOnCourse slot = AllPairs CoursePair slot.course.verdict slot
 
 -- ---- links
 
@@ -83,18 +83,21 @@ module _ {Config TheEdit Node : Type 0} (m : Meaning Config TheEdit Node) (setti
 -- ---- change sets, devices, all together
 
 module _ {Config TheEdit Node : Type 0} (m : Meaning Config TheEdit Node) (setting : Setting TheEdit) where
+  -- what is kept of a change set goes with what its commits bring
   pub record IsBrought (change : ℕ) (entries : List Entry) (devices : List (RecordedState Config Node)) (slot : SlotState) : Type 0 where
-    pub course : AllOnCourse (verdict_in change entries) slot devices
+    -- what is ended is a change set
+    pub numbered : (other : ℕ) → is_ended_in other entries ≡ true → is_change other ≡ true
+    pub course : AllOnCourse (verdict_in change entries) devices slot
     pub links : AllLinks (λ d. IsOwnLink m setting entries change (suc d) (slice_get devices d)) slot.sides
 
-  -- a device that began so: its history leads to it, and brings change sets by their own edits
-  pub record IsHistory (entries : List Entry) (device : ℕ) (first : Config) (r : RecordedState Config Node) : Type 0 where
-    pub reaches : replay m setting.tables (fresh_device first) r.history ≡ r.device
-    pub brings : EachBrings m setting entries device (fresh_device first) r.history
+  abbrev pub OfBrought : OfSlot Config Node
+  OfBrought change plan entries devices slot = IsBrought change entries devices slot
 
-  pub record AreBrought (running : List Config) (entries : List Entry) (kept : List SlotState)
-      (now : List (RecordedState Config Node)) : Type 0 where
-    pub numbered : (change : ℕ) → is_ended_in change entries ≡ true → is_change change ≡ true
-    pub slots : (place : ℕ) → IfSome (slice_get kept place) (IsBrought (suc place) entries now)
-    pub devices : (place : ℕ) → IfSome (slice_get running place)
-        (λ first. IfSome (slice_get now place) (IsHistory entries (suc place) first))
+module _ {Config TheEdit Node : Type 0} (m : Meaning Config TheEdit Node) (setting : Setting TheEdit) (running : List Config) where
+  -- a device that began so: its history leads to it, and brings change sets by their own edits
+  abbrev pub OfHistory : OfDevice Config Node
+  OfHistory entries place r = HistoryAt m setting.tables (BringsOwn m setting entries (suc place)) running place r
+
+  -- so is each change set, and each device
+  abbrev pub AreBrought : CoreState Config Node → Type 0
+  AreBrought w = AreKept setting (OfBrought m setting) OfHistory w

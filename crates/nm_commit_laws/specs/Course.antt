@@ -23,9 +23,11 @@ steps_by n ask.Validate reply = n
 steps_by n ask.Renew reply = n
 steps_by n _ reply = 0
 
+-- how far an exchange brings a link
 abbrev pub steps_after : ℕ → Exchange → ℕ
 steps_after n exchange = steps_by n (ask_of exchange.request) exchange.reply
 
+-- how far a link has come
 abbrev pub steps_of : LinkState → ℕ
 steps_of link = over steps_after 0 link
 

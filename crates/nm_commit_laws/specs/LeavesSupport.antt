@@ -31,9 +31,11 @@ pub record IsKnown (decided : Option Verdict) (seat : Seat) (side : SideState) :
   pub current : IfSome (current_link side.wire) (λ link. stands_at seat.stage side.resync.stage ≤ standing link)
   pub acked : to_commit decided ≡ true → seat.is_member ≡ true → is_live seat.stage ≡ true → is_acknowledged seat.stage ≡ true
 
+-- what a seat and its side tell of the current link
 abbrev pub KnownPair : OfPair
 KnownPair place decided seat side = IsKnown decided seat side
 
+-- so of each device of a change set
 abbrev pub AllKnown : Option Verdict → SlotState → Type 0
 AllKnown decided slot = AllPairs KnownPair decided slot
 
@@ -44,6 +46,7 @@ abbrev pub AsksClean : LinkState → Request → Type 0
 AsksClean link request = is_other (ask_of request) ≡ true → 2 ≤ standing link
 
 module _ {Config Node : Type 0} where
+  -- a session owns candidate's lock, and candidate is unmodified, as far as its link has come
   pub record HoldsCandidate (n session : ℕ) (s : DeviceState Config Node) : Type 0 where
     pub owner : 1 ≤ n → owner_of s.locks Candidate ≡ Some session
     pub unmodified : 2 ≤ n → s.stores.candidate ≡ None
@@ -54,16 +57,19 @@ module _ {Config Node : Type 0} where
       (session : ℕ) → session_of link ≡ Some session → is_open r.device.sessions session ≡ true
       → HoldsCandidate (standing link) session r.device
 
+  -- what a link tells of candidate at its device
   pub record IsHolding (r : Option (RecordedState Config Node)) (link : LinkState) : Type 0 where
     pub asked : IfSome (asked_on link.way) (AsksClean link)
     pub holds : IfSome r (HoldsOn link)
 
   -- ---- change sets, devices, all together
 
+  -- the course and the links of a change set tell what candidate is
   pub record IsClean (devices : List (RecordedState Config Node)) (slot : SlotState) : Type 0 where
     pub course : AllKnown slot.course.verdict slot
     pub links : AllLinks (λ d place. IsHolding (slice_get devices d)) slot.sides
 
+  -- of a change set
   abbrev pub OfClean : OfSlot Config Node
   OfClean change plan entries devices slot = IsClean devices slot
 
@@ -72,5 +78,6 @@ module _ {Config TheEdit Node : Type 0} (m : Meaning Config TheEdit Node) (setti
   abbrev pub OfLeft : OfDevice Config Node
   OfLeft entries place r = HistoryAt m setting.tables (LeavesAsIs m setting) running place r
 
+  -- so are all change sets and devices
   abbrev pub AreClean : CoreState Config Node → Type 0
   AreClean w = AreKept setting OfClean OfLeft w

@@ -1,6 +1,6 @@
 -- What a device refuses to the manager isn't pending there any more (this project's own, over RFC 6241 section 8.4): an error to a confirm,
 -- a cancel or a renewal of a change set tells that no commit waits under its token.
-use Rattle.std.specs.Prelude.{◌≡◌, ℕ, List, [], ◌∷◌, true, false, Option, Some, None, slice_get}
+use Rattle.std.specs.Prelude.{◌≡◌, ℕ, List, true, false, Option, Some, None, slice_get}
 use Rattle.nm_base.specs.Token.{token_of}
 use Rattle.nm_proto.specs.declared.message.Request.{Request}
 use Rattle.nm_proto.specs.declared.message.Request.TheVariants.{Commit, CancelCommit}
@@ -13,6 +13,7 @@ use Rattle.nm_history.specs.History.{RecordedState, replayed}
 use Rattle.nm_device_laws.specs.Moment.{is_refused}
 use Rattle.nm_device_laws.specs.Token.{waits_under}
 use Rattle.nm_world.specs.World.{Setting, WorldState}
+use Rattle.nm_safety.specs.Along.{Along}
 
 -- the token that a request names of what is pending (RFC 6241 sections 8.4.4.1 and 8.4.5.1)
 abbrev pub named_in : Request → Option (List ℕ)
@@ -36,12 +37,13 @@ module _ {Config Node : Type 0} where
     pub after : waits_under token now.pending ≡ false
 
 module _ {Config TheEdit Node : Type 0} (m : Meaning Config TheEdit Node) (setting : Setting TheEdit) where
-  -- along a history, which is replayed from here: what is refused so isn't pending
+  -- what an entry of a history tells as refused so isn't pending there
+  abbrev pub LeavesGone : DeviceState Config Node → Noted → Type 0
+  LeavesGone s entry = (change : ℕ) → IsRefused change s entry → WaitsNot (token_of change) s (replayed m setting.tables s entry)
+
+  -- along a history, which is replayed from here: each of its entries
   abbrev pub EachRefuses : DeviceState Config Node → List Noted → Type 0
-  EachRefuses s [] = Unit {0}
-  EachRefuses s (entry ∷ history) =
-      ((change : ℕ) → IsRefused change s entry → WaitsNot (token_of change) s (replayed m setting.tables s entry))
-      × EachRefuses (replayed m setting.tables s entry) history
+  EachRefuses s history = Along (replayed m setting.tables) LeavesGone s history
 
 -- a world that began with these running configurations
 pub record RefusesGone {Config TheEdit Node : Type 0} (m : Meaning Config TheEdit Node) (setting : Setting TheEdit) (running : List Config)

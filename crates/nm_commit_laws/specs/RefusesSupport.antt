@@ -12,20 +12,22 @@ use Rattle.nm_sessions.specs.Sessions.{is_open, user_of}
 use Rattle.nm_locks.specs.Locks.{owner_of}
 use Rattle.nm_pending.specs.Pending.{PendingState, is_author}
 use Rattle.nm_device.specs.Commit.{is_zero, names_reserved}
-use Rattle.nm_device.specs.Device.{DeviceState, fresh_device, is_manager}
-use Rattle.nm_history.specs.History.{RecordedState, replay}
+use Rattle.nm_device.specs.Device.{DeviceState, is_manager}
+use Rattle.nm_history.specs.History.{RecordedState}
 use Rattle.nm_device_laws.specs.Token.{waits_under}
 use Rattle.nm_decider_stage.specs.declared.stage.Stage.{Stage}
 use Rattle.nm_decider_stage.specs.declared.stage.Stage.TheVariants.{Live, Failed}
-use Rattle.nm_decider.specs.declared.seat.Seat.{Seat}
 use Rattle.nm_wire.specs.Asks.{ask_of, same_ask}
 use Rattle.nm_wire.specs.Link.{LinkState, asked_on, session_of}
 use Rattle.nm_wire.specs.Words.{commits_sent, owns}
 use Rattle.nm_wire.specs.Wire.{WireState}
-use Rattle.nm_manager.specs.Slot.{SideState, SlotState}
+use Rattle.nm_manager.specs.Slot.{SlotState}
 use Rattle.nm_safety.specs.Support.{AllLinks}
-use Rattle.nm_world.specs.World.{Setting}
-use Rattle.nm_commit_laws.specs.Refuses.{EachRefuses}
+use Rattle.nm_safety.specs.Along.{HistoryAt}
+use Rattle.nm_safety.specs.Pairs.{AllPairs, OfPair}
+use Rattle.nm_safety.specs.Keeping.{AreKept, OfDevice, OfSlot}
+use Rattle.nm_world.specs.World.{Setting, CoreState}
+use Rattle.nm_commit_laws.specs.Refuses.{LeavesGone}
 
 -- ---- a device
 
@@ -57,14 +59,14 @@ is_at_first _ = false
 abbrev pub IsFirst : Stage → WireState → Type 0
 IsFirst stage wire = is_at_first stage ≡ true → (number : ℕ) → wire.current ≡ Some number → number ≡ 1
 
--- so where there is the device
-abbrev pub FirstAt : Bool → Option Seat → Option SideState → Type 0
-FirstAt has None side = Unit {0}
-FirstAt has (Some seat) None = Unit {0}
-FirstAt has (Some seat) (Some side) = has ≡ true → IsFirst seat.stage side.wire
+module _ {Config Node : Type 0} where
+  -- so where there is the device
+  abbrev pub FirstPair : List (RecordedState Config Node) → OfPair
+  FirstPair devices place decided seat side = is_some (slice_get devices place) ≡ true → IsFirst seat.stage side.wire
 
-abbrev pub AllFirst : (ℕ → Bool) → SlotState → Type 0
-AllFirst has slot = (place : ℕ) → FirstAt (has place) (slice_get slot.course.seats place) (slice_get slot.sides place)
+  -- at each device of a change set
+  abbrev pub AllFirst : List (RecordedState Config Node) → SlotState → Type 0
+  AllFirst devices slot = AllPairs (FirstPair devices) slot.course.verdict slot
 
 -- ---- links
 
@@ -85,6 +87,7 @@ module _ {Config Node : Type 0} where
       (session : ℕ) → owns link ≡ true → session_of link ≡ Some session → is_open r.device.sessions session ≡ true
       → owner_of r.device.locks Candidate ≡ Some session
 
+  -- a link, by its place
   pub record IsFit (plan : ChangePlan) (r : Option (RecordedState Config Node)) (place : ℕ) (link : LinkState) : Type 0 where
     pub asked : IfSome (asked_on link.way) (AsksFitly plan (is_some r) place link)
     -- the confirmed commit was sent after candidate was locked, and that needs a session
@@ -94,20 +97,22 @@ module _ {Config Node : Type 0} where
 
   -- ---- change sets
 
+  -- what is kept of a change set
   pub record IsFitted (plan : ChangePlan) (devices : List (RecordedState Config Node)) (slot : SlotState) : Type 0 where
-    pub course : AllFirst (λ d. is_some (slice_get devices d)) slot
+    pub course : AllFirst devices slot
     pub links : AllLinks (λ d. IsFit plan (slice_get devices d)) slot.sides
 
--- ---- all together
+  -- the same, of what stands of it
+  abbrev pub OfFitted : OfSlot Config Node
+  OfFitted change plan entries devices slot = IsFitted plan devices slot
 
-module _ {Config TheEdit Node : Type 0} (m : Meaning Config TheEdit Node) (setting : Setting TheEdit) where
-  -- a device that began so: its history leads to it, and what is refused in it isn't pending
-  pub record IsHistory (first : Config) (r : RecordedState Config Node) : Type 0 where
-    pub reaches : replay m setting.tables (fresh_device first) r.history ≡ r.device
-    pub refuses : EachRefuses m setting (fresh_device first) r.history
+-- ---- devices, all together
 
-  pub record AreFit (running : List Config) (kept : List SlotState) (now : List (RecordedState Config Node)) : Type 0 where
-    pub slots : (place : ℕ) (plan : ChangePlan) → slice_get setting.plans place ≡ Some plan
-        → IfSome (slice_get kept place) (IsFitted plan now)
-    pub guarded : (d : ℕ) → IfSome (slice_get now d) (λ r. IsGuarded setting.plans r.device)
-    pub devices : (place : ℕ) → IfSome (slice_get running place) (λ first. IfSome (slice_get now place) (IsHistory first))
+module _ {Config TheEdit Node : Type 0} (m : Meaning Config TheEdit Node) (setting : Setting TheEdit) (running : List Config) where
+  -- a device that began so: what waits there, and a history that leads to it, in which what is refused isn't pending
+  abbrev pub OfGuarded : OfDevice Config Node
+  OfGuarded entries place r = IsGuarded setting.plans r.device × HistoryAt m setting.tables (LeavesGone m setting) running place r
+
+  -- each change set and each device
+  abbrev pub AreFit : CoreState Config Node → Type 0
+  AreFit w = AreKept setting OfFitted OfGuarded w

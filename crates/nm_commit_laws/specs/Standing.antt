@@ -32,9 +32,11 @@ stands_by n ask.CloseSession reply = 0
 stands_by n ask.Resync reply = 0
 stands_by n _ reply = n
 
+-- how far an exchange brings what is known of candidate
 abbrev pub stands_after : ℕ → Exchange → ℕ
 stands_after n exchange = stands_by n (ask_of exchange.request) exchange.reply
 
+-- how far a link has come
 abbrev pub standing : LinkState → ℕ
 standing link = over stands_after 0 link
 

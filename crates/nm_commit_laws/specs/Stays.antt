@@ -1,6 +1,6 @@
 -- The mark of a change set stays where the change set is, until that is ended: no other change set comes to the device meanwhile, whose
 -- edit could take it or replace all (this project's own).
-use Rattle.std.specs.Prelude.{◌≡◌, ℕ, ◌<◌, ◌^◌, List, [], ◌∷◌, ◌++◌, true, false, Some, slice_get}
+use Rattle.std.specs.Prelude.{◌≡◌, ℕ, ◌<◌, ◌^◌, List, [], true, false, Some, slice_get}
 use Rattle.nm_base.specs.Token.{token_of}
 use Rattle.nm_proto.specs.declared.journal.Entry.{Entry}
 use Rattle.nm_proto.specs.Content.{Meaning}
@@ -10,7 +10,9 @@ use Rattle.nm_history.specs.History.{RecordedState}
 use Rattle.nm_recovery.specs.Recovery.{is_ended_in}
 use Rattle.nm_device_laws.specs.Token.{is_commit_done}
 use Rattle.nm_world.specs.World.{WorldState}
+use Rattle.nm_safety.specs.Along.{Along}
 use Rattle.nm_commit_laws.specs.Marks.{is_there}
+use Rattle.nm_commit_laws.specs.Waits.{then_noted}
 
 module _ (entries : List Entry) (n : ℕ) where
   -- an entry after others: where it brings another change set than this one, and this one is there, this one is ended
@@ -20,8 +22,7 @@ module _ (entries : List Entry) (n : ℕ) where
 
   -- each entry of a history, after others
   abbrev pub EachFindsEnded : List Noted → List Noted → Type 0
-  EachFindsEnded past [] = Unit {0}
-  EachFindsEnded past (entry ∷ history) = FindsEnded past entry × EachFindsEnded (past ++ entry ∷ []) history
+  EachFindsEnded past history = Along then_noted FindsEnded past history
 
 module _ {Config Edit Node : Type 0} (m : Meaning Config Edit Node) where
   -- at the devices of a world. Numbers of change sets have 32 bits

@@ -1,6 +1,6 @@
 //! What the manager's commits bring and what they leave, what marks tell, and what is refused to the manager: laws alone.
 //!
-//! Stands on `nm_world` for the world, on `nm_safety` for what every run keeps, and on `nm_rest_laws` for where drains come to rest.
+//! Stands on `nm_world` for the world and on `nm_safety` for what every run keeps.
 #![tactic(auto)]
 
 pub mod brings;

@@ -13,7 +13,7 @@ use Rattle.nm_scenario_events.specs.Kept.{EventKeeps, weight}
 use Rattle.nm_manager.specs.Requests.{IsWellFormed, ascend_above}
 use Rattle.nm_world.specs.Runs.{IsNumbered}
 use Rattle.nm_world.specs.Drain.{drain_event, drain_limit}
-use Rattle.nm_world.specs.World.{IsFirst, Setting, start}
+use Rattle.nm_world.specs.World.{CanBegin, IsFirst, Setting, start}
 use Rattle.nm_proto.specs.declared.message.Request.{Request}
 use Rattle.nm_proto.specs.declared.message.Request.TheVariants.{OpenSession, Lock, Unlock, PartialLock, PartialUnlock, Edit, Validate, Commit, CancelCommit, Discard, HasMark, GetConfig, Kill, CloseSession}
 use Rattle.nm_flat.specs.declared.flat.FlatEdit.{FlatEdit}
@@ -136,14 +136,20 @@ all_numbered c events h = λ k d less. numbered c _ (h k d less)
 
 module _ {Config TheEdit Node : Type 0} (m : Meaning Config TheEdit Node) (s : Scenario) (devices : List Config) (edits : List TheEdit) (first : All (IsFirst m) devices) (belong : All m.edit_belongs edits)
     (count : devices_in s.body ≡ length devices) (keeps : ScenarioKeeps s) where
-  -- a world can run a scenario
-  pub runs : CanRun m (setting_of edits s) devices s.events
-  runs = record {
+  -- a world can begin with a scenario
+  begins : CanBegin m (setting_of edits s) devices
+  begins = record {
     first = first;
     edits = belong;
     few_devices = (let few = keeps.devices.1 in subst (λ n. n ≤ 32) count few);
     well_formed = all_formed (devices_in s.body) s.changes keeps.changes;
     few = keeps.change_sets;
+  }
+
+  -- and run it
+  pub runs : CanRun m (setting_of edits s) devices s.events
+  runs = record {
+    begins = begins;
     few_users = keeps.operator_count;
     given = all_numbered (counts_in s) s.events keeps.events;
     few_events = few_events (counts_in s) s.events 100000 keeps.events keeps.event_count;
@@ -213,10 +219,10 @@ module _ {Config TheEdit Node : Type 0} (m : Meaning Config TheEdit Node) (laws 
     (count : devices_in s.body ≡ length devices) (unmarked : AreUnmarked m devices) (keeps : ScenarioKeeps s) where
   proper : IsProper m (setting_of edits s) devices s.events
   proper = record {
-    first = λ place. got (IsFirst m) devices place can.first;
-    edits = can.edits;
-    few_devices = can.few_devices;
-    few = can.few;
+    first = λ place. got (IsFirst m) devices place can.begins.first;
+    edits = can.begins.edits;
+    few_devices = can.begins.few_devices;
+    few = can.begins.few;
     strangers = λ number. strangers s.operators number keeps.operators;
     given = all_given (setting_of edits s) (counts_in s) s.events keeps.events keeps.openings;
   }
@@ -282,7 +288,7 @@ module _ {Config TheEdit Node : Type 0} (m : Meaning Config TheEdit Node) (laws 
   -- the run of a scenario that a world can run is safe, and comes to rest where it is to
   pub safe_run : IsSafeRun m devices edits s
   safe_run = record {
-    valid = can.first;
+    valid = can.begins.first;
     safe = world_safe;
     reports = safe_tells m (setting_of edits s) devices s.events (world_of m devices edits s) world_safe;
     brings = brings_if s.drain;

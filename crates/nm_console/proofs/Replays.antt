@@ -6,7 +6,9 @@ use Rattle.nm_journal.specs.declared.fault.JournalFault.{JournalFault}
 use Rattle.nm_journal.specs.declared.fault.JournalFault.TheVariants.{NotEmpty, Damaged, DiskFault, Stopped, NoMemory}
 use Rattle.nm_scenario_form.specs.declared.fault.Fault.{Fault}
 use Rattle.nm_scenario.specs.declared.scenario.Scenario.{Scenario}
-use Rattle.nm_scenario.specs.Scenario.{ReadsBytes}
+use Rattle.nm_scenario.specs.Scenario.{Reads, ReadsBytes}
+use Rattle.nm_scenario_laws.specs.Kept.{ScenarioKeeps}
+use Rattle.nm_scenario_laws.proofs.Whole.{bytes_keep}
 use Rattle.nm_scenario.specs.declared.scenario.Body.{Body}
 use Rattle.nm_scenario.specs.declared.scenario.Body.TheVariants.{Flat, Yang}
 use Rattle.nm_flat.specs.declared.flat.FlatEdit.{FlatEdit}
@@ -23,6 +25,10 @@ use Rattle.nm_console.specs.declared.command.Command.TheVariants.{Check, Replay}
 use Rattle.nm_world.specs.World.{WorldState}
 use Rattle.nm_proto.specs.declared.plan.Event.{Event}
 use Rattle.nm_console.specs.Console.{Answer, AsSaid, AsTold, IsAstray, IsAstrayBy, IsAstrayIn, IsAstrayOf, IsSoOf, DivergedRun, Stores, Tells, TellsLast, TellsOver, TellsReplay, TellsRun, TellsUnopened, Unread, checked, entries_by, faulted, left_in, not_empty, opened, replay_entries, replayed, told_by, told_of, world_of}
+
+-- a scenario that is read is within its limits
+pub read_keeps : (bytes : List ℕ) (scenario : Scenario) → Reads bytes (Ok scenario) → ScenarioKeeps scenario
+read_keeps bytes scenario reads = bytes_keep bytes scenario reads
 
 some_image : (stored : Option (List ℕ)) → IfSome stored (λ told. told ≡ unwrap_or stored [])
 some_image None = tt

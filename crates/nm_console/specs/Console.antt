@@ -18,8 +18,7 @@ use Rattle.nm_scenario.specs.declared.scenario.Body.{Body}
 use Rattle.nm_scenario.specs.declared.scenario.Body.TheVariants.{Flat, Yang}
 use Rattle.nm_scenario.specs.declared.scenario.Scenario.{Scenario}
 use Rattle.nm_scenario.specs.Scenario.{ReadsBytes}
-use Rattle.nm_manager.specs.Requests.{IsWellFormed}
-use Rattle.nm_world.specs.World.{AreCalm, IsFirst, Setting, WorldState, run, start}
+use Rattle.nm_world.specs.World.{AreCalm, CanBegin, IsFirst, Setting, WorldState, run, start}
 use Rattle.nm_world.specs.Drain.{drain_event, drain_limit, drained}
 use Rattle.nm_world.specs.Runs.{IsBetween, IsNumbered}
 use Rattle.nm_safety.specs.Safe.{IsSafe}
@@ -82,15 +81,11 @@ module _ {Config TheEdit Node : Type 0} (m : Meaning Config TheEdit Node) (setti
 abbrev pub world_told : {Config TheEdit Node : Type 0} → (Config → List ℕ) → Bool → Setting TheEdit → WorldState Config Node → Answer
 world_told shown trace setting w = record { status = world_status setting w; text = world_text shown trace setting w }
 
--- what a world asks of a scenario, so that its events can come: devices that begin with valid configurations, change sets that are well
--- formed and named by the events, and no more of them than a scenario may have
+-- what a world asks of a scenario, so that its events can come: that one can begin with it, that the events name its change sets, and
+-- that there are no more operators and events than a scenario may have
 pub record CanRun {Config TheEdit Node : Type 0} (m : Meaning Config TheEdit Node) (setting : Setting TheEdit)
     (running : List Config) (events : List Event) : Type 0 where
-  pub first : All (IsFirst m) running
-  pub edits : All m.edit_belongs setting.tables.edits
-  pub few_devices : length running ≤ 32
-  pub well_formed : All IsWellFormed setting.plans
-  pub few : length setting.plans ≤ 64
+  pub begins : CanBegin m setting running
   pub few_users : length setting.users ≤ 16
   pub given : All (IsNumbered (length setting.plans)) events
   pub few_events : length events ≤ 100000

@@ -10,8 +10,7 @@ use crate::status::Status;
 use nm_base::{Label, NoMemory};
 use nm_flat::FlatContent;
 use nm_report::write_check;
-use nm_scenario::{Body, ReadError, Scenario};
-use nm_scenario_laws::read_last_scenario;
+use nm_scenario::{Body, ReadError, Scenario, read_last_scenario};
 use std::alloc::Global;
 use std::mem::forget;
 

@@ -28,13 +28,13 @@ use nm_manager::TurnFault;
 use nm_overlay::Overlay;
 use nm_proto::{ChangePlan, Event, Listed, Show, Tables};
 use nm_report::write_world;
-use nm_scenario::{Body, ReadError, Scenario};
-use nm_scenario_laws::read_last_scenario;
-use nm_world::World;
+use nm_scenario::{Body, ReadError, Scenario, read_last_scenario};
+use nm_world::{Setup, World};
 use std::alloc::Global;
 use std::mem::forget;
 
 /// The answer of `replay` to the bytes of a scenario, over a journal that is to be empty.
+#[tactic(auto, using(crate::proofs::Replays::read_keeps))]
 pub fn replay_bytes<D: Disk>(alloc: Global, bytes: &[u8], disk: &mut D) -> Result<Said, JournalStop>
     ensures told { IfOk result (λ said. IsSoOf bytes.now
         (λ outcome. TellsReplay outcome (D.state disk.old).contents (D.state disk.new).contents said.status said.text.items)) }
@@ -154,7 +154,8 @@ fn say_contents<C: Show + Drop, D: Disk>(
 {
     match Journal::fresh(alloc, disk) {
         Ok(journal) => {
-            let world = World::new(alloc, content, tables, devices, changes, users, journal)?;
+            let setup = Setup::share(alloc, content, tables, changes, users, devices)?;
+            let world = World::new(alloc, setup, journal)?;
             say_run(alloc, world, events, drain, trace, disk)
         }
         Err(fault) => say_unopened(alloc, &fault),

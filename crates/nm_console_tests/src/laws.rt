@@ -1,3 +1,5 @@
+//! The laws, each called once.
+
 use nm_scenario_form::Number;
 
 // The laws are functions that do nothing.

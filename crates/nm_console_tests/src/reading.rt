@@ -1,3 +1,5 @@
+//! What is read of a scenario and no text shows, and places beyond what a scenario can hold.
+
 use nm_base::{EditNo, Label, NoMemory};
 use nm_proto::{Event, Request};
 use nm_scenario::{Scenario, read_scenario};

@@ -1,3 +1,5 @@
+//! Numbers and sendings beyond what a run tells.
+
 use nm_base::DeviceNo;
 use nm_proto::{Reply, Request};
 use nm_report::trace::write_reply;

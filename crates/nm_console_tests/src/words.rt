@@ -1,3 +1,5 @@
+//! Words of the programs, the file that they name, and streams that tell nothing.
+
 use nm_base::Label;
 use nm_console::command::journal_path;
 use nm_console::console::console;
@@ -58,16 +60,16 @@ fn no_words(rt: HostRuntime) -> Result<(), Fail> {
     Ok(())
 }
 
-// Words of `netm_explain`, which takes none.
+// Words of `netm_tell` that are none of its own.
 #[test]
-fn words_to_explain(rt: HostRuntime) -> Result<(), Fail> {
+fn words_to_tell(rt: HostRuntime) -> Result<(), Fail> {
     let alloc = rt.alloc();
     let words = words_of(alloc, "check")?;
     let mut input = MemorySource::new(Vec::new(alloc), Vec::new(alloc));
     let mut output = MemorySink::new(alloc, 64, Vec::new(alloc))?;
-    let status = nm_explain::explain(alloc, words.as_slice(), &mut input, &mut output);
+    let status = nm_tell::tell(alloc, words.as_slice(), &mut input, &mut output);
     assert!(rt; status == nm_explain::Status::Usage);
-    assert!(rt; output.taken() == b"usage: netm_explain < scenario\n".as_slice());
+    assert!(rt; output.taken() == b"usage: netm_tell explain\n".as_slice());
     Ok(())
 }
 

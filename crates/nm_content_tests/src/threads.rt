@@ -1,3 +1,5 @@
+//! Contents of YANG data across threads.
+
 use crate::content::{SIZED, SYSTEM, config_of, content_of, edit_of, holds};
 use nm_base::Label;
 use nm_content::{YangContent, YangNode, names_marks};

@@ -1,3 +1,5 @@
+//! Commits of candidate to running (RFC 6241 sections 8.3 and 8.4): the tests that come before, in order, and what moves.
+
 ghost use Rattle.std.specs.Prelude.{◌≡◌, OnErr, OnOk, IfOk, true, false};
 ghost use Rattle.nm_stores.specs.Stores.{committed};
 ghost use Rattle.nm_pending.specs.Pending.{filled};

@@ -1,3 +1,5 @@
+//! A device: what it holds, what happens at it, and the table of requests.
+
 ghost use Rattle.std.specs.Prelude.{◌≡◌, IfOk, OnOk, OnErr, IsOk, true, false, ◌&&◌, None, is_some};
 ghost use Rattle.std.specs.List.{All};
 ghost use Rattle.nm_proto.specs.Message.{holds_text};

@@ -1,3 +1,5 @@
+//! Edits of candidate and its validation (RFC 6241 sections 7.2 and 8.6).
+
 ghost use Rattle.std.specs.Prelude.{◌≡◌, IfOk, true, None};
 ghost use Rattle.std.specs.List.{All};
 ghost use Rattle.nm_device.specs.Device.{path_of};

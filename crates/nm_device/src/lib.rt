@@ -12,5 +12,7 @@ mod edits;
 mod partials;
 mod sessions;
 mod undoing;
+pub mod view;
 
 pub use device::Device;
+pub use view::PendingView;

@@ -1,3 +1,5 @@
+//! Sessions of a device and their global locks (RFC 6241 section 7.5).
+
 ghost use Rattle.std.specs.Prelude.{◌≡◌, Some, None};
 
 use crate::device::{Device, refuse};

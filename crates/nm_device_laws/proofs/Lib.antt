@@ -12,3 +12,5 @@ pub mod Tokens
 pub mod Owns
 pub mod Outcomes
 pub mod Tells
+pub mod Lasting
+pub mod Openers

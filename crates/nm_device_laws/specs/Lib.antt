@@ -4,3 +4,4 @@ pub mod Keeps
 pub mod Token
 pub mod Telling
 pub mod Own
+pub mod Openings

@@ -1,13 +1,16 @@
 //! Laws of what one device keeps. Each function does nothing: its contract is the law.
 
-ghost use Rattle.std.specs.Prelude.{◌≡◌, ◌≤◌, ◌+◌, ℕ, cond, List, Bool, true, false, Option, Some, None};
+ghost use Rattle.std.specs.Prelude.{◌≡◌, ◌≢◌, ◌≤◌, ◌+◌, ℕ, cond, List, take, slice_get, Bool, true, false, Option, Some, None};
 ghost use Rattle.nm_base.specs.declared.number.EditNo.{EditNo};
+ghost use Rattle.nm_base.specs.Token.{is_reserved};
+ghost use Rattle.nm_base.specs.Words.{manager};
 ghost use Rattle.nm_proto.specs.declared.message.DefaultOperation.{DefaultOperation};
 ghost use Rattle.nm_proto.specs.declared.message.Marks.{Marks};
 ghost use Rattle.nm_proto.specs.declared.message.Store.TheVariants.{Running, Candidate};
 ghost use Rattle.nm_proto.specs.declared.message.Reply.TheVariants.{Opened};
 ghost use Rattle.nm_proto.specs.declared.message.Request.{Request};
 ghost use Rattle.nm_proto.specs.declared.message.Request.TheVariants.{Lock, Edit, Validate, Commit, CancelCommit, Discard, HasMark, Kill, CloseSession};
+ghost use Rattle.nm_proto.specs.Content.{TablesState};
 ghost use Rattle.nm_sessions.specs.Sessions.{is_open, user_of};
 ghost use Rattle.nm_pending.specs.Pending.{deadline_of};
 ghost use Rattle.nm_device.specs.Commit.{pending_after};
@@ -19,11 +22,12 @@ ghost use Rattle.nm_history.specs.declared.outcome.Undoing.{Undoing};
 ghost use Rattle.nm_history.specs.Effect.{noted_effect, is_done_reply};
 ghost use Rattle.nm_history.specs.Whole.{Becomes, began_of, began_after};
 ghost use Rattle.nm_history.specs.Outcome.{outcome_of};
-ghost use Rattle.nm_history.specs.History.{RecordedState, noted, recorded, recorded_with};
+ghost use Rattle.nm_history.specs.History.{IsLegal, RecordedState, noted, recorded, recorded_with};
 ghost use Rattle.nm_device_laws.specs.Moment.{is_refused, Moment, Asking};
 ghost use Rattle.nm_device_laws.specs.Numbered.{IsNumbered};
 ghost use Rattle.nm_device_laws.specs.Keeps.{is_asker, is_managed, may_take, IsUnmarked, KeepsFor, KeepsMarks, KeepsOut};
 ghost use Rattle.nm_device_laws.specs.Token.{leaves_token, gives_token, commits_done, KeepsToken};
+ghost use Rattle.nm_device_laws.specs.Openings.{IsOpenedFor};
 ghost use Rattle.nm_device_laws.specs.Telling.{asked_with, TellsPending, TellsToken};
 ghost use Rattle.nm_device_laws.specs.Own.{TellsMark, Opens, TakesRunning, TakesCandidate, Discards, EditsCandidate, Validates, Commits, Begins, Renews, Confirms, Cancels, Closes, Kills};
 
@@ -200,4 +204,21 @@ pub fn histories_follow_requests<C: Content>(content: &C)
 /// Where no commit that gives a token was done, its outcome is Never.
 pub fn outcomes_need_commits()
     ensures { (token : List ℕ) (history : List Noted) → commits_done token history ≡ 0 → outcome_of token history ≡ Outcome.Never }
+{}
+
+/// What waits under a token outlives every session (RFC 6241 section 8.4.1): no outcome in a history is undone by the end of
+/// one.
+pub fn tokens_outlive_sessions<C: Content>(content: &C)
+    ensures { (tables : TablesState C.Edit) (token : List ℕ) (running : C.Config) (history : List Noted)
+        → IsLegal (C.meaning content.now) tables (fresh_device running) history → outcome_of token history ≢ Outcome.Undone Undoing.End }
+{}
+
+/// Only the manager gives a reserved token: a commit that was done and gives one stands after an entry that opened its session
+/// for the manager.
+pub fn reserved_tokens_are_the_managers<C: Content>(content: &C)
+    ensures { (tables : TablesState C.Edit) (token : List ℕ) (running : C.Config) (history : List Noted)
+        → IsLegal (C.meaning content.now) tables (fresh_device running) history → is_reserved token ≡ true
+        → (place session : ℕ) (request : Request) (entry : Noted) → slice_get history place ≡ Some entry
+        → entry.event ≡ DeviceEvent.Asked session request → gives_token token request ≡ true → is_done_reply entry.reply ≡ true
+        → IsOpenedFor manager session (take place history) }
 {}

@@ -1,8 +1,11 @@
+//! Devices: what is told twice, what finds no memory, and what no scenario reaches.
+
 ghost use Rattle.nm_flat.specs.FlatContent.{flat_meaning};
 ghost use Rattle.nm_device.specs.Device.{IsInTime, IsSound};
 
 use crate::proto::{commit_of, error, label};
 use nm_base::{ChangeMask, ChangeNo, EditNo, MANAGER, SelectNo, SessionId, Tag};
+use nm_device::PendingView;
 use nm_device_laws::laws;
 use nm_flat::{FlatConfig, FlatContent, FlatEdit, FlatNode, NumberMap};
 use nm_history::{Noted, Outcome, Recorded, Told, Undoing, outcome_of};
@@ -195,6 +198,67 @@ fn histories_tell_what_became_of_a_commit(rt: HostRuntime) {
     assert!(rt; device.history().len() == 5);
 }
 
+// Whether what is told of the pending commit is this.
+fn is_seen(device: &Recorded<FlatContent>, want: PendingView) -> bool {
+    device.device().pending_view() == want
+}
+
+// A pending commit is told by who began it, and apart from none (RFC 6241 section 8.4).
+#[test]
+fn pending_commits_are_seen(rt: HostRuntime) {
+    let alloc = rt.alloc();
+    let mut device = entered(&rt, alloc);
+    let issuer = session(&rt, 1);
+    assert!(rt; is_seen(&device, PendingView::None));
+    assert!(rt; commit_is_pending(&rt, alloc, &mut device));
+    assert!(rt; is_seen(&device, PendingView::Standing { issuer }));
+}
+
+// One entry more of a history happens, where the clock is far from its end.
+#[tactic(auto, unfolding(nm_device::specs::Device::IsInTime))]
+fn follow_entry(rt: &impl Abort, alloc: Global, device: &mut Recorded<FlatContent>, entry: &Noted)
+    requires sound { IsSound flat_meaning device.old.device }
+    ensures sound { IsSound flat_meaning device.new.device }
+{
+    assert!(rt; device.device().clock() <= 1_000_000);
+    let tables = tables_of(rt, alloc);
+    let content = FlatContent::new(alloc);
+    device
+        .follow(&content, &tables, &entry.event)
+        .expect(rt, "memory");
+}
+
+// A device at which a history happens anew, entry by entry.
+fn follower(rt: &impl Abort, alloc: Global, history: &[Noted]) -> Recorded<FlatContent> {
+    let mut device = device_of(rt, alloc);
+    for entry in history {
+        follow_entry(rt, alloc, &mut device, entry);
+    }
+    device
+}
+
+fn are_same(one: &[Noted], other: &[Noted]) -> bool {
+    one.len() == other.len() && one.iter().zip(other).all(|(one, other)| one.same(other))
+}
+
+// Whether a device that follows another's history has that history, and the same pending.
+fn is_followed(rt: &impl Abort, alloc: Global, leader: &Recorded<FlatContent>) -> bool {
+    let device = follower(rt, alloc, leader.history());
+    are_same(device.history(), leader.history()) && is_seen(&device, leader.device().pending_view())
+}
+
+// A history that happens anew is the same history, while a commit is pending, and when a timer has undone it.
+#[test]
+fn histories_are_followed(rt: HostRuntime) {
+    let alloc = rt.alloc();
+    let mut device = entered(&rt, alloc);
+    assert!(rt; commit_is_pending(&rt, alloc, &mut device));
+    assert!(rt; is_followed(&rt, alloc, &device));
+    assert!(rt; timer_undoes(&rt, alloc, &mut device));
+    assert!(rt; is_lost(&rt, alloc, &mut device, Some(false)));
+    assert!(rt; is_followed(&rt, alloc, &device));
+}
+
 // An edit of cell 7 to a value that isn't valid, with the mark of change set 1.
 fn marking_edit(rt: &impl Abort) -> Request {
     let marks = Marks {
@@ -364,4 +428,6 @@ fn laws_do_nothing(rt: HostRuntime) {
     laws::answers_change_nothing(&content);
     laws::histories_follow_requests(&content);
     laws::outcomes_need_commits();
+    laws::tokens_outlive_sessions(&content);
+    laws::reserved_tokens_are_the_managers(&content);
 }

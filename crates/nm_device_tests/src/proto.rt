@@ -1,3 +1,5 @@
+//! Messages and events: their copies, their words, and what of them is equal.
+
 use nm_base::{ChangeMask, ChangeNo, DeviceMask, DeviceNo, EditNo, Label, SelectNo, Tag};
 use nm_flat::{FlatConfig, FlatContent, FlatEdit, FlatNode, NumberMap};
 use nm_proto::{

@@ -1,3 +1,5 @@
+//! A disk that a program chooses as it starts.
+
 use crate::disk::Disk;
 use crate::file::FileDisk;
 use crate::memory::MemoryDisk;

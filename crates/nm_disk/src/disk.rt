@@ -1,3 +1,5 @@
+//! The calls of a disk, with what each does to what a crash may leave.
+
 ghost use Rattle.std.specs.Prelude.{◌≡◌, ◌≤◌, ◌+◌, List, ℕ, Some, length, take, drop, IfOk, OnOk, OnErr, IfSome, IsSome};
 ghost use Rattle.nm_base.specs.Count.{Rose};
 ghost use Rattle.nm_disk.specs.Image.{DiskState, contents_with_piece, contents_cut, IsTorn, IsCut, IsPerhapsCut, ContentsStep, ImageStep, NoNewImage, LeavesOnly, GoesOn};

@@ -1,3 +1,5 @@
+//! A disk that is lent is a disk.
+
 use crate::disk::Disk;
 use nm_base::Failed;
 

@@ -1,3 +1,5 @@
+//! A disk in memory, whose calls are noted and can be made to fail.
+
 ghost use Rattle.std.specs.Prelude.{◌≡◌, ◌≤◌, ◌+◌, ◌^◌, ◌<◌, ◌↔◌, [], ◌++◌, length, take, drop, IfOk, OnOk, OnErr, IsErr, IsTrue, vec_capacity, if◌then◌else◌, replicate};
 ghost use Rattle.nm_disk.specs.Image.{with_piece, ImageStep, IsTorn, IsPerhapsCut};
 ghost use Rattle.nm_base.specs.Count.{raised};

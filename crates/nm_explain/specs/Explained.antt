@@ -13,8 +13,8 @@ use Rattle.nm_proto.specs.declared.kind.ScenarioKind.TheVariants.{TooLong}
 use Rattle.nm_scenario_form.specs.Places.{walked}
 use Rattle.nm_scenario.specs.declared.scenario.Scenario.{Scenario}
 use Rattle.nm_scenario.specs.Scenario.{ReadsBytes, json_of}
-use Rattle.nm_explain.specs.declared.program.Status.{Status}
-use Rattle.nm_explain.specs.declared.program.Status.TheVariants.{Fine, Scenario as Faulty}
+use Rattle.nm_explain.specs.declared.status.Status.{Status}
+use Rattle.nm_explain.specs.declared.status.Status.TheVariants.{Fine, Scenario as Faulty}
 use Rattle.nm_explain.specs.Sentence.{of_data, asks_form}
 use Rattle.nm_explain.specs.Tree.{tree_in, wanted_by}
 use Rattle.nm_explain.specs.Module.{module_text}

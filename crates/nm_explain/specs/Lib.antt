@@ -5,7 +5,7 @@ pub mod Wanted
 pub mod Module
 pub mod Tree
 pub mod Explained
-pub mod Program
+pub mod Status
 -- What a schema tree wants at a place, in words.
 pub mod Place
 pub mod Numbers

@@ -3,7 +3,7 @@
 ghost use Rattle.std.specs.Prelude.{◌≡◌, ℕ, List};
 ghost use Rattle.nm_explain.specs.Explained.{Explains};
 
-use crate::program::Status;
+use crate::status::Status;
 
 /// Bytes have one explanation: no two statuses or texts explain the same bytes.
 pub fn one_explanation()

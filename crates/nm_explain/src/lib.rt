@@ -10,14 +10,15 @@ mod module;
 mod name;
 mod numbers;
 mod place;
-pub mod program;
 mod sentence;
-mod telling;
+pub mod status;
+pub mod telling;
 mod text;
 mod tree;
 mod types;
 pub mod values;
 mod wanted;
 
-pub use program::{Status, explain};
+pub use status::Status;
+pub use telling::{Explained, explain_bytes, explain_long_input};
 pub use values::put_wanted;

@@ -6,17 +6,10 @@ ghost use Rattle.nm_explain.specs.Module as spec;
 use crate::lines::{characters, last_line, line_after, rest_of_line, write_blanks};
 use crate::name::module_name;
 use crate::sentence::of_module;
+use crate::text::put;
 use nm_base::{Label, NoMemory, write_decimal};
 use nm_scenario_form::Inner;
 use std::alloc::Global;
-
-/// Appends a text.
-pub(crate) fn put(out: &mut Vec<u8>, text: &str) -> Result<(), NoMemory>
-    ensures { OnOk result (out.new.items ≡ out.old.items ++ text.now) }
-{
-    out.extend_from_slice(text.as_bytes())?;
-    Ok(())
-}
 
 // Which module it is: by its name, where it has one.
 fn put_name(out: &mut Vec<u8>, name: &Option<Label>) -> Result<(), NoMemory>

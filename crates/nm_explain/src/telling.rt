@@ -4,12 +4,13 @@ ghost use Rattle.std.specs.Prelude.{◌≡◌, ◌++◌, IfOk, IsTrue, OnOk, opt
 ghost use Rattle.serde_json.specs.View.{view};
 ghost use Rattle.nm_scenario.specs.Scenario.{json_of};
 ghost use Rattle.nm_explain.specs.Explained as spec;
-ghost use Rattle.nm_explain.specs.Program.{is_whole};
+ghost use Rattle.nm_explain.specs.Status.{is_whole};
 
-use crate::module::{put, put_module};
+use crate::module::put_module;
 use crate::place::part_at;
-use crate::program::Status;
 use crate::sentence::{asks_form, of_data};
+use crate::status::Status;
+use crate::text::put;
 use crate::tree::put_wanted_in;
 use crate::wanted::{at_place, of_kind};
 use nm_base::NoMemory;

@@ -65,7 +65,8 @@ module _ {Config TheEdit Node : Type 0} (m : Meaning Config TheEdit Node) (laws 
   began_so s entry None e fits = absurd fits
   began_so s entry (Some h) e fits = (event_keeps m laws tables s entry.event h e).moved.began ∙ ap (λ (one : Noted). began_after s.stores.running (began_of s.pending) (noted_effect one)) (sym fits)
 
-  began_next : (s : DeviceState Config Node) (began : Option Config) (entry : Noted) → began ≡ began_of s.pending → Fits entry (device_event m tables s entry.event)
+  -- what is kept stays what the device keeps, entry by entry
+  pub began_next : (s : DeviceState Config Node) (began : Option Config) (entry : Noted) → began ≡ began_of s.pending → Fits entry (device_event m tables s entry.event)
       → began_after s.stores.running began (noted_effect entry) ≡ began_of (replayed m tables s entry).pending
   began_next s began entry is fits = ap (λ (o : Option Config). began_after s.stores.running o (noted_effect entry)) is ∙ sym (began_so s entry (device_event m tables s entry.event) refl fits)
 

@@ -1,3 +1,4 @@
 pub mod Keeping
 pub mod Histories
 pub mod Standings
+pub mod Following

@@ -1,3 +1,5 @@
+//! What happens at a device, and the entry that its history has of it.
+
 ghost use Rattle.std.specs.Prelude.{◌≡◌, ◌↔◌, IsTrue, IfOk};
 
 use nm_base::{Label, NoMemory, SessionId};

@@ -1,3 +1,5 @@
+//! The law of histories. The function does nothing: its contract is the law.
+
 ghost use Rattle.std.specs.Prelude.{◌≡◌, List, None};
 ghost use Rattle.nm_proto.specs.Content.{TablesState};
 ghost use Rattle.nm_history.specs.declared.event.DeviceEvent.{DeviceEvent};

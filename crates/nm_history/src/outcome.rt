@@ -1,3 +1,5 @@
+//! What has become of a change set at a device, read from its history alone.
+
 ghost use Rattle.std.specs.Prelude.{◌≡◌, List, ℕ};
 ghost use Rattle.nm_history.specs.Effect.{noted_effect, effect_of, effect_if, effect_of_commit, is_done_reply};
 ghost use Rattle.nm_history.specs.Effect.Effect.{Begins, Ends, Undoes};

@@ -1,8 +1,10 @@
+//! A device with its history: each call notes what happened with what was answered, or changes neither.
+
 ghost use Rattle.std.specs.Prelude.{◌≡◌, IfOk, OnOk, OnErr};
 ghost use Rattle.std.specs.List.{All};
 ghost use Rattle.std.specs.Prelude.{Some, true, false, option_copied};
 ghost use Rattle.nm_proto.specs.Message.{holds_text};
-ghost use Rattle.nm_device.specs.Table.{asks_for_end, opening_user};
+ghost use Rattle.nm_device.specs.Table.{asks_for_end, is_opening, opening_user};
 
 use crate::event::{DeviceEvent, Noted};
 use nm_base::{Label, NoMemory, SessionId};
@@ -163,6 +165,71 @@ impl<C: Content> Recorded<C> {
 }
 
 impl<C: Content> Recorded<C> {
+    ghost use Rattle.nm_device.specs.Device.{IsInTime, IsSound};
+    ghost use Rattle.nm_history.specs.History.{recorded_after};
+
+    /// Lets an event happen, as an entry of a history names it, and notes it. One that can't happen changes nothing.
+    pub fn follow(
+        &mut self,
+        content: &C,
+        tables: &Tables<C>,
+        event: &DeviceEvent,
+    ) -> Result<(), NoMemory>
+        requires sound { IsSound (C.meaning content.now) self.old.device }
+        requires in_time { IsInTime self.old.device.clock }
+        requires edits_belong { All (C.meaning content.now).edit_belongs tables.now.edits }
+        ensures followed { OnOk result (self.new ≡ recorded_after (C.meaning content.now) tables.now self.old event.now) }
+        ensures unchanged { OnErr result (self.new ≡ self.old) }
+        ensures sound { IsSound (C.meaning content.now) self.new.device }
+    {
+        match event {
+            DeviceEvent::Entered { user } => {
+                self.enter(user.copy()?)?;
+                Ok(())
+            }
+            DeviceEvent::Asked { session, request } => {
+                self.follow_asked(content, tables, *session, request)
+            }
+            DeviceEvent::Lost { session } => {
+                self.lose(content, *session)?;
+                Ok(())
+            }
+            DeviceEvent::Advanced { seconds } => {
+                self.advance(content, *seconds)?;
+                Ok(())
+            }
+            DeviceEvent::Restarted => {
+                self.restart(content)?;
+                Ok(())
+            }
+        }
+    }
+
+    // A session asks something. That it asks for a session can't happen: nobody has one who does.
+    fn follow_asked(
+        &mut self,
+        content: &C,
+        tables: &Tables<C>,
+        session: SessionId,
+        request: &Request,
+    ) -> Result<(), NoMemory>
+        requires sound { IsSound (C.meaning content.now) self.old.device }
+        requires in_time { IsInTime self.old.device.clock }
+        requires edits_belong { All (C.meaning content.now).edit_belongs tables.now.edits }
+        ensures followed { OnOk result
+            (self.new ≡ recorded_after (C.meaning content.now) tables.now self.old (DeviceEvent.Asked session request.now)) }
+        ensures unchanged { OnErr result (self.new ≡ self.old) }
+        ensures sound { IsSound (C.meaning content.now) self.new.device }
+    {
+        if is_opening(request) {
+            return Ok(());
+        }
+        self.serve_on(content, tables, session, request)?;
+        Ok(())
+    }
+}
+
+impl<C: Content> Recorded<C> {
     ghost use Rattle.std.specs.Prelude.{Some, true, false};
     ghost use Rattle.nm_sessions.specs.Sessions.{is_open};
     ghost use Rattle.nm_device.specs.Device.{IsInTime, IsSound};
@@ -287,6 +354,13 @@ fn opening_user(request: &Request) -> Option<&Label>
         Request::OpenSession { user } => Some(user),
         _ => None,
     }
+}
+
+// Whether a request asks for a session.
+fn is_opening(request: &Request) -> bool
+    ensures { result ≡ is_opening request.now }
+{
+    matches!(request, Request::OpenSession { .. })
 }
 
 // Whether a request asks for the end of a pending commit.

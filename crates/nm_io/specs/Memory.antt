@@ -24,16 +24,19 @@ faulted calls = record calls { faults = raised calls.faults }
 abbrev pub Fails : Calls → Type 0
 Fails calls = Contains calls.failing (raised calls.made)
 
--- a source in memory: the bytes that are left, and its calls (this project's own)
+-- a source in memory: the bytes that are left, its calls, and how many bytes one of them gives at most (this project's own)
 pub record Supply : Type 0 where
   pub left : List ℕ
   pub calls : Calls
+  pub most : ℕ
 
--- a sink in memory: the bytes that it has taken, how many it has room for, and its calls (this project's own)
+-- a sink in memory: the bytes that it has taken, how many it has room for, its calls, and how many bytes one of them takes
+-- at most (this project's own)
 pub record Store : Type 0 where
   pub taken : List ℕ
   pub room : ℕ
   pub calls : Calls
+  pub most : ℕ
 
 -- the next write, of so many bytes, fails: it is to fail, or there are some and none fits (this project's own)
 abbrev pub Refuses : Store → ℕ → Type 0

@@ -1,6 +1,6 @@
 //! A source and a sink that never fail, for bytes that are in memory as a whole.
 
-ghost use Rattle.std.specs.Prelude.{◌≡◌, ◌≤◌, ◌<◌, List, ℕ, length, take, drop, min, Some, None, IfOk};
+ghost use Rattle.std.specs.Prelude.{◌≡◌, ◌≤◌, ◌<◌, ◌++◌, List, ℕ, length, take, drop, min, Some, None, IfOk};
 
 use crate::sink::Sink;
 use crate::source::Source;
@@ -31,6 +31,18 @@ impl SureSource {
     {
         SureSource { bytes, at: 0 }
     }
+
+    /// Reads into the front of a piece, at most so many bytes, and answers how many.
+    pub(crate) fn read_front(&mut self, into: &mut [u8], most: usize) -> usize
+        ensures value { result ≡ min (min (length self.old) (length into.new)) most }
+        ensures copied { take result into.new ≡ take result self.old }
+        ensures rest { self.new ≡ drop result self.old }
+        ensures given { self.old ≡ take result into.new ++ self.new }
+    {
+        let count = copy_front(&self.bytes[self.at..], into, most);
+        self.at += count;
+        count
+    }
 }
 
 impl Source for SureSource {
@@ -43,18 +55,17 @@ impl Source for SureSource {
         ensures copied { IfOk result (λ n. take n into.new ≡ take n self.old) }
         ensures rest { IfOk result (λ n. self.new ≡ drop n self.old) }
     {
-        let count = copy_front(&self.bytes[self.at..], into);
-        self.at += count;
-        Ok(count)
+        let most = into.len();
+        Ok(self.read_front(into, most))
     }
 }
 
-// Copies as many bytes as both have, and answers how many.
-fn copy_front(from: &[u8], into: &mut [u8]) -> usize
-    ensures count { result ≡ min (length from.now) (length into.old) }
+// Copies as many bytes as both have, at most so many, and answers how many.
+fn copy_front(from: &[u8], into: &mut [u8], most: usize) -> usize
+    ensures count { result ≡ min (min (length from.now) (length into.old)) most }
     ensures copied { take result into.new ≡ take result from.now }
 {
-    let count = from.len().min(into.len());
+    let count = from.len().min(into.len()).min(most);
     into[..count].copy_from_slice(&from[..count]);
     count
 }

@@ -1,3 +1,5 @@
+//! Why a journal can't be opened, read or appended to.
+
 ghost use Rattle.std.specs.Prelude.{◌≡◌};
 ghost use Rattle.nm_journal.specs.declared.fault.JournalFault.TheVariants.{NoMemory};
 

@@ -1,3 +1,5 @@
+//! The two global locks of a device, each with its owner.
+
 ghost use Rattle.std.specs.Prelude.{◌≡◌, Some, None, true, false, IfErr, OnOk, OnErr};
 
 use nm_base::SessionId;

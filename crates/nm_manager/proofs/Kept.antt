@@ -10,7 +10,6 @@ use Rattle.nm_proto.specs.declared.plan.ChangePlan.{ChangePlan}
 use Rattle.nm_proto.specs.declared.plan.PlannedEdit.{PlannedEdit}
 use Rattle.nm_journal.specs.Entries.{may_follow}
 use Rattle.nm_wire.specs.Asks.{ask_of}
-use Rattle.nm_wire.specs.Wire.{WireState}
 use Rattle.nm_decider.specs.Course.{CourseState, next_action}
 use Rattle.nm_decider.specs.declared.course.NextAction.{NextAction}
 use Rattle.nm_decider.specs.declared.course.NextAction.TheVariants as next
@@ -18,7 +17,7 @@ use Rattle.nm_manager.specs.declared.action.Action.{Action}
 use Rattle.nm_manager.specs.declared.action.Action.TheVariants as action
 use Rattle.nm_manager.specs.Queues.{is_ready_in}
 use Rattle.nm_manager.specs.Requests.{request_for, edit_for, edit_request}
-use Rattle.nm_manager.specs.Slot.{SideState, SlotState, sends_if, sends_request, sends_on, may_go, gone}
+use Rattle.nm_manager.specs.Slot.{SideState, SlotState, sends_if, sends_request, may_go, on_side, sends_pair}
 use Rattle.nm_manager.specs.Manager.{ManagerState, slot_at, acts, turned, turned_by, sent_by, decided_by, idle}
 
 edit_asks : (entries : List Entry) (change : ℕ) (found : Option PlannedEdit) → IfSome (option_map (edit_request entries change) found) (λ request. ask_of request ≡ ask.Edit)
@@ -43,15 +42,15 @@ asks_fit plan entries change device ask.Resync = search
 -- ---- a verdict
 
 module _ (verdict : Verdict) where
-  none_if : (b : Bool) (device : ℕ) (before now : CourseState) (side : SideState) (links : WireState) → (sends_if b device before now side links).action ≡ action.Decided verdict → ⊥
-  none_if true device before now side links h = absurd (let e = h in cc)
-  none_if false device before now side links h = absurd (let e = h in cc)
+  none_if : (b new : Bool) (device : ℕ) (before now : CourseState) (side : SideState) (request : Request) → (sends_if b new device before now side request).action ≡ action.Decided verdict → ⊥
+  none_if true new device before now side request h = absurd (let e = h in cc)
+  none_if false new device before now side request h = absurd (let e = h in cc)
 
   none_request : (new : Bool) (device : ℕ) (before now : CourseState) (side : SideState) (request : Option Request) → (sends_request new device before now side request).action ≡ action.Decided verdict → ⊥
   none_request new device before now side None h = absurd (let e = h in cc)
-  none_request new device before now side (Some request) h = none_if (may_go new side.wire) device before now side (gone new side.wire request) h
+  none_request new device before now side (Some request) h = none_if (may_go new side.wire) new device before now side request h
 
-  none_on : (plan : ChangePlan) (entries : List Entry) (slot : SlotState) (device : ℕ) (what : Ask) (side : Option SideState) → (sends_on plan entries slot device what side).action ≡ action.Decided verdict → ⊥
+  none_on : (plan : ChangePlan) (entries : List Entry) (slot : SlotState) (device : ℕ) (what : Ask) (side : Option SideState) → (on_side (sends_pair plan entries device what) slot device side).action ≡ action.Decided verdict → ⊥
   none_on plan entries slot device what None h = absurd (let e = h in cc)
   none_on plan entries slot device what (Some side) h = none_request _ device slot.course _ side _ h
 

@@ -3,4 +3,5 @@ pub mod Queues
 pub mod Slots
 pub mod Moments
 pub mod Kept
+pub mod Reach
 pub mod Entered

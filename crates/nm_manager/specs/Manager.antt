@@ -2,7 +2,6 @@
 -- c stands at place c - 1.
 use Rattle.std.specs.Prelude.{position, IfSome, ◌*◌, ◌==◌, map, ◌≡◌, ℕ, suc, ◌-◌, List, [], ◌∷◌, ◌++◌, slice_get, slice_set, Bool, true, false, not, ◌&&◌, Option, Some, None, if◌then◌else◌}
 use Rattle.nm_proto.specs.declared.ask.Ask.{Ask}
-use Rattle.nm_proto.specs.declared.message.Request.{Request}
 use Rattle.nm_proto.specs.declared.message.Reply.{Reply}
 use Rattle.nm_proto.specs.declared.journal.Verdict.{Verdict}
 use Rattle.nm_proto.specs.declared.journal.Entry.{Entry}
@@ -23,7 +22,8 @@ use Rattle.nm_wire.specs.Wire.{WireState, no_links}
 use Rattle.nm_manager.specs.declared.action.Action.{Action}
 use Rattle.nm_manager.specs.declared.action.Action.TheVariants as action
 use Rattle.nm_manager.specs.Queues.{is_ready_in}
-use Rattle.nm_manager.specs.Slot.{SlotState, SlotStep, fresh_slot, asked_on, restarted_slot, wires_on, told_wire, lost_wire, side_at, wire_of_side, sends, renews, receives, decided, breaks, lost_memory, cut_off, to_commit}
+use Rattle.nm_manager.specs.Slot.{SideState, SlotState, PairStep, SlotStep, fresh_slot, restarted_slot, wires_on, told_wire, lost_wire, side_at, wire_of_side}
+use Rattle.nm_manager.specs.Slot.{on_side, sends_pair, renews_pair, receives_pair, breaks_pair, decided, lost_memory, cut_off, to_commit}
 
 -- the journal's entries, and what is kept of each change set
 pub record ManagerState : Type 0 where
@@ -37,9 +37,11 @@ pub record Managing : Type 0 where
   pub has_failed : Bool
   pub state : ManagerState
 
+-- a manager in another state
 abbrev pub with_state : Managing → ManagerState → Managing
 with_state manager state = record manager { state = state }
 
+-- what its journal holds
 abbrev pub journal_of : Managing → JournalState
 journal_of manager = record { entries = manager.state.entries; failed = manager.failed }
 
@@ -49,6 +51,7 @@ failed_at manager entry = record manager { failed = Some entry; has_failed = tru
 
 -- ---- the beginning
 
+-- what is kept of these change sets, from a number on, before any is submitted
 abbrev pub slots_from : ℕ → List ChangePlan → List SlotState
 slots_from change [] = []
 slots_from change (plan ∷ plans) = fresh_slot change (devices_in plan.edits) ∷ slots_from (suc change) plans
@@ -64,20 +67,30 @@ pub record Step : Type 0 where
   pub action : Action
   pub state : ManagerState
 
+-- what is kept of a change set
 abbrev pub slot_at : ManagerState → ℕ → Option SlotState
 slot_at state change = slice_get state.slots (change - 1)
 
+-- other is kept of a change set
 abbrev pub with_slot : ManagerState → ℕ → SlotState → ManagerState
 with_slot state change slot = record state { slots = slice_set state.slots (change - 1) slot }
 
+-- the journal has an entry more
 abbrev pub with_entry : ManagerState → Entry → ManagerState
 with_entry state entry = record state { entries = state.entries ++ entry ∷ [] }
 
+-- nothing is done
 abbrev pub idle : ManagerState → Step
 idle state = record { action = action.Idle; state = state }
 
+-- a step of one change set
 abbrev pub with_step : ManagerState → ℕ → SlotStep → Step
 with_step state change step = record { action = step.action; state = with_slot state change step.slot }
+
+-- a step for a device of a change set, where it is there
+abbrev pub on_slot : (CourseState → SideState → PairStep) → ManagerState → ℕ → ℕ → Option SlotState → Step
+on_slot step state change device None = idle state
+on_slot step state change device (Some slot) = with_step state change (on_side step slot device (side_at slot device))
 
 -- an entry comes into the journal, where it may come next, and this is what stands then
 abbrev pub enters : ManagerState → Entry → Action → ManagerState → Step
@@ -89,6 +102,7 @@ enters state entry what now = if may_follow state.entries entry then record { ac
 abbrev pub start_of : ℕ → ChangePlan → Entry
 start_of change plan = Started change (record { 0 = devices_in plan.edits }) (Some plan.timeout)
 
+-- the entry that starts a change set, where it has a plan
 abbrev pub start_by : ℕ → Option ChangePlan → Option Entry
 start_by change None = None
 start_by change (Some plan) = Some (start_of change plan)
@@ -97,9 +111,11 @@ start_by change (Some plan) = Some (start_of change plan)
 abbrev pub start_at : List ChangePlan → ℕ → Option Entry
 start_at plans change = start_by change (slice_get plans (change - 1))
 
+-- a change set comes into the journal by this entry
 abbrev pub submits : ManagerState → Entry → Step
 submits state entry = enters state entry action.Started (with_entry state entry)
 
+-- the same by the plan, where there is one
 abbrev pub submitted_by : ManagerState → ℕ → Option ChangePlan → Step
 submitted_by state change None = idle state
 submitted_by state change (Some plan) = submits state (start_of change plan)
@@ -110,10 +126,10 @@ submitted plans state change = submitted_by state change (slice_get plans (chang
 
 -- ---- one action for a change set
 
+-- this is asked of a device
 abbrev pub sent_by : ManagerState → ℕ → Option ChangePlan → Option SlotState → ℕ → Ask → Step
-sent_by state change None slot device what = idle state
-sent_by state change (Some plan) None device what = idle state
-sent_by state change (Some plan) (Some slot) device what = with_step state change (sends plan state.entries slot device what)
+sent_by state change None found device what = idle state
+sent_by state change (Some plan) found device what = on_slot (sends_pair plan state.entries device what) state change device found
 
 -- the verdict comes into the journal, and then to the course
 abbrev pub decided_by : ManagerState → ℕ → Verdict → Option SlotState → Step
@@ -125,12 +141,14 @@ decided_by state change verdict (Some slot) =
 abbrev pub finishes : ManagerState → Entry → Step
 finishes state entry = enters state entry action.Ended (with_entry state entry)
 
+-- this action is done
 abbrev pub acts : List ChangePlan → ManagerState → ℕ → NextAction → Step
 acts plans state change next.Wait = idle state
 acts plans state change (next.Send device what) = sent_by state change (slice_get plans (change - 1)) (slot_at state change) device what
 acts plans state change (next.Decide verdict) = decided_by state change verdict (slot_at state change)
 acts plans state change (next.Finish kept) = finishes state (Ended change kept)
 
+-- one action for a change set, where something is kept of it
 abbrev pub turned_by : List ChangePlan → ManagerState → ℕ → Option SlotState → Step
 turned_by plans state change None = idle state
 turned_by plans state change (Some slot) = acts plans state change (next_action slot.course)
@@ -146,10 +164,12 @@ entry_of change (next.Send device what) = None
 entry_of change (next.Decide verdict) = Some (Decided change verdict)
 entry_of change (next.Finish kept) = Some (Ended change kept)
 
+-- the entry that the next action writes, where something is kept
 abbrev pub entry_by : ℕ → Option SlotState → Option Entry
 entry_by change None = None
 entry_by change (Some slot) = entry_of change (next_action slot.course)
 
+-- the entry that the next action of a change set writes
 abbrev pub entry_next : ManagerState → ℕ → Option Entry
 entry_next state change = entry_by change (slot_at state change)
 
@@ -167,49 +187,17 @@ abbrev pub MayRead : List Entry → Option Entry → List ℕ → Type 0
 MayRead entries None image = ReadsAs entries image
 MayRead entries (Some entry) image = ReadsWithOrWithout entries entry image
 
--- ---- what is asked
-
-abbrev pub request_by : ManagerState → Option ChangePlan → Option SlotState → ℕ → Ask → Option Request
-request_by state None slot device what = None
-request_by state (Some plan) None device what = None
-request_by state (Some plan) (Some slot) device what = asked_on plan state.entries slot device what (side_at slot device)
-
--- the request that asks this of a device for a change set
-abbrev pub request_to : List ChangePlan → ManagerState → ℕ → ℕ → Ask → Option Request
-request_to plans state change device what = request_by state (slice_get plans (change - 1)) (slot_at state change) device what
-
-abbrev pub request_of : List ChangePlan → ManagerState → ℕ → NextAction → Option Request
-request_of plans state change next.Wait = None
-request_of plans state change (next.Send device what) = request_to plans state change device what
-request_of plans state change (next.Decide verdict) = None
-request_of plans state change (next.Finish kept) = None
-
-abbrev pub request_after : List ChangePlan → ManagerState → ℕ → Option SlotState → Option Request
-request_after plans state change None = None
-request_after plans state change (Some slot) = request_of plans state change (next_action slot.course)
-
--- the request that a turn sends, where it sends one
-abbrev pub request_next : List ChangePlan → ManagerState → ℕ → Option Request
-request_next plans state change = if is_ready_in state.entries change then request_after plans state change (slot_at state change) else None
-
 -- ---- what comes to one change set
-
-abbrev pub received_by : ManagerState → ℕ → ℕ → ℕ → ℕ → Option SlotState → Step
-received_by state change device link number None = idle state
-received_by state change device link number (Some slot) = with_step state change (receives slot device link number)
 
 -- a reply is handled
 abbrev pub received : ManagerState → ℕ → ℕ → ℕ → ℕ → Step
-received state change device link number = received_by state change device link number (slot_at state change)
-
-abbrev pub broken_by : ManagerState → ℕ → ℕ → Option SlotState → Step
-broken_by state change device None = idle state
-broken_by state change device (Some slot) = with_step state change (breaks slot device)
+received state change device link number = on_slot (receives_pair device link number) state change device (slot_at state change)
 
 -- a link breaks
 abbrev pub broken : ManagerState → ℕ → ℕ → Step
-broken state change device = broken_by state change device (slot_at state change)
+broken state change device = on_slot (breaks_pair device) state change device (slot_at state change)
 
+-- what is known is lost, where there is a plan and something is kept
 abbrev pub forgotten_by : ManagerState → ℕ → Option ChangePlan → Option SlotState → Step
 forgotten_by state change None slot = idle state
 forgotten_by state change (Some plan) None = idle state
@@ -224,10 +212,10 @@ forgotten plans state change =
     if is_started change state.entries && not (is_ended_in change state.entries)
     then forgotten_by state change (slice_get plans (change - 1)) (slot_at state change) else idle state
 
+-- a timer is set anew, where there is a plan and something is kept
 abbrev pub renewed_by : ManagerState → ℕ → ℕ → Option ChangePlan → Option SlotState → Step
-renewed_by state change device None slot = idle state
-renewed_by state change device (Some plan) None = idle state
-renewed_by state change device (Some plan) (Some slot) = with_step state change (renews plan state.entries slot device)
+renewed_by state change device None found = idle state
+renewed_by state change device (Some plan) found = on_slot (renews_pair plan state.entries device) state change device found
 
 -- the timer of a pending commit is set anew
 abbrev pub renewed : List ChangePlan → ManagerState → ℕ → ℕ → Step
@@ -236,6 +224,7 @@ renewed plans state change device =
 
 -- ---- links
 
+-- the links to a device, where something is kept
 abbrev pub wire_of : ℕ → Option SlotState → WireState
 wire_of device None = no_links
 wire_of device (Some slot) = wire_of_side (side_at slot device)
@@ -244,6 +233,7 @@ wire_of device (Some slot) = wire_of_side (side_at slot device)
 abbrev pub wire_in : ManagerState → ℕ → ℕ → WireState
 wire_in state change device = wire_of device (slot_at state change)
 
+-- the links to a device are others, where something is kept
 abbrev pub wires_in : ManagerState → ℕ → ℕ → (WireState → WireState) → Option SlotState → ManagerState
 wires_in state change device happens None = state
 wires_in state change device happens (Some slot) = with_slot state change (wires_on happens slot device (side_at slot device))
@@ -269,12 +259,14 @@ course_after entries change devices =
     if is_started change entries && not (is_ended_in change entries)
     then recovered_course change devices (verdict_in change entries) else new_course change devices
 
+-- what is kept of a change set after a crash: its course by the journal, and no current link
 abbrev pub starts_anew : List Entry → ℕ → ℕ → SlotState → SlotState
 starts_anew entries change devices slot = record {
   course = course_after entries change devices;
   sides = map (cut_off (to_commit (verdict_in change entries))) slot.sides;
 }
 
+-- the same of all change sets, from a number on
 abbrev pub start_anew : List Entry → ℕ → List ChangePlan → List SlotState → List SlotState
 start_anew entries change [] slots = slots
 start_anew entries change (plan ∷ plans) [] = []
@@ -298,11 +290,13 @@ fault_of (journal.NotEmpty length) = fault.DiskFault
 fault_of journal.DiskFault = fault.DiskFault
 fault_of journal.Stopped = fault.DiskFault
 
+-- the change set of an entry
 abbrev pub change_of : Entry → ℕ
 change_of (Started change devices timeout) = change
 change_of (Decided change verdict) = change
 change_of (Ended change kept) = change
 
+-- an entry starts its change set for other devices than its plan names, or there is no plan
 abbrev pub is_strange_to : Option ChangePlan → Entry → Bool
 is_strange_to None entry = true
 is_strange_to (Some plan) (Started change devices timeout) = not (devices.0 == devices_in plan.edits)

@@ -16,6 +16,7 @@ pub record JournalQueuesState : Type 0 where
   pub failed : Option Entry
   pub has_failed : Bool
 
+-- what its journal holds
 abbrev pub journal_of : JournalQueuesState → JournalState
 journal_of journal_queues = record { entries = journal_queues.entries; failed = journal_queues.failed }
 
@@ -30,6 +31,7 @@ failed_at journal_queues entry = record journal_queues { failed = Some entry; ha
 
 -- ---- who is ready
 
+-- the ticket that an entry gives to the queues
 abbrev pub tickets_by : Entry → List Ticket
 tickets_by (Started change devices timeout) = record { change = change; devices = devices } ∷ []
 tickets_by (Decided change verdict) = []
@@ -47,6 +49,7 @@ holds_up entries ticket earlier = not (is_ended_in earlier.change entries) && sh
 abbrev pub goes_first : List Entry → List Ticket → Ticket → Bool
 goes_first entries before ticket = not (is_ended_in ticket.change entries) && not (list_any (holds_up entries ticket) before)
 
+-- a change set is ready among these tickets, where those before it are known
 abbrev pub ready_among : List Entry → ℕ → List Ticket → List Ticket → Bool
 ready_among entries change before [] = false
 ready_among entries change before (ticket ∷ later) =

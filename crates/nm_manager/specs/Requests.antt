@@ -25,6 +25,7 @@ pub record IsWellFormed (plan : ChangePlan) : Type 0 where
   pub ascend : ascend_above 0 plan.edits ≡ true
   pub waits : 1 ≤ plan.timeout
 
+-- a planned edit is of this device
 abbrev pub is_of_device : ℕ → PlannedEdit → Bool
 is_of_device device edit = edit.device == device
 
@@ -36,6 +37,7 @@ edit_for plan device = find (is_of_device device) plan.edits
 abbrev pub marks_for : List Entry → ℕ → ℕ → Marks
 marks_for entries change device = record { add = change; remove = record { 0 = ended_on device entries } }
 
+-- the edit of a change set, with its mark
 abbrev pub edit_request : List Entry → ℕ → PlannedEdit → Request
 edit_request entries change planned = Edit planned.edit planned.default_operation (Some (marks_for entries change planned.device))
 

@@ -21,10 +21,12 @@ use Rattle.nm_manager.specs.declared.action.Action.{Action}
 use Rattle.nm_manager.specs.declared.action.Action.TheVariants as action
 use Rattle.nm_manager.specs.Requests.{request_for}
 
+-- the links to a device, and the resynchronisation there
 pub record SideState : Type 0 where
   pub wire : WireState
   pub resync : ResyncState
 
+-- what is kept of a change set: its course, and a side for each device
 pub record SlotState : Type 0 where
   pub course : CourseState
   pub sides : List SideState
@@ -33,17 +35,21 @@ pub record SlotState : Type 0 where
 abbrev pub fresh_side : SideState
 fresh_side = record { wire = no_links; resync = fresh_resync false }
 
+-- nothing is known, and no link was made
 abbrev pub fresh_slot : ℕ → ℕ → SlotState
 fresh_slot change devices = record { course = course.new_course change devices; sides = replicate seat_count fresh_side }
 
 -- ---- what it is made of
 
+-- the side of a device
 abbrev pub side_at : SlotState → ℕ → Option SideState
 side_at slot device = slice_get slot.sides (device - 1)
 
+-- a side with other links
 abbrev pub with_wire : SideState → WireState → SideState
 with_wire side now = record side { wire = now }
 
+-- another side of a device
 abbrev pub with_side : SlotState → ℕ → SideState → SlotState
 with_side slot device side = record slot { sides = slice_set slot.sides (device - 1) side }
 
@@ -62,12 +68,14 @@ pub record SlotStep : Type 0 where
 abbrev pub nothing : CourseState → SideState → PairStep
 nothing now side = record { action = action.Idle; course = now; side = side }
 
+-- a step of one device, put in its place
 abbrev pub with_pair : SlotState → ℕ → PairStep → SlotStep
 with_pair slot device step = record {
   action = step.action;
   slot = record { course = step.course; sides = slice_set slot.sides (device - 1) step.side };
 }
 
+-- nothing is done
 abbrev pub unchanged : SlotState → SlotStep
 unchanged slot = record { action = action.Idle; slot = slot }
 
@@ -78,6 +86,7 @@ abbrev pub asked_in_fact : ResyncState → Ask → Ask
 asked_in_fact now ask.Resync = resync_ask now.commit now.stage
 asked_in_fact now what = what
 
+-- it asks for a session
 abbrev pub opens : Ask → Bool
 opens ask.OpenSession = true
 opens _ = false
@@ -87,58 +96,66 @@ abbrev pub may_go : Bool → WireState → Bool
 may_go true links = true
 may_go false links = wire.may_send links
 
+-- the links after a request went out, on a new link or on the current one
 abbrev pub gone : Bool → WireState → Request → WireState
 gone true links request = begun links request
 gone false links request = sent links request
 
+-- the number of a link, 0 where there is none
 abbrev pub number_of : Option ℕ → ℕ
 number_of None = 0
 number_of (Some number) = number
 
-abbrev pub sent_to : ℕ → CourseState → SideState → WireState → PairStep
-sent_to device now side links =
-    record { action = action.Sent device (number_of links.current); course = now; side = with_wire side links }
+-- a request went out, on a new link or on the current one; the action carries it
+abbrev pub sent_to : Bool → ℕ → CourseState → SideState → Request → PairStep
+sent_to new device now side request = record {
+  action = action.Sent device (number_of (gone new side.wire request).current) request;
+  course = now;
+  side = with_wire side (gone new side.wire request);
+}
 
-abbrev pub sends_if : Bool → ℕ → CourseState → CourseState → SideState → WireState → PairStep
-sends_if true device before now side links = sent_to device now side links
-sends_if false device before now side links = nothing before side
+-- a request goes out where it may
+abbrev pub sends_if : Bool → Bool → ℕ → CourseState → CourseState → SideState → Request → PairStep
+sends_if true new device before now side request = sent_to new device now side request
+sends_if false new device before now side request = nothing before side
 
--- a request goes out, on a new link or on the current one; the course is another then
+-- a request goes out where there is one; the course is another then
 abbrev pub sends_request : Bool → ℕ → CourseState → CourseState → SideState → Option Request → PairStep
 sends_request new device before now side None = nothing before side
-sends_request new device before now side (Some request) = sends_if (may_go new side.wire) device before now side (gone new side.wire request)
+sends_request new device before now side (Some request) = sends_if (may_go new side.wire) new device before now side request
 
+-- this is asked in fact
 abbrev pub sends_in_fact : ChangePlan → List Entry → CourseState → SideState → ℕ → Ask → PairStep
 sends_in_fact plan entries now side device in_fact =
     sends_request (opens in_fact) device now (course.with_sent now device) side (request_for plan entries now.change device in_fact)
 
-abbrev pub asked_on : ChangePlan → List Entry → SlotState → ℕ → Ask → Option SideState → Option Request
-asked_on plan entries slot device what None = None
-asked_on plan entries slot device what (Some side) = request_for plan entries slot.course.change device (asked_in_fact side.resync what)
-
 -- this is asked of a device
-abbrev pub sends_pair : ChangePlan → List Entry → CourseState → SideState → ℕ → Ask → PairStep
-sends_pair plan entries now side device what = sends_in_fact plan entries now side device (asked_in_fact side.resync what)
+abbrev pub sends_pair : ChangePlan → List Entry → ℕ → Ask → CourseState → SideState → PairStep
+sends_pair plan entries device what now side = sends_in_fact plan entries now side device (asked_in_fact side.resync what)
 
+-- the timer is set anew, where it may be
 abbrev pub renews_if : Bool → ChangePlan → List Entry → CourseState → SideState → ℕ → PairStep
 renews_if false plan entries now side device = nothing now side
 renews_if true plan entries now side device =
     sends_request false device now (course.with_renewed now device) side (request_for plan entries now.change device ask.Renew)
 
 -- the timer of the pending commit of a device is set anew, where it may be
-abbrev pub renews_pair : ChangePlan → List Entry → CourseState → SideState → ℕ → PairStep
-renews_pair plan entries now side device = renews_if (course.may_renew now device) plan entries now side device
+abbrev pub renews_pair : ChangePlan → List Entry → ℕ → CourseState → SideState → PairStep
+renews_pair plan entries device now side = renews_if (course.may_renew now device) plan entries now side device
 
 -- ---- a reply is handled
 
+-- a reply to a resynchronisation is awaited
 abbrev pub is_resync : Option Ask → Bool
 is_resync (Some ask.Resync) = true
 is_resync _ = false
 
+-- the same of a seat, where there is one
 abbrev pub awaits_resync : Option Seat → Bool
 awaits_resync None = false
 awaits_resync (Some seat) = is_resync seat.awaited
 
+-- what a resynchronisation found comes to the course, where it found something
 abbrev pub settled_by : CourseState → ℕ → Option Bool → CourseState
 settled_by now device None = now
 settled_by now device (Some kept) = course.with_settled now device kept
@@ -153,6 +170,7 @@ abbrev pub resync_goes_on : Bool → ResyncState → Reply → ResyncState
 resync_goes_on false now reply = now
 resync_goes_on true now reply = resync.with_reply now reply
 
+-- a reply is handled: the course learns, and the resynchronisation goes on
 abbrev pub hears : Bool → CourseState → SideState → ℕ → WireState → Reply → PairStep
 hears resyncs now side device links reply = record {
   action = action.Handled;
@@ -160,21 +178,24 @@ hears resyncs now side device links reply = record {
   side = record { wire = links; resync = resync_goes_on resyncs side.resync reply };
 }
 
+-- a reply is handled, where it is due
 abbrev pub receives_due : Bool → CourseState → SideState → ℕ → WireState → Option Exchange → PairStep
 receives_due resyncs now side device links None = nothing now side
 receives_due resyncs now side device links (Some exchange) = hears resyncs now side device links exchange.reply
 
 -- the reply of this number on a link is handled, where it is the next one on the current link
-abbrev pub receives_pair : CourseState → SideState → ℕ → ℕ → ℕ → PairStep
-receives_pair now side device link number =
+abbrev pub receives_pair : ℕ → ℕ → ℕ → CourseState → SideState → PairStep
+receives_pair device link number now side =
     receives_due (awaits_resync (slice_get now.seats (device - 1))) now side device (handled side.wire link number) (due side.wire link number)
 
 -- ---- it is decided
 
+-- it is to be committed
 abbrev pub is_commit : Verdict → Bool
 is_commit verdict.Commit = true
 is_commit (verdict.Abort why) = false
 
+-- it is decided to be committed
 abbrev pub to_commit : Option Verdict → Bool
 to_commit None = false
 to_commit (Some decided) = is_commit decided
@@ -183,6 +204,7 @@ to_commit (Some decided) = is_commit decided
 abbrev pub anew : Bool → SideState → SideState
 anew commit side = record side { resync = fresh_resync commit }
 
+-- the verdict stands, and each resynchronisation begins by it
 abbrev pub decided : SlotState → Verdict → SlotState
 decided slot now = record { course = course.with_verdict slot.course now; sides = map (anew (is_commit now)) slot.sides }
 
@@ -192,14 +214,15 @@ decided slot now = record { course = course.with_verdict slot.course now; sides 
 abbrev pub cut_off : Bool → SideState → SideState
 cut_off commit side = record { wire = broken side.wire; resync = fresh_resync commit }
 
+-- the current link breaks, where there is one
 abbrev pub breaks_current : CourseState → SideState → ℕ → Option ℕ → PairStep
 breaks_current now side device None = nothing now side
 breaks_current now side device (Some number) =
     record { action = action.Broken; course = course.with_break now device; side = cut_off (to_commit now.verdict) side }
 
 -- the current link to a device breaks, where there is one
-abbrev pub breaks_pair : CourseState → SideState → ℕ → PairStep
-breaks_pair now side device = breaks_current now side device side.wire.current
+abbrev pub breaks_pair : ℕ → CourseState → SideState → PairStep
+breaks_pair device now side = breaks_current now side device side.wire.current
 
 -- what was known is lost: the change set goes on from its verdict in the journal, and no link is current
 abbrev pub lost_memory : SlotState → ℕ → Option Verdict → SlotState
@@ -210,41 +233,37 @@ lost_memory slot devices found = record {
 
 -- ---- one device of a change set
 
-abbrev pub sends_on : ChangePlan → List Entry → SlotState → ℕ → Ask → Option SideState → SlotStep
-sends_on plan entries slot device what None = unchanged slot
-sends_on plan entries slot device what (Some side) = with_pair slot device (sends_pair plan entries slot.course side device what)
+-- a step for a device, where it has a side
+abbrev pub on_side : (CourseState → SideState → PairStep) → SlotState → ℕ → Option SideState → SlotStep
+on_side step slot device None = unchanged slot
+on_side step slot device (Some side) = with_pair slot device (step slot.course side)
 
+-- this is asked of a device
 abbrev pub sends : ChangePlan → List Entry → SlotState → ℕ → Ask → SlotStep
-sends plan entries slot device what = sends_on plan entries slot device what (side_at slot device)
+sends plan entries slot device what = on_side (sends_pair plan entries device what) slot device (side_at slot device)
 
-abbrev pub renews_on : ChangePlan → List Entry → SlotState → ℕ → Option SideState → SlotStep
-renews_on plan entries slot device None = unchanged slot
-renews_on plan entries slot device (Some side) = with_pair slot device (renews_pair plan entries slot.course side device)
-
+-- the timer of the pending commit of a device is set anew, where it may be
 abbrev pub renews : ChangePlan → List Entry → SlotState → ℕ → SlotStep
-renews plan entries slot device = renews_on plan entries slot device (side_at slot device)
+renews plan entries slot device = on_side (renews_pair plan entries device) slot device (side_at slot device)
 
-abbrev pub receives_on : SlotState → ℕ → ℕ → ℕ → Option SideState → SlotStep
-receives_on slot device link number None = unchanged slot
-receives_on slot device link number (Some side) = with_pair slot device (receives_pair slot.course side device link number)
-
+-- the reply of this number on a link is handled, where it is the next one on the current link
 abbrev pub receives : SlotState → ℕ → ℕ → ℕ → SlotStep
-receives slot device link number = receives_on slot device link number (side_at slot device)
+receives slot device link number = on_side (receives_pair device link number) slot device (side_at slot device)
 
-abbrev pub breaks_on : SlotState → ℕ → Option SideState → SlotStep
-breaks_on slot device None = unchanged slot
-breaks_on slot device (Some side) = with_pair slot device (breaks_pair slot.course side device)
-
+-- the current link to a device breaks, where there is one
 abbrev pub breaks : SlotState → ℕ → SlotStep
-breaks slot device = breaks_on slot device (side_at slot device)
+breaks slot device = on_side (breaks_pair device) slot device (side_at slot device)
 
+-- the links of a side
 abbrev pub wire_of_side : Option SideState → WireState
 wire_of_side None = no_links
 wire_of_side (Some side) = side.wire
 
+-- the device answers what a link has outstanding
 abbrev pub told_wire : ℕ → Reply → WireState → WireState
 told_wire link reply links = told links link reply
 
+-- the device's side of a link ends
 abbrev pub lost_wire : ℕ → WireState → WireState
 lost_wire link links = lost links link
 

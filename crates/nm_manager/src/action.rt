@@ -1,20 +1,22 @@
 //! What a call of the manager does, and why it can't.
 
-ghost use Rattle.std.specs.Prelude.{◌≡◌};
-
 use nm_base::DeviceNo;
-use nm_proto::Verdict;
+use nm_proto::{Request, Verdict};
 use thiserror::Error;
 
 /// What a call did (this project's own).
-#[derive(Clone, Copy, PartialEq, Eq)]
+#[derive(Drop)]
 pub enum Action {
     /// Nothing: it didn't apply, or there was nothing to do.
     Idle,
     /// The change set was submitted.
     Started,
-    /// A request was sent on a link, by its number from 1.
-    Sent { device: DeviceNo, link: u32 },
+    /// This request was sent on a link, by its number from 1.
+    Sent {
+        device: DeviceNo,
+        link: u32,
+        request: Request,
+    },
     /// A reply was handled.
     Handled,
     /// The manager's side of a link ended.

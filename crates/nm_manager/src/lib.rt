@@ -15,3 +15,4 @@ mod slot;
 pub use action::{Action, TurnFault};
 pub use laws::{change_sets_wait_their_turn, requests_ask_what_is_next, verdicts_are_journalled};
 pub use manager::Manager;
+pub use request::request_for;

@@ -299,9 +299,9 @@ impl Manager {
     }
 }
 
-// What goes out next, and what a device's restart does.
+// What is there, and what a device's restart does.
 impl Manager {
-    ghost use Rattle.nm_manager.specs.Manager.{with_state, request_to, request_next, request_of, restarted_on};
+    ghost use Rattle.nm_manager.specs.Manager.{with_state, restarted_on};
     ghost use Rattle.nm_manager.specs.Queues.{is_ready_in};
 
     /// The change sets that were given, the first of them first.
@@ -317,44 +317,6 @@ impl Manager {
         ensures { result ≡ is_ready_in self.now.state.entries change }
     {
         self.journal_queues.is_ready(change)
-    }
-
-    /// The request that asks this of a device for a change set, and None where there is none.
-    pub fn request_to(
-        &self,
-        change: ChangeNo,
-        device: DeviceNo,
-        ask: Ask,
-    ) -> Result<Option<Request>, NoMemory>
-        requires given { change ≤ length self.now.plans }
-        ensures { IfOk result (λ request. request ≡ request_to self.now.plans self.now.state change device ask) }
-    {
-        let plan = &self.plans.as_slice()[place_of(change)];
-        let slot = &self.slots[place_of(change)];
-        slot.request_to(self.alloc, plan, self.journal_queues.entries(), device, ask)
-    }
-
-    /// The request that the next turn of a change set sends, and None where it sends none.
-    pub fn request_next(&self, change: ChangeNo) -> Result<Option<Request>, NoMemory>
-        requires given { change ≤ length self.now.plans }
-        ensures { IfOk result (λ request. request ≡ request_next self.now.plans self.now.state change) }
-    {
-        if !self.journal_queues.is_ready(change) {
-            return Ok(None);
-        }
-        let action = self.slots[place_of(change)].course().next_action();
-        self.request_of(change, &action)
-    }
-
-    // The request that this action sends.
-    fn request_of(&self, change: ChangeNo, action: &NextAction) -> Result<Option<Request>, NoMemory>
-        requires given { change ≤ length self.now.plans }
-        ensures { IfOk result (λ request. request ≡ request_of self.now.plans self.now.state change action.now) }
-    {
-        match action {
-            NextAction::Send { device, ask } => self.request_to(change, *device, *ask),
-            NextAction::Wait | NextAction::Decide(_) | NextAction::Finish { .. } => Ok(None),
-        }
     }
 
     /// A device restarts: its sides of all links end, and what was outstanding on them is dropped. It takes time as there are
@@ -416,6 +378,22 @@ impl Manager {
         }
         all_anew(&mut self.slots, self.plans.as_slice(), journal.entries());
         self.journal_queues = JournalQueues::reopened(journal);
+        Ok(())
+    }
+}
+
+// The manager begins again.
+impl Manager {
+    ghost use Rattle.nm_manager.specs.Manager.{fresh_manager};
+
+    /// Begins again with a journal that holds nothing: nothing was submitted. The change sets are the same.
+    pub fn begin_again(&mut self, journal: Journal) -> Result<(), NoMemory>
+        requires empty { journal ≡ record { entries = []; failed = None } }
+        ensures { OnOk result (self.new ≡ fresh_manager self.old.plans) }
+    {
+        let slots = fresh_slots(self.alloc, self.plans.as_slice())?;
+        self.slots = slots;
+        self.journal_queues = JournalQueues::new(journal);
         Ok(())
     }
 }

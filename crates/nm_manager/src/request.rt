@@ -16,7 +16,7 @@ use std::alloc::Global;
 
 /// The request that asks this of a device for a change set, by the entries of the journal. None for an edit of a device that has
 /// none, and for what isn't known yet.
-pub(crate) fn request_for(
+pub fn request_for(
     alloc: Global,
     plan: &ChangePlan,
     entries: &[Entry],

@@ -4,6 +4,7 @@ ghost use Rattle.std.specs.Prelude.{◌≡◌, ◌<◌, ◌++◌, length, map, r
 ghost use Rattle.nm_decider.specs.Course.{seat_count};
 ghost use Rattle.nm_decider.specs.Course as course;
 ghost use Rattle.nm_manager.specs.Slot.{SideState, fresh_side, asked_in_fact, opens, may_go, gone, number_of, is_resync, awaits_resync, settled_by, learns, resync_goes_on, is_commit, to_commit, anew, cut_off, with_wire, told_wire, lost_wire, sends_pair, renews_pair, receives_pair, breaks_pair};
+ghost use Rattle.nm_manager.specs.declared.action.Action.TheVariants as action;
 ghost use Rattle.nm_wire.specs.Wire.{outstanding_at, is_open_at, restarted};
 ghost use Rattle.nm_recovery.specs.Recovery.{verdict_in};
 ghost use Rattle.nm_manager.specs.Manager.{starts_anew, course_after};
@@ -62,8 +63,24 @@ impl Side {
         new || self.wire.may_send()
     }
 
-    // A request goes out. Answers the number of its link.
-    fn go_out(&mut self, new: bool, request: Request) -> Result<u32, NoMemory>
+    // A request goes out. The action that tells so carries an equal one, which is made first.
+    fn go_out(&mut self, new: bool, device: DeviceNo, request: Request) -> Result<Action, NoMemory>
+        requires { may_go new self.old.wire ≡ true }
+        ensures gone { OnOk result (self.new ≡ with_wire self.old (gone new self.old.wire request)) }
+        ensures told { IfOk result (λ told. told ≡ action.Sent device (number_of (gone new self.old.wire request).current) request) }
+        ensures unchanged { OnErr result (self.new ≡ self.old) }
+    {
+        let sent = request.copy()?;
+        let link = self.carry(new, sent)?;
+        Ok(Action::Sent {
+            device,
+            link,
+            request,
+        })
+    }
+
+    // A link carries a request. Answers the number of the link.
+    fn carry(&mut self, new: bool, request: Request) -> Result<u32, NoMemory>
         requires { may_go new self.old.wire ≡ true }
         ensures gone { OnOk result (self.new ≡ with_wire self.old (gone new self.old.wire request)) }
         ensures number { IfOk result (λ number. number ≡ number_of (gone new self.old.wire request).current) }
@@ -143,7 +160,7 @@ impl Model for Slot {
 }
 
 impl Slot {
-    ghost use Rattle.nm_manager.specs.Slot.{fresh_slot, side_at, sends, renews, receives, decided, breaks, lost_memory, wires_on, wire_of_side, asked_on, restarted_slot};
+    ghost use Rattle.nm_manager.specs.Slot.{fresh_slot, side_at, sends, renews, receives, decided, breaks, lost_memory, wires_on, wire_of_side, restarted_slot};
 
     /// What is kept of a change set that isn't submitted.
     pub(crate) fn new(
@@ -188,21 +205,6 @@ impl Slot {
     {
         let side = &mut self.sides[place_of(device)];
         send_on(alloc, plan, entries, &mut self.course, side, device, ask)
-    }
-
-    /// The request that asks this of a device, and None where there is none.
-    pub(crate) fn request_to(
-        &self,
-        alloc: Global,
-        plan: &ChangePlan,
-        entries: &[Entry],
-        device: DeviceNo,
-        ask: Ask,
-    ) -> Result<Option<Request>, NoMemory>
-        ensures { IfOk result (λ request. request ≡ asked_on plan.now entries.now self.now device ask (side_at self.now device)) }
-    {
-        let in_fact = self.side(device).asked_in_fact(ask);
-        request_for(alloc, plan, entries, self.course.change(), device, in_fact)
     }
 
     /// The timer of the pending commit of a device is set anew, where it may be. Where there is no memory nothing changes.
@@ -300,7 +302,7 @@ fn send_on(
     ask: Ask,
 ) -> Result<Action, NoMemory>
     ensures sent { IfOk result (λ action. record { action = action; course = course.new; side = side.new }
-        ≡ sends_pair plan.now entries.now course.old side.old device ask) }
+        ≡ sends_pair plan.now entries.now device ask course.old side.old) }
     ensures course_unchanged { OnErr result (course.new ≡ course.old) }
     ensures side_unchanged { OnErr result (side.new ≡ side.old) }
 {
@@ -312,9 +314,9 @@ fn send_on(
         drop(request);
         return Ok(Action::Idle);
     }
-    let link = side.go_out(opens(in_fact), request)?;
+    let action = side.go_out(opens(in_fact), device, request)?;
     course.on_sent(device);
-    Ok(Action::Sent { device, link })
+    Ok(action)
 }
 
 // The timer of the pending commit of a device is set anew, where it may be.
@@ -327,7 +329,7 @@ fn renew_on(
     device: DeviceNo,
 ) -> Result<Action, NoMemory>
     ensures sent { IfOk result (λ action. record { action = action; course = course.new; side = side.new }
-        ≡ renews_pair plan.now entries.now course.old side.old device) }
+        ≡ renews_pair plan.now entries.now device course.old side.old) }
     ensures course_unchanged { OnErr result (course.new ≡ course.old) }
     ensures side_unchanged { OnErr result (side.new ≡ side.old) }
 {
@@ -342,9 +344,9 @@ fn renew_on(
         drop(request);
         return Ok(Action::Idle);
     }
-    let link = side.go_out(false, request)?;
+    let action = side.go_out(false, device, request)?;
     course.on_renewed(device);
-    Ok(Action::Sent { device, link })
+    Ok(action)
 }
 
 // The reply of this number on a link is handled, where it is the next one on the current link.
@@ -355,7 +357,7 @@ fn receive_on(
     link: u32,
     number: u32,
 ) -> Action
-    ensures { record { action = result; course = course.new; side = side.new } ≡ receives_pair course.old side.old device link number }
+    ensures { record { action = result; course = course.new; side = side.new } ≡ receives_pair device link number course.old side.old }
 {
     let resyncs = awaits_resync(course, device);
     let Some(exchange) = side.wire.due(link, number) else {
@@ -381,7 +383,7 @@ fn hear(course: &mut Course, resync: &mut Resync, device: DeviceNo, reply: &Repl
 
 // The current link to a device breaks, where there is one.
 fn break_on(course: &mut Course, side: &mut Side, device: DeviceNo) -> Action
-    ensures { record { action = result; course = course.new; side = side.new } ≡ breaks_pair course.old side.old device }
+    ensures { record { action = result; course = course.new; side = side.new } ≡ breaks_pair device course.old side.old }
 {
     if side.wire.current().is_none() {
         return Action::Idle;

@@ -127,9 +127,26 @@ fn has_bytes(rt: HostRuntime, want: &[u8]) -> Result<bool, Fail> {
 #[test]
 fn files_keep_bytes(rt: HostRuntime) -> Result<(), Fail> {
     let _ = fs::remove_file(&rt, NAME);
+    assert!(rt; is_missing(rt, Label::new(rt.alloc(), NAME)?) && fs::read(&rt, NAME).is_err());
     assert!(rt; is_begun(rt, Label::new(rt.alloc(), NAME)?) && has_bytes(rt, b"hallo")?);
+    assert!(rt; is_only_read(rt, Label::new(rt.alloc(), NAME)?) && has_bytes(rt, b"hallo")?);
     assert!(rt; is_continued(rt, Label::new(rt.alloc(), NAME)?) && has_bytes(rt, b"")?);
     Ok(fs::remove_file(&rt, NAME)?)
+}
+
+// What is read alone is as it was, and nothing is made of what is missing.
+fn is_only_read(files: HostRuntime, path: Label) -> bool {
+    let mut disk = FileDisk::read_only(files, path);
+    let mut piece = [0; 2];
+    disk.len() == Ok(5)
+        && disk.read(1, &mut piece) == Ok(2)
+        && piece == *b"al"
+        && disk.write_at(0, b"b") == Err(Failed)
+}
+
+fn is_missing(files: HostRuntime, path: Label) -> bool {
+    let mut disk = FileDisk::read_only(files, path);
+    disk.len() == Err(Failed) && disk.write_at(0, b"b") == Err(Failed)
 }
 
 // A disk may be sent to another thread.

@@ -1,8 +1,9 @@
-//! Sources and sinks over what Rattle's std reads and writes, and those that never fail.
+//! Sources and sinks over what Rattle's std reads and writes, those that never fail, and those that move bytes by pieces.
 
 use nm_base::Failed;
 use nm_io::{
-    ReadAllFault, Sink, Source, StdSink, StdSource, SureSink, SureSource, read_all, write_all,
+    MemorySink, MemorySource, ReadAllFault, Sink, Source, StdSink, StdSource, SureSink, SureSource,
+    read_all, write_all,
 };
 use std::alloc::Global;
 use std::io;
@@ -121,5 +122,27 @@ fn sure_ones_never_fail(rt: HostRuntime) -> Result<(), Fail> {
     let read = read_all(rt.alloc(), &mut source, 16)?;
     assert!(rt; read.as_slice() == b"hello".as_slice());
     assert!(rt; SureSink::new().write(b"hello") == Ok(5));
+    Ok(())
+}
+
+// A read gives no more than it is told, and the reads that follow give the rest.
+#[test]
+fn pieces_are_read(rt: HostRuntime) -> Result<(), Fail> {
+    let text = b"hello".to_vec(rt.alloc())?;
+    let mut source = MemorySource::in_pieces(text, Vec::new(rt.alloc()), 2);
+    let mut piece = [0; 8];
+    assert!(rt; is_piece(&mut source, &mut piece, Ok(2), b"he\0\0\0\0\0\0"));
+    let rest = read_all(rt.alloc(), &mut source, 16)?;
+    assert!(rt; rest.as_slice() == b"llo".as_slice());
+    Ok(())
+}
+
+// A write takes no more than it is told, and the writes that follow take the rest.
+#[test]
+fn pieces_are_written(rt: HostRuntime) -> Result<(), Fail> {
+    let mut sink = MemorySink::in_pieces(rt.alloc(), 8, Vec::new(rt.alloc()), 2)?;
+    assert!(rt; sink.write(b"hello") == Ok(2));
+    assert!(rt; write_all(&mut sink, b"llo") == Ok(()));
+    assert!(rt; sink.taken() == b"hello".as_slice());
     Ok(())
 }

@@ -2,11 +2,10 @@ pub mod Links
 pub mod Tables
 pub mod Course
 pub mod Slots
-pub mod Keeping
-pub mod Managed
 pub mod Others
-pub mod Ends
-pub mod Operators
+pub mod Tells
 pub mod Told
-pub mod Deliver
+pub mod Entries
+pub mod Start
+pub mod Keeping
 pub mod Runs

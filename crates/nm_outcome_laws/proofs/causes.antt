@@ -3,8 +3,7 @@ pub mod Wires
 pub mod Slots
 pub mod Refusals
 pub mod Stays
-pub mod Managed
-pub mod Noted
-pub mod Devices
-pub mod Deliver
+pub mod Decisions
+pub mod Told
+pub mod Cases
 pub mod Runs

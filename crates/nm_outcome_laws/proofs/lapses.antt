@@ -1,9 +1,6 @@
 pub mod Links
 pub mod Asks
 pub mod Slots
-pub mod Managed
 pub mod Later
-pub mod Steps
-pub mod Deliver
-pub mod Said
+pub mod Told
 pub mod Runs

@@ -1,12 +1,11 @@
 -- What every world keeps besides, of a change set that is to be aborted, and from which it follows that nothing of it is pending once it is
 -- ended (this project's own, over RFC 6241 sections 7.5 and 8.4).
-use Rattle.std.specs.Prelude.{◌≡◌, ℕ, suc, ◌+◌, ◌==◌, ◌≤◌, List, Bool, true, false, ◌&&◌, Option, Some, None, IfSome, is_some, slice_get}
+use Rattle.std.specs.Prelude.{◌≡◌, ℕ, ◌+◌, ◌==◌, ◌≤◌, List, Bool, true, false, ◌&&◌, Option, Some, IfSome, is_some, slice_get}
 use Rattle.nm_base.specs.Mask.{mask_contains}
 use Rattle.nm_base.specs.Token.{token_of}
 use Rattle.nm_proto.specs.declared.ask.Ask.TheVariants as ask
 use Rattle.nm_proto.specs.declared.journal.Entry.{Entry}
 use Rattle.nm_proto.specs.declared.journal.Verdict.{Verdict}
-use Rattle.nm_proto.specs.declared.plan.ChangePlan.{ChangePlan}
 use Rattle.nm_proto.specs.Plan.{devices_in}
 use Rattle.nm_sessions.specs.Sessions.{is_open}
 use Rattle.nm_history.specs.Outcome.{outcome_of, is_pending}
@@ -25,6 +24,8 @@ use Rattle.nm_wire.specs.Wire.{WireState}
 use Rattle.nm_manager.specs.Slot.{SideState, SlotState}
 use Rattle.nm_safety.specs.Pair.{first_link, to_abort, undelivered}
 use Rattle.nm_safety.specs.Step.{current_told}
+use Rattle.nm_safety.specs.Pairs.{AllPairs, OfPair}
+use Rattle.nm_safety.specs.Keeping.{OfDevice, OfSlot}
 
 -- ---- words
 
@@ -77,29 +78,27 @@ module _ {Config Node : Type 0} where
     -- where that was to be aborted and is ended, it isn't pending
     pub ended : over ≡ true → IsGone token (first_link wire) r
 
+  -- what is kept of a device, its seat and its side, under a verdict
   pub record IsAborted (member over : Bool) (decided : Option Verdict) (token : List ℕ) (seat : Seat) (side : SideState)
       (r : RecordedState Config Node) : Type 0 where
     pub spent : IsSpent member over token side.wire r
     pub told : to_abort decided ≡ true → IsTold token seat side r
 
-  -- so at a place, where there is a device
-  abbrev pub AbortedAt : Bool → Bool → Option Verdict → List ℕ → Option Seat → Option SideState → Option (RecordedState Config Node)
-      → Type 0
-  AbortedAt member over decided token seat side None = Unit {0}
-  AbortedAt member over decided token None side (Some r) = Unit {0}
-  AbortedAt member over decided token (Some seat) None (Some r) = Unit {0}
-  AbortedAt member over decided token (Some seat) (Some side) (Some r) = IsAborted member over decided token seat side r
+  -- so where there is a device
+  abbrev pub AbortedPair : ℕ → Bool → List ℕ → List (RecordedState Config Node) → OfPair
+  AbortedPair members over token devices place decided seat side =
+      IfSome (slice_get devices place) (IsAborted (mask_contains members (place + 1)) over decided token seat side)
 
-  -- ---- change sets, all together
+  -- ---- change sets
 
   -- each device, under the verdict of the course
   abbrev pub AllAborted : ℕ → Bool → List ℕ → List (RecordedState Config Node) → SlotState → Type 0
-  AllAborted members over token devices slot =
-      (place : ℕ) → AbortedAt (mask_contains members (place + 1)) over slot.course.verdict token (slice_get slot.course.seats place)
-      (slice_get slot.sides place) (slice_get devices place)
+  AllAborted members over token devices slot = AllPairs (AbortedPair members over token devices) slot.course.verdict slot
 
-  abbrev pub AreAborted : List ChangePlan → List Entry → List SlotState → List (RecordedState Config Node) → Type 0
-  AreAborted plans entries slots devices =
-      (place : ℕ) (plan : ChangePlan) → slice_get plans place ≡ Some plan
-      → IfSome (slice_get slots place)
-      (AllAborted (devices_in plan.edits) (is_over (suc place) entries) (token_of (suc place)) devices)
+  -- what is kept of a change set
+  abbrev pub OfAborted : OfSlot Config Node
+  OfAborted change plan entries devices slot = AllAborted (devices_in plan.edits) (is_over change entries) (token_of change) devices slot
+
+  -- of devices by themselves nothing is said
+  abbrev pub OfNone : OfDevice Config Node
+  OfNone entries place r = Unit {0}

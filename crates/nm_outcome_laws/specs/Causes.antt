@@ -113,6 +113,7 @@ abbrev pub exchanges_at : WireState → ℕ → List Exchange
 exchanges_at wire link = exchanges_on (link_at wire link)
 
 module _ {Config Node : Type 0} where
+  -- the history of a device, where it is there
   abbrev pub history_in : Option (RecordedState Config Node) → List Noted
   history_in None = []
   history_in (Some r) = r.history

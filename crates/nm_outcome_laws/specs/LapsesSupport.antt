@@ -1,5 +1,5 @@
 -- What every world keeps besides, of the renewals of pending commits (this project's own, over RFC 6241 section 8.4.1).
-use Rattle.std.specs.Prelude.{◌≡◌, ℕ, suc, List, Contains, Bool, true, false, ◌&&◌, Option, IfSome, slice_get}
+use Rattle.std.specs.Prelude.{◌≡◌, ℕ, Contains, Bool, true, false, ◌&&◌, Option, IfSome}
 use Rattle.nm_proto.specs.declared.message.Request.{Request}
 use Rattle.nm_device.specs.Table.{is_error}
 use Rattle.nm_history.specs.declared.outcome.Outcome.{Outcome}
@@ -12,7 +12,8 @@ use Rattle.nm_wire.specs.Words.{exchanges_of}
 use Rattle.nm_manager.specs.Slot.{SlotState}
 use Rattle.nm_safety.specs.Pair.{is_never}
 use Rattle.nm_safety.specs.Support.{AllLinks}
-use Rattle.nm_outcome_laws.specs.RecordsSupport.{outcomes_at}
+use Rattle.nm_safety.specs.Keeping.{OfSlot}
+use Rattle.nm_outcome_laws.specs.RecordsSupport.{outcome_in, outcomes_at}
 use Rattle.nm_outcome_laws.specs.Causes.{is_renewing}
 
 -- ---- words
@@ -35,6 +36,7 @@ RenewsCommitted outcome request = is_renewing (ask_of request) ≡ true → WasC
 
 -- ---- a link to a device where this has become of the change set
 
+-- what a renewal on a link tells of the outcome
 pub record RenewsOn (outcome : Option Outcome) (link : LinkState) : Type 0 where
   -- a renewal is on its way only to where the change set was committed
   pub asked : IfSome (asked_on link.way) (RenewsCommitted outcome)
@@ -47,6 +49,11 @@ pub record RenewsOn (outcome : Option Outcome) (link : LinkState) : Type 0 where
 abbrev pub AllRenew : (ℕ → Option Outcome) → SlotState → Type 0
 AllRenew outcomes slot = AllLinks (λ d place. RenewsOn (outcomes d)) slot.sides
 
--- and those of all change sets
-abbrev pub AreRenewing : {Config Node : Type 0} → List (RecordedState Config Node) → List SlotState → Type 0
-AreRenewing devices slots = (place : ℕ) → IfSome (slice_get slots place) (AllRenew (outcomes_at (suc place) devices))
+module _ {Config Node : Type 0} where
+  -- a link to a device, where that is there
+  abbrev pub Renews : ℕ → ℕ → Option (RecordedState Config Node) → ℕ → LinkState → Type 0
+  Renews change d device place link = RenewsOn (outcome_in change device) link
+
+  -- a change set, with its plan and the journal's entries, of which nothing is said
+  abbrev pub OfRenewed : OfSlot Config Node
+  OfRenewed change plan entries devices slot = AllRenew (outcomes_at change devices) slot

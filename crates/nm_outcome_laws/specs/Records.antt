@@ -21,6 +21,7 @@ module _ {Config TheEdit Node : Type 0} (setting : Setting TheEdit) (w : WorldSt
     pub planned : slice_get setting.plans place ≡ Some plan
     pub recorded : kept_in (suc place) w.entries ≡ Some kept
 
+  -- what an end records of an aborted change set
   pub record RecordsAborts : Type 0 where
     -- they are devices of it
     pub members : (place : ℕ) (plan : ChangePlan) (kept : DeviceMask) → IsEnded place plan kept → is_within kept.0 (devices_in plan.edits) ≡ true

@@ -5,7 +5,6 @@ pub mod Ended
 pub mod Closes
 pub mod Right
 pub mod Wires
-pub mod Ready
 pub mod Able
 pub mod Moves
 pub mod Serving

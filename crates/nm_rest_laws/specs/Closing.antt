@@ -38,9 +38,11 @@ module _ {Config Node : Type 0} where
   left_on change device links (Some r) = sum_from (λ link. one_if (lose_link r links change device link)) 1 (length links.links)
 
 module _ {Config Node : Type 0} (devices : List (RecordedState Config Node)) (state : ManagerState) where
+  -- how much is left to do for a change set at a device
   abbrev pub left_at : ℕ → ℕ → ℕ
   left_at change device = left_on change device (wire_in state change device) (slice_get devices (device - 1))
 
+  -- how much is left to do for a change set
   abbrev pub left_of : ℕ → ℕ
   left_of change = sum_from (left_at change) 1 (length devices)
 

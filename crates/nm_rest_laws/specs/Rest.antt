@@ -51,6 +51,7 @@ abbrev pub elementary_count : Event → ℕ
 elementary_count (Round change turns) = 3 * turns
 elementary_count _ = 1
 
+-- how many elementary events these are
 abbrev pub events_count : List Event → ℕ
 events_count [] = 0
 events_count (event ∷ events) = elementary_count event + events_count events

@@ -28,14 +28,17 @@ confirms_or_quiet None = true
 confirms_or_quiet (Some ask.Confirm) = true
 confirms_or_quiet _ = false
 
+-- the device is at one of its own stages
 abbrev pub is_live : Stage → Bool
 is_live (Live done) = nat_le done all_done
 is_live _ = false
 
+-- a stage is right while nothing is decided
 abbrev pub right_calm : Option AbortCause → Stage → Bool
 right_calm None stage = is_live stage
 right_calm (Some why) stage = true
 
+-- a stage is right under Commit
 abbrev pub right_commit : Stage → Option Ask → Bool
 right_commit (Live done) awaited = done == all_done && confirms_or_quiet awaited
 right_commit Refused awaited = false
@@ -45,6 +48,7 @@ right_commit Resync awaited = true
 right_commit (Leaving kept) awaited = true
 right_commit (Settled kept) awaited = true
 
+-- a stage is right under Abort
 abbrev pub right_abort : Stage → Option Ask → Bool
 right_abort (Live done) awaited = not (done == 0) || is_some awaited
 right_abort Refused awaited = false
@@ -69,6 +73,7 @@ IsTrueBy link Quiet = Unit {0}
 IsTrueBy link (Asked request) = is_opening request ≡ true → session_of link ≡ None
 IsTrueBy link (Told exchange) = ends exchange.request exchange.reply ≡ true → link.is_open ≡ false
 
+-- what a link was told is so
 abbrev pub IsTrue : LinkState → Type 0
 IsTrue link = IsTrueBy link link.way
 
@@ -78,19 +83,23 @@ IsServedBy link Quiet = is_some (session_of link) ≡ true
 IsServedBy link (Asked request) = is_opening request ≡ false → is_some (session_of link) ≡ true
 IsServedBy link (Told exchange) = ends exchange.request exchange.reply ≡ false → is_some (session_of link) ≡ true
 
+-- a link's session is the one that its device gave it
 abbrev pub IsServed : LinkState → Type 0
 IsServed link = IsServedBy link link.way
 
+-- there is a current link, and it is so
 abbrev pub HasServed : Option LinkState → Type 0
 HasServed None = ⊥
 HasServed (Some link) = IsServed link
 
+-- the links to a device are steady
 pub record IsSteady (wire : WireState) : Type 0 where
   pub current : is_some wire.current ≡ true → HasServed (current_link wire)
   pub each : (place : ℕ) → IfSome (slice_get wire.links place) IsTrue
 
 -- ---- a change set
 
+-- a device of the change set is at a right stage
 abbrev pub IsRightSeat : Option Verdict → Option AbortCause → Seat → Type 0
 IsRightSeat decided trouble seat = seat.is_member ≡ true → is_right decided trouble seat.stage seat.awaited ≡ true
 

@@ -67,7 +67,7 @@ module _ {Config Node : Type 0} (change members : ℕ) (owners : ℕ → Owners)
   known_by false false s e = inl (sym (ordered.begun s))
 
   -- a change set that wasn't submitted has no links
-  none_made : (d : ℕ) (side : SideState) → slice_get slot.sides d ≡ Some side → goes_on ≡ false → verdict_now ≡ None → side.wire.links ≡ []
+  pub none_made : (d : ℕ) (side : SideState) → slice_get slot.sides d ≡ Some side → goes_on ≡ false → verdict_now ≡ None → side.wire.links ≡ []
   none_made d side there goes none =
       let began : is_started change entries ≡ false = not_begun (is_started change entries) (is_ended_in change entries) verdict_now goes none ordered.ended in
       no_links_left side.wire.links

@@ -3,7 +3,6 @@ use Rattle.std.proofs.Common.{ℕ, ◌≡◌, ◌∙◌, ◌-◌, ◌≤◌, ◌
 use Rattle.std.proofs.lemmas.Bool.{cond_both}
 use Rattle.std.proofs.lemmas.Option.{none-some, same_Some}
 use Rattle.nm_proto.specs.declared.ask.Ask.{Ask}
-use Rattle.nm_proto.specs.declared.ask.Ask.TheVariants as ask
 use Rattle.nm_proto.specs.declared.message.Request.{Request}
 use Rattle.nm_proto.specs.declared.message.Request.TheVariants.{OpenSession, Lock, Unlock, PartialLock, PartialUnlock, Edit, Validate, Commit, CancelCommit, Discard, HasMark, GetConfig, Kill, CloseSession}
 use Rattle.nm_proto.specs.declared.message.Reply.{Reply}
@@ -29,9 +28,10 @@ use Rattle.nm_wire.specs.Wire.{WireState, is_open_link, is_open_at, link_at, out
 use Rattle.nm_manager.specs.declared.action.Action.{Action}
 use Rattle.nm_manager.specs.declared.action.Action.TheVariants as action
 use Rattle.nm_manager.specs.Queues.{is_ready_in}
-use Rattle.nm_manager.specs.Slot.{SideState, SlotState, decided, lost_wire, told_wire, wire_of_side, wires_on}
+use Rattle.nm_manager.specs.Slot.{SideState, SlotState, decided, lost_wire, told_wire, wire_of_side, wires_on, receives_pair, breaks_pair}
 use Rattle.nm_manager.specs.Manager as manager
-use Rattle.nm_manager.specs.Manager.{ManagerState, Step, acts, broken_by, decided_by, enters, forgotten_by, lost_on, received_by, renewed_by, request_after, request_by, request_of, request_to, sent_by, slot_at, start_of, submitted_by, told_on, turned_by, wire_in, wire_of, wires_in, with_entry, with_slot}
+use Rattle.nm_manager.specs.Manager.{ManagerState, Step, acts, broken, decided_by, enters, forgotten_by, lost_on, received, renewed_by, sent_by, slot_at, start_of, submitted_by, told_on, turned_by, wire_in, wire_of, wires_in, with_entry, with_slot}
+use Rattle.nm_manager.proofs.Reach.{slot_reached}
 use Rattle.nm_safety.proofs.Answered.{there_out}
 use Rattle.nm_safety.proofs.Places.{set_same}
 use Rattle.nm_world.specs.declared.happened.Happened.TheVariants as happened
@@ -175,18 +175,18 @@ module _ {Config TheEdit Node : Type 0} (m : Meaning Config TheEdit Node) (setti
   -- ---- the manager
 
   -- an entry comes, where it may
-  entering : (event : Event) (entry : Entry) (what : Action) (now : ManagerState) (request : Option Request)
-      → (may_follow w.entries entry ≡ true → G event (by_manager w (record { action = what; state = now }) request))
-      → G event (by_manager w (enters state entry what now) request)
-  entering event entry what now request moves =
-      cond_both (may_follow w.entries entry) (record { action = what; state = now }) (manager.idle state) (λ (step : Step). G event (by_manager w step request))
+  entering : (event : Event) (entry : Entry) (what : Action) (now : ManagerState)
+      → (may_follow w.entries entry ≡ true → G event (by_manager w (record { action = what; state = now })))
+      → G event (by_manager w (enters state entry what now))
+  entering event entry what now moves =
+      cond_both (may_follow w.entries entry) (record { action = what; state = now }) (manager.idle state) (λ (step : Step). G event (by_manager w step))
       moves (λ _. cases.nothing event)
 
   module _ (change : ℕ) (numbered : 1 ≤ change) where
-    submits_by : (plan : Option ChangePlan) → slice_get setting.plans (change - 1) ≡ plan → G (Submit change) (by_manager w (submitted_by state change plan) None)
+    submits_by : (plan : Option ChangePlan) → slice_get setting.plans (change - 1) ≡ plan → G (Submit change) (by_manager w (submitted_by state change plan))
     submits_by None planned = cases.nothing (Submit change)
     submits_by (Some plan) planned =
-        entering (Submit change) (start_of change plan) action.Started (with_entry state (start_of change plan)) None
+        entering (Submit change) (start_of change plan) action.Started (with_entry state (start_of change plan))
         (cases.starts change numbered plan planned)
 
     -- one action
@@ -196,60 +196,59 @@ module _ {Config TheEdit Node : Type 0} (m : Meaning Config TheEdit Node) (setti
 
       sends_by : (device : ℕ) (what : Ask) → next_action slot.course ≡ next.Send device what → (plan : Option ChangePlan)
           → slice_get setting.plans (change - 1) ≡ plan
-          → G (Turn change) (by_manager w (sent_by state change plan (Some slot) device what) (request_by state plan (Some slot) device what))
+          → G (Turn change) (by_manager w (sent_by state change plan (Some slot) device what))
       sends_by device what acts_so None planned = cases.nothing (Turn change)
       sends_by device what acts_so (Some plan) planned =
           cases.sends_out change (record { numbered = numbered; plan = plan; planned = planned; slot = slot; there = there }) ready device what acts_so
 
       acts_by : (what : NextAction) → next_action slot.course ≡ what
-          → G (Turn change) (by_manager w (acts setting.plans state change what) (request_of setting.plans state change what))
+          → G (Turn change) (by_manager w (acts setting.plans state change what))
       acts_by next.Wait acts_so = cases.nothing (Turn change)
       acts_by (next.Send device what) acts_so =
-          subst (λ found. G (Turn change) (by_manager w (sent_by state change (slice_get setting.plans (change - 1)) found device what)
-          (request_by state (slice_get setting.plans (change - 1)) found device what))) (sym there)
+          subst (λ found. G (Turn change) (by_manager w (sent_by state change (slice_get setting.plans (change - 1)) found device what))) (sym there)
           (sends_by device what acts_so (slice_get setting.plans (change - 1)) refl)
       acts_by (next.Decide v) acts_so =
-          subst (λ found. G (Turn change) (by_manager w (decided_by state change v found) None)) (sym there)
-          (entering (Turn change) (Decided change v) (action.Decided v) (with_slot (with_entry state (Decided change v)) change (decided slot v)) None
+          subst (λ found. G (Turn change) (by_manager w (decided_by state change v found))) (sym there)
+          (entering (Turn change) (Decided change v) (action.Decided v) (with_slot (with_entry state (Decided change v)) change (decided slot v))
           (cases.decides change own_slot ready v acts_so))
       acts_by (next.Finish kept) acts_so =
-          entering (Turn change) (Ended change kept) action.Ended (with_entry state (Ended change kept)) None (cases.finishes change own_slot ready kept acts_so)
+          entering (Turn change) (Ended change kept) action.Ended (with_entry state (Ended change kept)) (cases.finishes change own_slot ready kept acts_so)
 
     turns_by : is_ready_in w.entries change ≡ true → (found : Option SlotState) → slice_get w.slots (change - 1) ≡ found
-        → G (Turn change) (by_manager w (turned_by setting.plans state change found) (request_after setting.plans state change found))
+        → G (Turn change) (by_manager w (turned_by setting.plans state change found))
     turns_by ready None there = cases.nothing (Turn change)
     turns_by ready (Some slot) there = acts_by ready slot there (next_action slot.course) refl
 
     turns_if : (b : Bool) → is_ready_in w.entries change ≡ b
-        → G (Turn change) (by_manager w (if b then turned_by setting.plans state change (slot_at state change) else manager.idle state)
-        (if b then request_after setting.plans state change (slot_at state change) else None))
+        → G (Turn change) (by_manager w (if b then turned_by setting.plans state change (slot_at state change) else manager.idle state))
     turns_if true ready = turns_by ready (slice_get w.slots (change - 1)) refl
     turns_if false ready = cases.nothing (Turn change)
 
     -- what comes to one change set
-    hears_by : (device link number : ℕ) → 1 ≤ device → (found : Option SlotState) → slice_get w.slots (change - 1) ≡ found
-        → G (Answer change device link number) (by_manager w (received_by state change device link number found) None)
-    hears_by device link number known None there = cases.nothing (Answer change device link number)
-    hears_by device link number known (Some slot) there =
-        cases.hears change device link number (record { numbered = numbered; slot = slot; there = there }) known
+    hears_now : (device link number : ℕ) → 1 ≤ device → G (Answer change device link number) (by_manager w (received state change device link number))
+    hears_now device link number known =
+        slot_reached (receives_pair device link number) state change device (λ (step : Step). G (Answer change device link number) (by_manager w step))
+        (cases.nothing (Answer change device link number))
+        (λ slot there. cases.hears change device link number (record { numbered = numbered; slot = slot; there = there }) known)
 
-    breaks_by : (device : ℕ) → 1 ≤ device → (found : Option SlotState) → slice_get w.slots (change - 1) ≡ found
-        → G (Break change device) (by_manager w (broken_by state change device found) None)
-    breaks_by device known None there = cases.nothing (Break change device)
-    breaks_by device known (Some slot) there = cases.breaks_off change device (record { numbered = numbered; slot = slot; there = there }) known
+    breaks_now : (device : ℕ) → 1 ≤ device → G (Break change device) (by_manager w (broken state change device))
+    breaks_now device known =
+        slot_reached (breaks_pair device) state change device (λ (step : Step). G (Break change device) (by_manager w step))
+        (cases.nothing (Break change device))
+        (λ slot there. cases.breaks_off change device (record { numbered = numbered; slot = slot; there = there }) known)
 
     forgets_by : is_started change w.entries ≡ true → is_ended_in change w.entries ≡ false → (plan : Option ChangePlan)
         → slice_get setting.plans (change - 1) ≡ plan → (found : Option SlotState) → slice_get w.slots (change - 1) ≡ found
-        → G (Forget change) (by_manager w (forgotten_by state change plan found) None)
+        → G (Forget change) (by_manager w (forgotten_by state change plan found))
     forgets_by begun going None planned found there = cases.nothing (Forget change)
     forgets_by begun going (Some plan) planned None there = cases.nothing (Forget change)
     forgets_by begun going (Some plan) planned (Some slot) there =
         cases.forgets change (record { numbered = numbered; plan = plan; planned = planned; slot = slot; there = there }) begun going
 
-    forgets_now : G (Forget change) (by_manager w (manager.forgotten setting.plans state change) None)
+    forgets_now : G (Forget change) (by_manager w (manager.forgotten setting.plans state change))
     forgets_now =
         cond_both (is_started change w.entries && not (is_ended_in change w.entries)) (forgotten_by state change (slice_get setting.plans (change - 1)) (slot_at state change))
-        (manager.idle state) (λ (step : Step). G (Forget change) (by_manager w step None))
+        (manager.idle state) (λ (step : Step). G (Forget change) (by_manager w step))
         (λ goes.
         let going = both (is_started change w.entries) (not (is_ended_in change w.entries)) goes in
         forgets_by going.0 (not_true (is_ended_in change w.entries) going.1) (slice_get setting.plans (change - 1)) refl (slice_get w.slots (change - 1)) refl)
@@ -258,16 +257,16 @@ module _ {Config TheEdit Node : Type 0} (m : Meaning Config TheEdit Node) (setti
     module _ (device : ℕ) (known : 1 ≤ device) where
       renews_by : is_ready_in w.entries change ≡ true → (plan : Option ChangePlan) → slice_get setting.plans (change - 1) ≡ plan
           → (found : Option SlotState) → slice_get w.slots (change - 1) ≡ found
-          → G (Renew change device) (by_manager w (renewed_by state change device plan found) (request_by state plan found device ask.Renew))
+          → G (Renew change device) (by_manager w (renewed_by state change device plan found))
       renews_by ready None planned found there = cases.nothing (Renew change device)
       renews_by ready (Some plan) planned None there = cases.nothing (Renew change device)
       renews_by ready (Some plan) planned (Some slot) there =
           cases.renews_timer change device (record { numbered = numbered; plan = plan; planned = planned; slot = slot; there = there }) known ready
 
-      renews_now : G (Renew change device) (by_manager w (manager.renewed setting.plans state change device) (request_to setting.plans state change device ask.Renew))
+      renews_now : G (Renew change device) (by_manager w (manager.renewed setting.plans state change device))
       renews_now =
           cond_both (is_ready_in w.entries change) (renewed_by state change device (slice_get setting.plans (change - 1)) (slot_at state change)) (manager.idle state)
-          (λ (step : Step). G (Renew change device) (by_manager w step (request_to setting.plans state change device ask.Renew)))
+          (λ (step : Step). G (Renew change device) (by_manager w step))
           (λ ready. renews_by ready (slice_get setting.plans (change - 1)) refl (slice_get w.slots (change - 1)) refl) (λ _. cases.nothing (Renew change device))
 
   -- ---- a device and a link
@@ -463,8 +462,8 @@ module _ {Config TheEdit Node : Type 0} (m : Meaning Config TheEdit Node) (setti
   comes (Submit change) given = submits_by change given (slice_get setting.plans (change - 1)) refl
   comes (Turn change) given = turns_if change given (is_ready_in w.entries change) refl
   comes (Deliver change device link) given = delivers_by change device link given (slice_get w.devices (device - 1)) refl
-  comes (Answer change device link number) given = hears_by change given.0 device link number given.1 (slice_get w.slots (change - 1)) refl
-  comes (Break change device) given = breaks_by change given.0 device given.1 (slice_get w.slots (change - 1)) refl
+  comes (Answer change device link number) given = hears_now change given.0 device link number given.1
+  comes (Break change device) given = breaks_now change given.0 device given.1
   comes (Lose change device link) given = loses_by change device link given (slice_get w.devices (device - 1)) refl
   comes (Advance device seconds) given = passes_by device seconds (slice_get w.devices (device - 1)) refl
   comes (Restart device) given = restarts_by device (slice_get w.devices (device - 1)) refl

@@ -22,8 +22,9 @@ use Rattle.nm_wire.specs.Asks.{ask_of}
 use Rattle.nm_wire.specs.Wire.{WireState, due, handled}
 use Rattle.nm_resync.specs.Resync.{ResyncState, settled_in}
 use Rattle.nm_manager.specs.Requests.{request_for}
-use Rattle.nm_manager.specs.Slot.{SideState, SlotState, with_pair, asked_in_fact, opens, may_go, gone, sends_if, sends_request, sends_on, sends, renews_if, renews_on, renews, settled_by, learns, resync_goes_on, receives_due, receives_on, receives, awaits_resync, breaks_current, breaks_on, breaks}
+use Rattle.nm_manager.specs.Slot.{SideState, SlotState, PairStep, SlotStep, with_pair, asked_in_fact, opens, may_go, sends_if, sends_request, sends, renews_if, renews, settled_by, learns, resync_goes_on, receives_due, receives, awaits_resync, breaks_current, breaks, on_side, sends_pair, renews_pair, receives_pair, breaks_pair}
 use Rattle.nm_manager.proofs.Kept.{asks_fit}
+use Rattle.nm_manager.proofs.Reach.{side_reached}
 use Rattle.nm_safety.specs.Step.{GoWith, GoesWith, IsSeated, IsInStep}
 use Rattle.nm_safety.proofs.Tables.{next_awaited, RenewsNow, renews_now}
 use Rattle.nm_safety.proofs.Pairs.{next_goes, goes_now}
@@ -38,6 +39,12 @@ pub record IsSameSet (before after : CourseState) : Type 0 where
 same_set : (c : CourseState) → IsSameSet c c
 same_set c = record { change = refl; verdict = refl }
 
+-- a step for a device, where it has a side
+on_same : (step : CourseState → SideState → PairStep) (slot : SlotState) (device : ℕ) → ((side : SideState) → IsSameSet slot.course (step slot.course side).course)
+    → IsSameSet slot.course (on_side step slot device (slice_get slot.sides (device - 1))).slot.course
+on_same step slot device same =
+    side_reached step slot device (λ (done : SlotStep). IsSameSet slot.course done.slot.course) (same_set slot.course) (λ side there. same side)
+
 module _ (plan : ChangePlan) (entries : List Entry) (slot : SlotState) (device : ℕ) where
   sent_at_same : (seat : Option Seat) → IsSameSet slot.course (course.with_sent_at slot.course device seat)
   sent_at_same None = same_set slot.course
@@ -47,33 +54,28 @@ module _ (plan : ChangePlan) (entries : List Entry) (slot : SlotState) (device :
   renewed_at_same None = same_set slot.course
   renewed_at_same (Some seat) = record { change = refl; verdict = refl }
 
-  if_same : (now : CourseState) (side : SideState) (links : WireState) → IsSameSet slot.course now → (b : Bool) → IsSameSet slot.course (sends_if b device slot.course now side links).course
-  if_same now side links same true = same
-  if_same now side links same false = same_set slot.course
+  if_same : (now : CourseState) (new : Bool) (side : SideState) (request : Request) → IsSameSet slot.course now → (b : Bool) → IsSameSet slot.course (sends_if b new device slot.course now side request).course
+  if_same now new side request same true = same
+  if_same now new side request same false = same_set slot.course
 
   request_same : (now : CourseState) (new : Bool) (side : SideState) → IsSameSet slot.course now → (found : Option Request) → IsSameSet slot.course (sends_request new device slot.course now side found).course
   request_same now new side same None = same_set slot.course
-  request_same now new side same (Some request) = if_same now side (gone new side.wire request) same (may_go new side.wire)
-
-  sent_on_same : (what : Ask) (found : Option SideState) → IsSameSet slot.course (sends_on plan entries slot device what found).slot.course
-  sent_on_same what None = same_set slot.course
-  sent_on_same what (Some side) =
-      request_same (course.with_sent slot.course device) (opens (asked_in_fact side.resync what)) side (sent_at_same (slice_get slot.course.seats (device - 1))) (request_for plan entries slot.course.change device (asked_in_fact side.resync what))
+  request_same now new side same (Some request) = if_same now new side request same (may_go new side.wire)
 
   pub sent_same : (what : Ask) → IsSameSet slot.course (sends plan entries slot device what).slot.course
-  sent_same what = sent_on_same what (slice_get slot.sides (device - 1))
+  sent_same what =
+      on_same (sends_pair plan entries device what) slot device
+      (λ side.
+      request_same (course.with_sent slot.course device) (opens (asked_in_fact side.resync what)) side (sent_at_same (slice_get slot.course.seats (device - 1)))
+      (request_for plan entries slot.course.change device (asked_in_fact side.resync what)))
 
   renews_same : (side : SideState) (b : Bool) → IsSameSet slot.course (renews_if b plan entries slot.course side device).course
   renews_same side false = same_set slot.course
   renews_same side true =
       request_same (course.with_renewed slot.course device) false side (renewed_at_same (slice_get slot.course.seats (device - 1))) (request_for plan entries slot.course.change device ask.Renew)
 
-  renewed_on_same : (found : Option SideState) → IsSameSet slot.course (renews_on plan entries slot device found).slot.course
-  renewed_on_same None = same_set slot.course
-  renewed_on_same (Some side) = renews_same side (course.may_renew slot.course device)
-
   pub renewed_same : IsSameSet slot.course (renews plan entries slot device).slot.course
-  renewed_same = renewed_on_same (slice_get slot.sides (device - 1))
+  renewed_same = on_same (renews_pair plan entries device) slot device (λ side. renews_same side (course.may_renew slot.course device))
 
 module _ (slot : SlotState) (device : ℕ) where
   answer_same : (reply : Reply) (seat : Seat) (awaited : Option Ask) → IsSameSet slot.course (course.with_answer slot.course device reply seat awaited)
@@ -109,12 +111,10 @@ module _ (slot : SlotState) (device : ℕ) where
   due_same resyncs side links None = same_set slot.course
   due_same resyncs side links (Some exchange) = learns_same resyncs exchange.reply (resync_goes_on resyncs side.resync exchange.reply)
 
-  received_on_same : (link number : ℕ) (found : Option SideState) → IsSameSet slot.course (receives_on slot device link number found).slot.course
-  received_on_same link number None = same_set slot.course
-  received_on_same link number (Some side) = due_same (awaits_resync (slice_get slot.course.seats (device - 1))) side (handled side.wire link number) (due side.wire link number)
-
   pub received_same : (link number : ℕ) → IsSameSet slot.course (receives slot device link number).slot.course
-  received_same link number = received_on_same link number (slice_get slot.sides (device - 1))
+  received_same link number =
+      on_same (receives_pair device link number) slot device
+      (λ side. due_same (awaits_resync (slice_get slot.course.seats (device - 1))) side (handled side.wire link number) (due side.wire link number))
 
   break_at_same : (seat : Option Seat) → IsSameSet slot.course (course.with_break_at slot.course device seat)
   break_at_same None = same_set slot.course
@@ -124,12 +124,8 @@ module _ (slot : SlotState) (device : ℕ) where
   current_same side None = same_set slot.course
   current_same side (Some number) = break_at_same (slice_get slot.course.seats (device - 1))
 
-  broken_on_same : (found : Option SideState) → IsSameSet slot.course (breaks_on slot device found).slot.course
-  broken_on_same None = same_set slot.course
-  broken_on_same (Some side) = current_same side side.wire.current
-
   pub broken_same : IsSameSet slot.course (breaks slot device).slot.course
-  broken_same = broken_on_same (slice_get slot.sides (device - 1))
+  broken_same = on_same (breaks_pair device) slot device (λ side. current_same side side.wire.current)
 
 -- ---- in step
 
@@ -146,7 +142,7 @@ module _ (change members : ℕ) (entries : List Entry) (slot : SlotState) (in_st
       (Some request) refl asks).stays
 
   sent_on_step : (device : ℕ) (what : Ask) (a : IsAsked slot.course device what) (found : Option SideState) → slice_get slot.sides (device - 1) ≡ found
-      → GoWith members slot.course.verdict (device - 1 + 1) (Some a.seat) found → IsInStep change members entries (sends_on plan entries slot device what found).slot
+      → GoWith members slot.course.verdict (device - 1 + 1) (Some a.seat) found → IsInStep change members entries (on_side (sends_pair plan entries device what) slot device found).slot
   sent_on_step device what a None there pair = absurd pair
   sent_on_step device what a (Some side) there pair =
       sent_by device what a side there pair (request_for plan entries slot.course.change device (asked_in_fact side.resync what)) (asks_fit plan entries slot.course.change device (asked_in_fact side.resync what))
@@ -167,9 +163,7 @@ module _ (change members : ℕ) (entries : List Entry) (slot : SlotState) (in_st
       (ap (course.with_renewed_at slot.course device) here) refl all.member all.may (goes_now slot.course.verdict seat side pair.1 all.quiet all.linked)
       (request_for plan entries slot.course.change device ask.Renew) refl (asks_fit plan entries slot.course.change device ask.Renew)).stays
 
-  renewed_on_step : (device : ℕ) → 1 ≤ device → (found : Option SideState) → slice_get slot.sides (device - 1) ≡ found → IsInStep change members entries (renews_on plan entries slot device found).slot
-  renewed_on_step device numbered None there = in_step
-  renewed_on_step device numbered (Some side) there = renewed_by device numbered (slice_get slot.course.seats (device - 1)) side refl there (course.may_renew slot.course device) refl
-
   pub renewed_in_step : (device : ℕ) → 1 ≤ device → IsInStep change members entries (renews plan entries slot device).slot
-  renewed_in_step device numbered = renewed_on_step device numbered (slice_get slot.sides (device - 1)) refl
+  renewed_in_step device numbered =
+      side_reached (renews_pair plan entries device) slot device (λ (done : SlotStep). IsInStep change members entries done.slot) in_step
+      (λ side there. renewed_by device numbered (slice_get slot.course.seats (device - 1)) side refl there (course.may_renew slot.course device) refl)

@@ -43,10 +43,17 @@ module _ {Config TheEdit Node : Type 0} (m : Meaning Config TheEdit Node) (setti
       → ((session : ℕ) → session_of link ≡ Some session → KeepsFor session r.device h.after × (session ≤ r.device.sessions.last))
       → P d (Some r) place link → P d (Some (recorded_with r event h)) place link
 
+  -- the same of a link that stands there
+  abbrev pub StaysThere : List SideState → ℕ → RecordedState Config Node → DeviceEvent → Happened Config Node → Type 0
+  StaysThere sides d r event h =
+      (side : SideState) → slice_get sides d ≡ Some side → (place : ℕ) (link : LinkState) → slice_get side.wire.links place ≡ Some link
+      → ((session : ℕ) → session_of link ≡ Some session → KeepsFor session r.device h.after × (session ≤ r.device.sessions.last))
+      → P d (Some r) place link → P d (Some (recorded_with r event h)) place link
+
   -- something happens that the change set doesn't ask for
   module _ (x : Site m setting B) (d : ℕ) (r : RecordedState Config Node) (here : slice_get x.w.devices d ≡ Some r) (known : IsDevice m (x.owners d) r)
       (event : DeviceEvent) (h : Happened Config Node) (happens : Happens m setting.tables r.device event h) (others : IsOthers x.change (x.owners d) r event)
-      (stays : Stays d r event h) (all : AllOf x.w.devices x.slot.sides) where
+      (stays : StaysThere x.slot.sides d r event h) (all : AllOf x.w.devices x.slot.sides) where
     keeps_at : (side : SideState) → slice_get x.slot.sides d ≡ Some side → (place : ℕ) (link : LinkState) → slice_get side.wire.links place ≡ Some link
         → (session : ℕ) → session_of link ≡ Some session → KeepsFor session r.device h.after × (session ≤ r.device.sessions.last)
     keeps_at side there place link found session is =
@@ -58,20 +65,26 @@ module _ {Config TheEdit Node : Type 0} (m : Meaning Config TheEdit Node) (setti
     links_there side there place =
         to_some (P d (Some (recorded_with r event h)) place) (slice_get side.wire.links place)
         (λ link found.
-        stays place link (keeps_at side there place link found)
+        stays side there place link found (keeps_at side there place link found)
         (subst (λ o. P d o place link) here
         (some_is link (P d (slice_get x.w.devices d) place) (slice_get side.wire.links place) found
         (links_at (λ j. P j (slice_get x.w.devices j)) x.slot all d side there place))))
 
-    pub links_aside : AllOf (slice_set x.w.devices d (recorded_with r event h)) x.slot.sides
-    links_aside =
+    pub links_aside_there : AllOf (slice_set x.w.devices d (recorded_with r event h)) x.slot.sides
+    links_aside_there =
         others_stay (λ j o. IfSome (slice_get x.slot.sides j) (λ side. (place : ℕ) → IfSome (slice_get side.wire.links place) (P j o place)))
         x.w.devices d r (recorded_with r event h) here
         (to_some (λ side. (place : ℕ) → IfSome (slice_get side.wire.links place) (P d (Some (recorded_with r event h)) place)) (slice_get x.slot.sides d) links_there)
         (λ j ne. all j)
 
+  module _ (x : Site m setting B) (d : ℕ) (r : RecordedState Config Node) (here : slice_get x.w.devices d ≡ Some r) (known : IsDevice m (x.owners d) r)
+      (event : DeviceEvent) (h : Happened Config Node) (happens : Happens m setting.tables r.device event h) (others : IsOthers x.change (x.owners d) r event)
+      (stays : Stays d r event h) (all : AllOf x.w.devices x.slot.sides) where
+    pub links_aside : AllOf (slice_set x.w.devices d (recorded_with r event h)) x.slot.sides
+    links_aside = links_aside_there x d r here known event h happens others (λ side there place link found. stays place link) all
+
   -- one of its links is told
-  module _ (x : Delivery m setting B) {event : DeviceEvent} (done : IsDone m setting B x event) (stays : Stays (x.device - 1) x.r event done.h)
+  module _ (x : Delivery m setting B) {event : DeviceEvent} (done : IsDone m setting B x event) (stays : StaysThere x.slot.sides (x.device - 1) x.r event done.h)
       (new : P (x.device - 1) (Some (device_then m setting B x done)) (x.link - 1) (told_on done.reply x.one)) (all : AllOf x.w.devices x.slot.sides) where
     abbrev d : ℕ
     d = x.device - 1
@@ -87,7 +100,7 @@ module _ {Config TheEdit Node : Type 0} (m : Meaning Config TheEdit Node) (setti
 
     other_link : (place : ℕ) → (place ≡ x.link - 1 → ⊥) → (link : LinkState) → slice_get x.side.wire.links place ≡ Some link → P d (Some after) place link
     other_link place ne link found =
-        stays place link (λ session is. (done.keeps place link found ne session is, (x.owned place link found).opened session is)) (link_here place link found)
+        stays x.side x.at_side place link found (λ session is. (done.keeps place link found ne session is, (x.owned place link found).opened session is)) (link_here place link found)
 
     told_there : (place : ℕ) → IfSome (slice_get (told x.side.wire x.link done.reply).links place) (P d (slice_get (devices_then m setting B x done) d) place)
     told_there place =
@@ -96,10 +109,15 @@ module _ {Config TheEdit Node : Type 0} (m : Meaning Config TheEdit Node) (setti
         (others_stay (λ j o. IfSome o (P d (Some after) j)) x.side.wire.links (x.link - 1) x.one (told_on done.reply x.one) x.at_place new
         (λ j ne. to_some (P d (Some after) j) (slice_get x.side.wire.links j) (other_link j ne)) place))
 
-    pub links_told : AllOf (devices_then m setting B x done) (slot_then m setting B x done).sides
-    links_told =
+    pub links_told_there : AllOf (devices_then m setting B x done) (slot_then m setting B x done).sides
+    links_told_there =
         others_stay (λ j o. IfSome o (λ side. (place : ℕ) → IfSome (slice_get side.wire.links place) (P j (slice_get (devices_then m setting B x done) j) place)))
         x.slot.sides d x.side (with_wire x.side (told x.side.wire x.link done.reply)) x.at_side told_there
         (λ j ne.
         subst (λ o. IfSome (slice_get x.slot.sides j) (λ side. (place : ℕ) → IfSome (slice_get side.wire.links place) (P j o place)))
         (sym (set_other x.w.devices d j after ne)) (all j))
+
+  module _ (x : Delivery m setting B) {event : DeviceEvent} (done : IsDone m setting B x event) (stays : Stays (x.device - 1) x.r event done.h)
+      (new : P (x.device - 1) (Some (device_then m setting B x done)) (x.link - 1) (told_on done.reply x.one)) (all : AllOf x.w.devices x.slot.sides) where
+    pub links_told : AllOf (devices_then m setting B x done) (slot_then m setting B x done).sides
+    links_told = links_told_there x done (λ side there place link found. stays place link) new all

@@ -24,8 +24,9 @@ use Rattle.nm_wire.specs.Asks.{ask_of}
 use Rattle.nm_wire.specs.Wire.{WireState, handled_at, due}
 use Rattle.nm_manager.specs.Requests.{request_for}
 use Rattle.nm_manager.proofs.Kept.{asks_fit}
+use Rattle.nm_manager.proofs.Reach.{side_reached}
 use Rattle.nm_manager.specs.Manager.{starts_anew}
-use Rattle.nm_manager.specs.Slot.{SideState, SlotState, with_pair, with_wire, asked_in_fact, opens, may_go, gone, sends_if, sends_request, sends_on, sends, renews_if, renews_on, renews, breaks_current, breaks_on, breaks, cut_off, to_commit, is_commit, anew, decided, lost_memory, is_resync, awaits_resync, settled_by, hears, receives_due, receives_on, receives, wires_on}
+use Rattle.nm_manager.specs.Slot.{SideState, SlotState, PairStep, SlotStep, with_pair, with_wire, asked_in_fact, opens, may_go, gone, sends_if, sends_request, sends, renews_if, renews, breaks_current, breaks, cut_off, to_commit, is_commit, anew, decided, lost_memory, is_resync, awaits_resync, settled_by, hears, receives_due, receives, wires_on, on_side, sends_pair, renews_pair, receives_pair, breaks_pair}
 use Rattle.nm_safety.specs.Step.{GoesWith, IsInStep}
 use Rattle.nm_safety.proofs.Places.{both_set, set_same}
 use Rattle.nm_safety.proofs.Wires.{IsDue, due_is}
@@ -79,6 +80,12 @@ module _ (Q : OfPair) (change members : ℕ) (entries : List Entry) (slot : Slot
   some_seat place side None here there = absurd (pair_at change members entries slot in_step place None (Some side) here there)
   some_seat place side (Some seat) here there = refl
 
+  -- a step for a device, where it has a side
+  on_pairs : (step : CourseState → SideState → PairStep) (device : ℕ)
+      → ((side : SideState) → slice_get slot.sides (device - 1) ≡ Some side → Known (with_pair slot device (step slot.course side)).slot)
+      → Known (on_side step slot device (slice_get slot.sides (device - 1))).slot
+  on_pairs step device = side_reached step slot device (λ (done : SlotStep). Known done.slot) all
+
   -- ---- the next request goes out
 
   module _ (device : ℕ) (what : Ask)
@@ -94,8 +101,7 @@ module _ (Q : OfPair) (change members : ℕ) (entries : List Entry) (slot : Slot
       sent_course = ap (course.with_sent_at slot.course device) a.here
 
       sent_if : (request : Request) → ask_of request ≡ asked_in_fact side.resync what → (b : Bool) → may_go new side.wire ≡ b
-          → Known (with_pair slot device (sends_if b device slot.course (course.with_sent slot.course device) side
-          (gone new side.wire request))).slot
+          → Known (with_pair slot device (sends_if b new device slot.course (course.with_sent slot.course device) side request)).slot
       sent_if request is false e = unmoved (device - 1) side there
       sent_if request is true e =
           stepped (course.with_sent slot.course device) (device - 1) a.seat (asked_next v a.seat) side
@@ -107,15 +113,12 @@ module _ (Q : OfPair) (change members : ℕ) (entries : List Entry) (slot : Slot
       sent_request None is = unmoved (device - 1) side there
       sent_request (Some request) is = sent_if request is (may_go new side.wire) refl
 
-    sent_on : (plan : ChangePlan) → IsAsked slot.course device what → (found : Option SideState)
-        → slice_get slot.sides (device - 1) ≡ found → Known (sends_on plan entries slot device what found).slot
-    sent_on plan a None there = all
-    sent_on plan a (Some side) there =
-        sent_request a side there (request_for plan entries slot.course.change device (asked_in_fact side.resync what))
-        (asks_fit plan entries slot.course.change device (asked_in_fact side.resync what))
-
     pub sent_pairs : (plan : ChangePlan) → next_action slot.course ≡ Send device what → Known (sends plan entries slot device what).slot
-    sent_pairs plan h = sent_on plan (asked slot.course device what h) (slice_get slot.sides (device - 1)) refl
+    sent_pairs plan h =
+        on_pairs (sends_pair plan entries device what) device
+        (λ side there.
+        sent_request (asked slot.course device what h) side there (request_for plan entries slot.course.change device (asked_in_fact side.resync what))
+        (asks_fit plan entries slot.course.change device (asked_in_fact side.resync what)))
 
   -- ---- a timer is set anew
 
@@ -125,8 +128,7 @@ module _ (Q : OfPair) (change members : ℕ) (entries : List Entry) (slot : Slot
       → Q (device - 1) v (renewed seat) (with_wire side (gone false side.wire request))) where
     renewed_if : (seat : Seat) (side : SideState) → slice_get slot.course.seats (device - 1) ≡ Some seat
         → slice_get slot.sides (device - 1) ≡ Some side → (request : Request) → ask_of request ≡ ask.Renew → (b : Bool) → may_go false side.wire ≡ b
-        → Known (with_pair slot device (sends_if b device slot.course (course.with_renewed slot.course device) side
-        (gone false side.wire request))).slot
+        → Known (with_pair slot device (sends_if b false device slot.course (course.with_renewed slot.course device) side request)).slot
     renewed_if seat side here there request is false e = unmoved (device - 1) side there
     renewed_if seat side here there request is true e =
         let same : course.with_renewed slot.course device ≡ course.with_seat slot.course device (renewed seat) =
@@ -151,13 +153,8 @@ module _ (Q : OfPair) (change members : ℕ) (entries : List Entry) (slot : Slot
         renewed_request (slice_get slot.course.seats (device - 1)) side refl there
         (request_for plan entries slot.course.change device ask.Renew) (asks_fit plan entries slot.course.change device ask.Renew)
 
-    renewed_on : (plan : ChangePlan) (found : Option SideState) → slice_get slot.sides (device - 1) ≡ found
-        → Known (renews_on plan entries slot device found).slot
-    renewed_on plan None there = all
-    renewed_on plan (Some side) there = renewed_by plan side there (course.may_renew slot.course device)
-
     pub renewed_pairs : (plan : ChangePlan) → Known (renews plan entries slot device).slot
-    renewed_pairs plan = renewed_on plan (slice_get slot.sides (device - 1)) refl
+    renewed_pairs plan = on_pairs (renews_pair plan entries device) device (λ side there. renewed_by plan side there (course.may_renew slot.course device))
 
   -- ---- a link breaks
 
@@ -178,12 +175,9 @@ module _ (Q : OfPair) (change members : ℕ) (entries : List Entry) (slot : Slot
         (ap (λ c. c.verdict) is) (ap (λ c. c.seats) is)
         (cut seat side (pair_there (device - 1) seat side here there) (known_at (device - 1) seat side here there))
 
-    broken_on : (found : Option SideState) → slice_get slot.sides (device - 1) ≡ found → Known (breaks_on slot device found).slot
-    broken_on None there = all
-    broken_on (Some side) there = breaks_here side (slice_get slot.course.seats (device - 1)) refl there side.wire.current
-
     pub broken_pairs : Known (breaks slot device).slot
-    broken_pairs = broken_on (slice_get slot.sides (device - 1)) refl
+    broken_pairs =
+        on_pairs (breaks_pair device) device (λ side there. breaks_here side (slice_get slot.course.seats (device - 1)) refl there side.wire.current)
 
   -- ---- a reply is handled
 
@@ -255,13 +249,10 @@ module _ (Q : OfPair) (change members : ℕ) (entries : List Entry) (slot : Slot
     due_knows side (Some seat) here there (Some exchange) e =
         hears_knows side seat here there exchange (due_is side.wire link number exchange e) seat.awaited refl (is_resync seat.awaited) refl
 
-    received_on : (found : Option SideState) → slice_get slot.sides (device - 1) ≡ found → Known (receives_on slot device link number found).slot
-    received_on None there = all
-    received_on (Some side) there =
-        due_knows side (slice_get slot.course.seats (device - 1)) refl there (due side.wire link number) refl
-
     pub received_pairs : Known (receives slot device link number).slot
-    received_pairs = received_on (slice_get slot.sides (device - 1)) refl
+    received_pairs =
+        on_pairs (receives_pair device link number) device
+        (λ side there. due_knows side (slice_get slot.course.seats (device - 1)) refl there (due side.wire link number) refl)
 
 -- ---- sides of links end
 
@@ -325,7 +316,7 @@ module _ (Q : OfPair) (members : ℕ) (sides : List SideState) (commit : Bool) w
     seats_first device (suc count) (suc j) = seats_first (device + 1) count j
 
     -- each seat stands at this stage, and no link is current
-    begun_pairs : (now : CourseState) → now.verdict ≡ decided → now.seats ≡ seats_from members first 1 seat_count
+    pub begun_pairs : (now : CourseState) → now.verdict ≡ decided → now.seats ≡ seats_from members first 1 seat_count
         → AllPairs Q now.verdict (record { course = now; sides = map (cut_off commit) sides })
     begun_pairs now same seats j =
         subst (λ d. PairAt Q j d (slice_get now.seats j) (slice_get (map (cut_off commit) sides) j)) (sym same)
@@ -359,3 +350,17 @@ module _ (Q : OfPair) (slot : SlotState) (entries : List Entry) (change members 
 
   pub anew_pairs : AllPairs Q (starts_anew entries change members slot).course.verdict (starts_anew entries change members slot)
   anew_pairs = anew_by (is_started change entries && not (is_ended_in change entries))
+
+-- ---- something else is kept of each
+
+module _ (P Q : OfPair) (before after : Option Verdict) (slot : SlotState)
+    (step : (place : ℕ) (seat : Seat) (side : SideState) → slice_get slot.course.seats place ≡ Some seat → slice_get slot.sides place ≡ Some side
+    → P place before seat side → Q place after seat side) where
+  other_at : (place : ℕ) (seat : Option Seat) (side : Option SideState) → slice_get slot.course.seats place ≡ seat → slice_get slot.sides place ≡ side
+      → PairAt P place before seat side → PairAt Q place after seat side
+  other_at place None side here there k = tt
+  other_at place (Some seat) None here there k = tt
+  other_at place (Some seat) (Some side) here there k = step place seat side here there k
+
+  pub pairs_map : AllPairs P before slot → AllPairs Q after slot
+  pairs_map all j = other_at j (slice_get slot.course.seats j) (slice_get slot.sides j) refl refl (all j)

@@ -15,7 +15,7 @@ use Rattle.nm_device.specs.Device.{is_manager}
 use Rattle.nm_history.specs.declared.event.DeviceEvent.{DeviceEvent}
 use Rattle.nm_history.specs.declared.event.DeviceEvent.TheVariants.{Entered, Asked, Lost, Advanced, Restarted}
 use Rattle.nm_history.specs.History.{RecordedState}
-use Rattle.nm_device_laws.specs.Token.{names_token}
+use Rattle.nm_device_laws.specs.Token.{leaves_token, names_token}
 use Rattle.nm_device_laws.proofs.Keeping.{session_kept}
 use Rattle.nm_wire.specs.declared.link.Way.TheVariants as way
 use Rattle.nm_wire.specs.Asks.{ask_of}
@@ -55,11 +55,16 @@ pub apart : (owners : Owners) (u session : ℕ) (one other : LinkName) → owner
 apart owners u session one other a b ne = apart_by owners u session one other a b ne (u == session) refl
 
 -- who isn't the manager leaves reserved tokens alone
-kept_out : (named reserved managed : Bool) → reserved ≡ true → managed ≡ false → not (named && (not reserved || managed)) ≡ true
+pub kept_out : (named reserved managed : Bool) → reserved ≡ true → managed ≡ false → not (named && (not reserved || managed)) ≡ true
 kept_out named reserved managed r m = grind (arith, nat_tests)
 
 reserved : (c : ℕ) → is_reserved (token_of c) ≡ true
 reserved c = refl
+
+pub stranger_leaves : {Config Node : Type 0} (r : RecordedState Config Node) (session : ℕ) (request : Request) → is_manager (user_of r.device.sessions session) ≡ false
+    → (change : ℕ) → leaves_token (token_of change) r.device (Asked session request) ≡ true
+stranger_leaves r session request stranger change =
+    kept_out (names_token (token_of change) request) (is_reserved (token_of change)) (is_manager (user_of r.device.sessions session)) (reserved change) stranger
 
 -- ---- what nobody asks for
 
@@ -109,9 +114,7 @@ module _ {Config TheEdit Node : Type 0} (m : Meaning Config TheEdit Node) (setti
     pub asked_others : is_open a.r.device.sessions session ≡ true → (request : Request) (change : ℕ) → IsOthers change (s.owners (device - 1)) a.r (Asked session request)
     asked_others opened request change = record {
       asker = λ other place own. not_owned other change place own (session == other) refl;
-      token =
-          kept_out (names_token (token_of change) request) (is_reserved (token_of change)) (is_manager (user_of a.r.device.sessions session)) (reserved change)
-          (not_managed opened);
+      token = stranger_leaves a.r session request (not_managed opened) change;
     }
 
 module _ {Config TheEdit Node : Type 0} (m : Meaning Config TheEdit Node) (setting : Setting TheEdit) (B : WorldState Config Node → Type 0) (w : WorldState Config Node) (b : B w)

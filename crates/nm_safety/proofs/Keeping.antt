@@ -1,7 +1,8 @@
 -- What is owed at each kind of step for each change set and each device is owed at every event for all of them.
-use Rattle.std.proofs.Common.{ℕ, ◌≡◌, ◌∙◌, zero, suc, ◌+◌, ◌-◌, ◌≤◌, true, false, List, [], ◌∷◌, ◌++◌, length, Option, Some, None, IfSome, option_map, slice_get, slice_set, refl, sym, ap, subst, arith}
+use Rattle.std.proofs.Common.{ℕ, ◌≡◌, ◌∙◌, zero, suc, ◌+◌, ◌-◌, ◌≤◌, Bool, true, false, List, [], ◌∷◌, ◌++◌, length, Option, Some, None, IfSome, option_map, slice_get, slice_set, refl, sym, ap, subst, arith}
 use Rattle.std.specs.List.{All}
 use Rattle.std.proofs.lemmas.Option.{none-some, same_Some, slice_get-map}
+use Rattle.nm_base.specs.declared.mask.DeviceMask.{DeviceMask}
 use Rattle.nm_proto.specs.declared.message.Request.{Request}
 use Rattle.nm_proto.specs.declared.message.Request.TheVariants.{OpenSession}
 use Rattle.nm_proto.specs.declared.journal.Entry.{Entry}
@@ -16,7 +17,10 @@ use Rattle.nm_history.specs.declared.event.DeviceEvent.{DeviceEvent}
 use Rattle.nm_history.specs.declared.event.DeviceEvent.TheVariants.{Entered, Asked, Lost, Advanced, Restarted}
 use Rattle.nm_history.specs.History.{Happened, RecordedState, advancing, recorded_with, restarting}
 use Rattle.nm_device_laws.specs.Moment.{Happens}
+use Rattle.nm_decider.specs.declared.course.NextAction.TheVariants.{Finish}
+use Rattle.nm_decider.specs.Course.{next_action}
 use Rattle.nm_wire.specs.Wire.{outstanding_at}
+use Rattle.nm_manager.specs.Queues.{is_ready_in}
 use Rattle.nm_manager.specs.Slot.{SlotState, breaks, decided, lost_memory, lost_wire, receives, renews, restarted_slot, sends, wires_on}
 use Rattle.nm_manager.specs.Manager.{start_anew, start_of, starts_anew}
 use Rattle.nm_world.specs.World.{Setting, CoreState, WorldState, Came, passed, run, core_of, world_step}
@@ -24,7 +28,7 @@ use Rattle.nm_world.proofs.Passing.{is_round}
 use Rattle.nm_safety.specs.Safe.{IsGiven, AreGiven}
 use Rattle.nm_safety.specs.Support.{IsDevice, IsSupported, KeptAt}
 use Rattle.nm_safety.specs.Cases.{Cases, IsLink, IsSlot}
-use Rattle.nm_safety.specs.Keeping.{AreKept, Both, Delivery, IsDone, IsOthers, Keeps, OfDevice, OfSlot, Site}
+use Rattle.nm_safety.specs.Keeping.{AreKept, Both, Delivery, IsComing, IsDone, IsOthers, Keeps, KeepsBy, MayCome, OfDevice, OfSlot, Site}
 use Rattle.nm_safety.proofs.Steps.{run_keeps_each}
 use Rattle.nm_safety.proofs.Cases.{comes}
 use Rattle.nm_safety.proofs.Lists.{at_set, some_is, to_some}
@@ -48,10 +52,19 @@ anew_at entries base (one ∷ plans) (slot ∷ slots) (suc place) plan planned =
     let number : suc base + place ≡ base + suc place = omega arith in
     anew_at entries (suc base) plans slots place plan planned ∙ ap (λ n. option_map (starts_anew entries n (devices_in plan.edits)) (slice_get slots place)) number
 
+-- the entry ends a change set
+abbrev is_end : Entry → Bool
+is_end (Ended change kept) = true
+is_end _ = false
+
+no_end : {A : Type 0} → false ≡ true → A
+no_end e = absurd (let g : false ≡ true = e in cc)
+
 module _ {Config TheEdit Node : Type 0} (m : Meaning Config TheEdit Node) (laws : Laws m) (setting : Setting TheEdit) (edits : All m.edit_belongs setting.tables.edits)
     (few : length setting.plans ≤ 64) (strangers : (number : ℕ) → IfSome (slice_get setting.users number) (λ user. is_manager (Some user) ≡ false))
     (B : WorldState Config Node → Type 0) (supported : (w : WorldState Config Node) → B w → IsSupported m setting (core_of w))
-    (S : OfSlot Config Node) (D : OfDevice Config Node) (keeps : Keeps m setting B S D)
+    (S : OfSlot Config Node) (D : OfDevice Config Node) (Comes : Site m setting B → Entry → Type 0)
+    (coming : (x : Site m setting B) (entry : Entry) → IsComing m setting B x entry → Comes x entry) (keeps : KeepsBy m setting B S D Comes)
     (w : WorldState Config Node) (b : B w) (k : AreKept setting S D (core_of w)) where
   s : IsSupported m setting (core_of w)
   s = supported w b
@@ -115,16 +128,34 @@ module _ {Config TheEdit Node : Type 0} (m : Meaning Config TheEdit Node) (laws 
   -- an entry comes
 
   module _ (entry : Entry) (may : may_follow w.entries entry ≡ true) where
-    slots_entered : (j : ℕ) → decides (suc j) entry ≡ false → (q : ChangePlan) → slice_get setting.plans j ≡ Some q
-        → IfSome (slice_get w.slots j) (S (suc j) q (w.entries ++ entry ∷ []) w.devices)
-    slots_entered j plain q planned =
-        to_some (S (suc j) q (w.entries ++ entry ∷ []) w.devices) (slice_get w.slots j)
-        (λ slot there. keeps.entered (site_at j q planned slot there) entry plain may (slot_here j q planned slot there))
+    -- where it ends a change set only at the end of its course
+    module _ (ends : (j : ℕ) (slot : SlotState) → slice_get w.slots j ≡ Some slot → (kept : DeviceMask) → entry ≡ Ended (suc j) kept
+        → (is_ready_in w.entries (suc j) ≡ true) × (next_action slot.course ≡ Finish kept)) where
+      slots_entered : (j : ℕ) → decides (suc j) entry ≡ false → (q : ChangePlan) → slice_get setting.plans j ≡ Some q
+          → IfSome (slice_get w.slots j) (S (suc j) q (w.entries ++ entry ∷ []) w.devices)
+      slots_entered j plain q planned =
+          to_some (S (suc j) q (w.entries ++ entry ∷ []) w.devices) (slice_get w.slots j)
+          (λ slot there.
+          let may_come : IsComing m setting B (site_at j q planned slot there) entry = record { may = may; ends = ends j slot there } in
+          keeps.entered (site_at j q planned slot there) entry plain (coming (site_at j q planned slot there) entry may_come) (slot_here j q planned slot there))
 
     devices_entered : (place : ℕ) → IfSome (slice_get w.devices place) (D (w.entries ++ entry ∷ []) place)
     devices_entered place =
         to_some (D (w.entries ++ entry ∷ []) place) (slice_get w.devices place)
         (λ r here. keeps.entered_beside w b entry may place r here (some_is r (D w.entries place) (slice_get w.devices place) here (k.devices place)))
+
+  -- the change set that an entry ends is at the end of its course
+  ends_by : (change : ℕ) (a : IsSlot (core_of w) change) → is_ready_in w.entries change ≡ true → (kept : DeviceMask) → next_action a.slot.course ≡ Finish kept
+      → (j : ℕ) (slot : SlotState) → slice_get w.slots j ≡ Some slot → (mask : DeviceMask) → Ended change kept ≡ Ended (suc j) mask
+      → (is_ready_in w.entries (suc j) ≡ true) × (next_action slot.course ≡ Finish mask)
+  ends_by change a ready kept acts j slot there mask e =
+      let number : change ≡ suc j = cc in
+      let same : kept ≡ mask = cc in
+      let one : a.slot ≡ slot = same_Some a.slot slot (sym a.there ∙ ap (slice_get w.slots) (sym (place_of change j number)) ∙ there) in
+      (subst (λ n. is_ready_in w.entries n ≡ true) number ready, ap (λ (x : SlotState). next_action x.course) (sym one) ∙ acts ∙ ap Finish same)
+    where
+      place_of : (change j : ℕ) → change ≡ suc j → j ≡ change - 1
+      place_of change j e = omega (arith, e)
 
   -- ---- something happens at a device
 
@@ -185,7 +216,7 @@ module _ {Config TheEdit Node : Type 0} (m : Meaning Config TheEdit Node) (laws 
   cases = record {
     nothing = λ event later. k;
     starts = λ change numbered plan planned may later. record {
-      slots = λ j q found. slots_entered (start_of change plan) may j refl q found;
+      slots = λ j q found. slots_entered (start_of change plan) may (λ i slot there kept e. no_end (ap is_end e)) j refl q found;
       devices = devices_entered (start_of change plan) may;
     };
     decides = λ change a ready v acts may later. record {
@@ -193,11 +224,11 @@ module _ {Config TheEdit Node : Type 0} (m : Meaning Config TheEdit Node) (laws 
           (λ plan planned.
           slots_with change a (w.entries ++ Decided change v ∷ []) w.devices plan planned (decided a.slot v)
           (keeps.decides_on (site_of change a plan planned) v ready acts may (slot_now change a plan planned))
-          (λ j ne q found. slots_entered (Decided change v) may j (not_same j change (λ e. ne (before change j e)) (decides (suc j) (Decided change v)) refl) q found));
+          (λ j ne q found. slots_entered (Decided change v) may (λ i slot there kept e. no_end (ap is_end e)) j (not_same j change (λ e. ne (before change j e)) (decides (suc j) (Decided change v)) refl) q found));
       devices = devices_entered (Decided change v) may;
     };
     finishes = λ change a ready kept acts may later. record {
-      slots = λ j q found. slots_entered (Ended change kept) may j refl q found;
+      slots = λ j q found. slots_entered (Ended change kept) may (ends_by change a ready kept acts) j refl q found;
       devices = devices_entered (Ended change kept) may;
     };
     sends_out = λ change a ready device what acts later.
@@ -350,17 +381,28 @@ module _ {Config TheEdit Node : Type 0} (m : Meaning Config TheEdit Node) (laws 
     (few : length setting.plans ≤ 64) (strangers : (number : ℕ) → IfSome (slice_get setting.users number) (λ user. is_manager (Some user) ≡ false))
     (B : WorldState Config Node → Type 0) (supported : (w : WorldState Config Node) → B w → IsSupported m setting (core_of w))
     (known : (w : WorldState Config Node) (event : Event) → IsGiven setting event → is_round event ≡ false → B w → B (world_step m setting w event))
-    (S : OfSlot Config Node) (D : OfDevice Config Node) (keeps : Keeps m setting B S D) where
-  pub one_kept : (w : WorldState Config Node) (event : Event) → IsGiven setting event → is_round event ≡ false → Both setting B S D w
-      → Both setting B S D (world_step m setting w event)
-  one_kept w event given single k =
-      let b : B (world_step m setting w event) = known w event given single k.before in
-      record {
-        before = b;
-        own = comes m setting (core_of w) (In m laws setting edits few strangers B supported S D keeps w k.before k.own)
-            (cases m laws setting edits few strangers B supported S D keeps w k.before k.own) event given b;
-      }
+    (S : OfSlot Config Node) (D : OfDevice Config Node) where
+  module _ (Comes : Site m setting B → Entry → Type 0) (coming : (x : Site m setting B) (entry : Entry) → IsComing m setting B x entry → Comes x entry)
+      (keeps : KeepsBy m setting B S D Comes) where
+    pub one_kept_by : (w : WorldState Config Node) (event : Event) → IsGiven setting event → is_round event ≡ false → Both setting B S D w
+        → Both setting B S D (world_step m setting w event)
+    one_kept_by w event given single k =
+        let b : B (world_step m setting w event) = known w event given single k.before in
+        record {
+          before = b;
+          own = comes m setting (core_of w) (In m laws setting edits few strangers B supported S D Comes coming keeps w k.before k.own)
+              (cases m laws setting edits few strangers B supported S D Comes coming keeps w k.before k.own) event given b;
+        }
 
-  pub run_kept : (w : WorldState Config Node) (events : List Event) → AreGiven setting events → Both setting B S D w
-      → Both setting B S D (run m setting w events)
-  run_kept w events given k = run_keeps_each m setting (Both setting B S D) one_kept w events given k
+    pub run_kept_by : (w : WorldState Config Node) (events : List Event) → AreGiven setting events → Both setting B S D w
+        → Both setting B S D (run m setting w events)
+    run_kept_by w events given k = run_keeps_each m setting (Both setting B S D) one_kept_by w events given k
+
+  module _ (keeps : Keeps m setting B S D) where
+    pub one_kept : (w : WorldState Config Node) (event : Event) → IsGiven setting event → is_round event ≡ false → Both setting B S D w
+        → Both setting B S D (world_step m setting w event)
+    one_kept w event given single k = one_kept_by (MayCome m setting B) (λ x entry is. is.may) keeps w event given single k
+
+    pub run_kept : (w : WorldState Config Node) (events : List Event) → AreGiven setting events → Both setting B S D w
+        → Both setting B S D (run m setting w events)
+    run_kept w events given k = run_keeps_each m setting (Both setting B S D) one_kept w events given k

@@ -10,11 +10,12 @@ use Rattle.nm_journal.specs.Entries.{decides, ends, may_follow}
 use Rattle.nm_history.specs.History.{RecordedState}
 use Rattle.nm_recovery.specs.Recovery.{is_started, is_ended_in, verdict_in}
 use Rattle.nm_decider.specs.declared.course.NextAction.TheVariants.{Send, Decide}
-use Rattle.nm_decider.specs.Course.{next_action}
+use Rattle.nm_decider.specs.Course.{CourseState, next_action}
 use Rattle.nm_wire.specs.Link.{LinkState}
 use Rattle.nm_wire.specs.Wire.{WireState, broken, due, handled}
 use Rattle.nm_manager.specs.Requests.{request_for}
-use Rattle.nm_manager.specs.Slot.{SideState, SlotState, with_pair, sends, renews, receives, receives_on, receives_due, awaits_resync, breaks, breaks_on, breaks_current, to_commit, decided, lost_memory}
+use Rattle.nm_manager.specs.Slot.{SideState, SlotState, PairStep, SlotStep, with_pair, sends, renews, receives, receives_due, awaits_resync, breaks, breaks_current, to_commit, decided, lost_memory, on_side, receives_pair, breaks_pair}
+use Rattle.nm_manager.proofs.Reach.{side_reached}
 use Rattle.nm_safety.specs.Slots.{AllHold}
 use Rattle.nm_safety.proofs.Places.{set_same, verdict_same, verdict_new}
 use Rattle.nm_safety.proofs.Slots.{sent_holds, renewed_holds, received_holds, broken_holds, forgotten_holds, decided_holds}
@@ -88,13 +89,16 @@ module _ {Config Node : Type 0} (change members : ℕ) (owners : ℕ → Owners)
         subst (λ told. Kept entries (with_pair slot device (receives_due (awaits_resync (slice_get slot.course.seats (device - 1))) slot.course side device (handled side.wire link number) told)).slot)
         (sym (none_current side.wire link number cut)) (unmoved_kept (device - 1) side there)
 
-    rest_received : (device link number : ℕ) → IsAtRest change members entries slot → (found : Option SideState) → slice_get slot.sides (device - 1) ≡ found → Kept entries (receives_on slot device link number found).slot
-    rest_received device link number rest None there = k
-    rest_received device link number rest (Some side) there =
-        rest_due device link number side there (some_is side (λ one. one.wire.current ≡ None) (slice_get slot.sides (device - 1)) there (rest.cut (device - 1)))
+    -- a step for a device, where all is at rest
+    on_rest : (step : CourseState → SideState → PairStep) (device : ℕ) → IsAtRest change members entries slot
+        → ((side : SideState) → slice_get slot.sides (device - 1) ≡ Some side → side.wire.current ≡ None → Kept entries (with_pair slot device (step slot.course side)).slot)
+        → Kept entries (on_side step slot device (slice_get slot.sides (device - 1))).slot
+    on_rest step device rest goes =
+        side_reached step slot device (λ (done : SlotStep). Kept entries done.slot) k
+        (λ side there. goes side there (some_is side (λ one. one.wire.current ≡ None) (slice_get slot.sides (device - 1)) there (rest.cut (device - 1))))
 
     received_by : (device link number : ℕ) → 1 ≤ device → (slot.course.verdict ≡ verdict_in change entries) ⊎ IsAtRest change members entries slot → Kept entries (receives slot device link number).slot
-    received_by device link number numbered (inr rest) = rest_received device link number rest (slice_get slot.sides (device - 1)) refl
+    received_by device link number numbered (inr rest) = on_rest (receives_pair device link number) device rest (rest_due device link number)
     received_by device link number numbered (inl of_entries) = record {
       numbered = (received_same slot device link number).change ∙ k.numbered;
       in_step = received_stays change members entries slot k.in_step device numbered link number;
@@ -112,13 +116,8 @@ module _ {Config Node : Type 0} (change members : ℕ) (owners : ℕ → Owners)
     rest_breaks device side there cut =
         subst (λ current. Kept entries (with_pair slot device (breaks_current slot.course side device current)).slot) (sym cut) (unmoved_kept (device - 1) side there)
 
-    rest_broken : (device : ℕ) → IsAtRest change members entries slot → (found : Option SideState) → slice_get slot.sides (device - 1) ≡ found → Kept entries (breaks_on slot device found).slot
-    rest_broken device rest None there = k
-    rest_broken device rest (Some side) there =
-        rest_breaks device side there (some_is side (λ one. one.wire.current ≡ None) (slice_get slot.sides (device - 1)) there (rest.cut (device - 1)))
-
     broken_by : (device : ℕ) → 1 ≤ device → (slot.course.verdict ≡ verdict_in change entries) ⊎ IsAtRest change members entries slot → Kept entries (breaks slot device).slot
-    broken_by device numbered (inr rest) = rest_broken device rest (slice_get slot.sides (device - 1)) refl
+    broken_by device numbered (inr rest) = on_rest (breaks_pair device) device rest (rest_breaks device)
     broken_by device numbered (inl of_entries) = record {
       numbered = (broken_same slot device).change ∙ k.numbered;
       in_step = broken_stays change members entries slot k.in_step device numbered;

@@ -24,6 +24,7 @@ pub mod Lists
 pub mod Devices
 pub mod Sound
 pub mod Entries
+pub mod Ready
 pub mod SlotLinks
 pub mod Ours
 pub mod Courses
@@ -35,6 +36,7 @@ pub mod Numbers
 pub mod Alone
 pub mod Others
 pub mod Cases
+pub mod Tickets
 pub mod Replies
 pub mod Ends
 pub mod Own
@@ -48,6 +50,7 @@ pub mod Steps
 pub mod Keeping
 pub mod EachLink
 pub mod EachPair
+pub mod LinkPairs
 pub mod Along
 pub mod Runs
 pub mod Safely

@@ -38,9 +38,10 @@ use Rattle.nm_wire.specs.declared.link.Way.TheVariants.{Quiet, Asked, Told}
 use Rattle.nm_wire.specs.Link.{LinkState, asked_on, outstanding, told_by, told_on, closed_link}
 use Rattle.nm_wire.specs.Wire.{WireState, due, handled_at, outstanding_at, link_at, current_link, told, lost, restarted}
 use Rattle.nm_manager.specs.Requests.{request_for, edit_for, edit_request}
-use Rattle.nm_manager.specs.Slot.{SideState, SlotState, SlotStep, with_pair, with_wire, asked_in_fact, opens, may_go, gone, sends_if, sends_request, sends_on, sends, renews_if, renews_on, renews, is_resync, awaits_resync, settled_by, hears, receives_due, receives_on, receives, breaks_current, breaks_on, breaks, anew, cut_off, is_commit, to_commit, decided, lost_memory, fresh_slot, fresh_side, wires_on}
+use Rattle.nm_manager.specs.Slot.{SideState, SlotState, PairStep, SlotStep, with_pair, with_wire, asked_in_fact, opens, may_go, gone, sends_if, sends_request, sends, renews_if, renews, is_resync, awaits_resync, settled_by, hears, receives_due, receives, breaks_current, breaks, anew, cut_off, is_commit, to_commit, decided, lost_memory, fresh_slot, fresh_side, wires_on, on_side, sends_pair, renews_pair, receives_pair, breaks_pair}
 use Rattle.nm_manager.specs.Manager.{starts_anew}
 use Rattle.nm_manager.proofs.Kept.{asks_fit}
+use Rattle.nm_manager.proofs.Reach.{side_reached}
 use Rattle.nm_safety.specs.Step.{GoWith, GoesWith, IsSeated, IsInStep, IsPlanned, is_recorded, is_sent, may_await, has_number, is_fair, way_ask, way_told}
 use Rattle.nm_safety.proofs.Places.{both_set, set_same, set_set, set_length, map_length, length_replicate, map_replicate, from_pairs, verdict_same, verdict_new, not_ended_before}
 use Rattle.nm_safety.proofs.Tables.{next_awaited, next_known, RenewsNow, renews_now, found_stage}
@@ -115,7 +116,7 @@ module _ (change devices : ℕ) (entries : List Entry) (slot : SlotState) (in_st
   module _ (now : CourseState) (what in_fact : Ask) (new : Bool) (count : ℕ) (same : now ≡ course.with_seat slot.course device (record seat { awaited = Some what; sent = count })) (is : in_fact ≡ asked_in_fact side.resync what)
       (member : seat.is_member ≡ true) (may : may_await slot.course.verdict seat.stage what ≡ true) (goes : may_go new side.wire ≡ true) where
     out_as : (request : Request) → ask_of request ≡ in_fact → (b : Bool) → b ≡ true
-        → GoesOut change devices entries (with_pair slot device (sends_if b device slot.course now side (gone new side.wire request)))
+        → GoesOut change devices entries (with_pair slot device (sends_if b new device slot.course now side request))
     out_as request asks true t = record {
       stays =
           stepped change devices entries slot in_step now (device - 1) seat (record seat { awaited = Some what; sent = count }) side (with_wire side (gone new side.wire request)) here there
@@ -138,7 +139,7 @@ module _ (change devices : ℕ) (entries : List Entry) (slot : SlotState) (in_st
       subst (λ d. is_some (edit_for plan d) ≡ true) (omega (arith, numbered)) (planned (device - 1) (sym seated.member ∙ member))
 
   sent_on_side : (device : ℕ) (what : Ask) (a : IsAsked slot.course device what) (found : Option SideState) → slice_get slot.sides (device - 1) ≡ found
-      → GoWith devices slot.course.verdict (device - 1 + 1) (Some a.seat) found → GoesOut change devices entries (sends_on plan entries slot device what found)
+      → GoWith devices slot.course.verdict (device - 1 + 1) (Some a.seat) found → GoesOut change devices entries (on_side (sends_pair plan entries device what) slot device found)
   sent_on_side device what a None there pair = absurd pair
   sent_on_side device what a (Some side) there pair =
       out_by change devices entries slot in_step device a.numbered a.seat side a.here there (course.with_sent slot.course device) what (asked_in_fact side.resync what)
@@ -159,7 +160,7 @@ module _ (change devices : ℕ) (entries : List Entry) (slot : SlotState) (in_st
 
   renewed_on_side : (device : ℕ) → 1 ≤ device → (seat : Option Seat) (found : Option SideState) → slice_get slot.course.seats (device - 1) ≡ seat → slice_get slot.sides (device - 1) ≡ found
       → GoWith devices slot.course.verdict (device - 1 + 1) seat found → (is_none slot.course.verdict && (is_none slot.course.trouble && may_renew_seat seat)) ≡ true
-      → GoesOut change devices entries (renews_on plan entries slot device found)
+      → GoesOut change devices entries (on_side (renews_pair plan entries device) slot device found)
   renewed_on_side device numbered None found here there pair may = absurd (let e : (is_none slot.course.verdict && (is_none slot.course.trouble && false)) ≡ true = may in none (is_none slot.course.verdict) (is_none slot.course.trouble) e)
     where
       none : (a b : Bool) → (a && (b && false)) ≡ true → ⊥
@@ -317,12 +318,16 @@ module _ (change devices : ℕ) (entries : List Entry) (slot : SlotState) (in_st
   due_stays link number side (Some seat) here there (Some exchange) e =
       hears_stays side seat here there link exchange (due_is side.wire link number exchange e) seat.awaited refl (is_resync seat.awaited) refl
 
-  received_on : (link number : ℕ) (found : Option SideState) → slice_get slot.sides (device - 1) ≡ found → IsInStep change devices entries (receives_on slot device link number found).slot
-  received_on link number None there = in_step
-  received_on link number (Some side) there = due_stays link number side (slice_get slot.course.seats (device - 1)) refl there (due side.wire link number) refl
+  -- a step for the device, where it has a side
+  on_stays : (step : CourseState → SideState → PairStep)
+      → ((side : SideState) → slice_get slot.sides (device - 1) ≡ Some side → IsInStep change devices entries (with_pair slot device (step slot.course side)).slot)
+      → IsInStep change devices entries (on_side step slot device (slice_get slot.sides (device - 1))).slot
+  on_stays step = side_reached step slot device (λ (done : SlotStep). IsInStep change devices entries done.slot) in_step
 
   pub received_stays : (link number : ℕ) → IsInStep change devices entries (receives slot device link number).slot
-  received_stays link number = received_on link number (slice_get slot.sides (device - 1)) refl
+  received_stays link number =
+      on_stays (receives_pair device link number)
+      (λ side there. due_stays link number side (slice_get slot.course.seats (device - 1)) refl there (due side.wire link number) refl)
 
   -- ---- a link breaks
 
@@ -341,12 +346,8 @@ module _ (change devices : ℕ) (entries : List Entry) (slot : SlotState) (in_st
       (subst (λ d. is_device d ≡ true) same_device pair.0.numbered))))
       (record { numbered = pair.0.numbered; member = pair.0.member }) (broke_goes slot.course.verdict seat side pair.1)
 
-  broken_on : (found : Option SideState) → slice_get slot.sides (device - 1) ≡ found → IsInStep change devices entries (breaks_on slot device found).slot
-  broken_on None there = in_step
-  broken_on (Some side) there = breaks_here side (slice_get slot.course.seats (device - 1)) refl there side.wire.current refl
-
   pub broken_stays : IsInStep change devices entries (breaks slot device).slot
-  broken_stays = broken_on (slice_get slot.sides (device - 1)) refl
+  broken_stays = on_stays (breaks_pair device) (λ side there. breaks_here side (slice_get slot.course.seats (device - 1)) refl there side.wire.current refl)
 
 -- ---- the verdict
 

@@ -50,7 +50,7 @@ pub gone_ask : (new : Bool) (wire : WireState) (request : Request) → may_go ne
 gone_ask true wire request h = ap (option_and_then way_ask) (current_begun wire request)
 gone_ask false wire request h = sent_ask wire request (current_link wire) refl h
 
-gone_told : (new : Bool) (wire : WireState) (request : Request) → may_go new wire ≡ true → current_told (gone new wire request) ≡ None
+pub gone_told : (new : Bool) (wire : WireState) (request : Request) → may_go new wire ≡ true → current_told (gone new wire request) ≡ None
 gone_told true wire request h = ap (option_and_then way_told) (current_begun wire request)
 gone_told false wire request h = sent_told wire request (current_link wire) refl h
 

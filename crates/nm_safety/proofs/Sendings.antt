@@ -3,7 +3,6 @@ use Rattle.std.proofs.Common.{◌≡◌, ℕ, ◌-◌, ◌≤◌, Bool, true, fa
 use Rattle.std.proofs.lemmas.Bool.{cond_both}
 use Rattle.nm_proto.specs.declared.ask.Ask.{Ask}
 use Rattle.nm_proto.specs.declared.message.Request.{Request}
-use Rattle.nm_proto.specs.declared.journal.Entry.{Entry}
 use Rattle.nm_proto.specs.declared.journal.Entry.TheVariants.{Decided, Ended}
 use Rattle.nm_proto.specs.declared.plan.ChangePlan.{ChangePlan}
 use Rattle.nm_journal.specs.Entries.{may_follow}
@@ -12,20 +11,20 @@ use Rattle.nm_decider.specs.declared.course.NextAction.TheVariants as next
 use Rattle.nm_decider.specs.Course as course
 use Rattle.nm_decider.specs.Course.{CourseState, next_action}
 use Rattle.nm_decider.proofs.Actions.{asked}
-use Rattle.nm_wire.specs.Wire.{WireState}
 use Rattle.nm_manager.specs.declared.action.Action.{Action}
 use Rattle.nm_manager.specs.declared.action.Action.TheVariants as action
 use Rattle.nm_manager.specs.Queues.{is_ready_in}
 use Rattle.nm_manager.specs.Requests.{request_for}
-use Rattle.nm_manager.specs.Slot.{SideState, SlotState, asked_in_fact, opens, may_go, gone, sends_if, sends_request, sends_on}
+use Rattle.nm_manager.specs.Slot.{SideState, SlotState, SlotStep, asked_in_fact, opens, may_go, sends_if, sends_request, sends_pair}
 use Rattle.nm_manager.specs.Manager.{ManagerState, Step, idle, slot_at, with_entry, with_slot, sent_by, decided_by, acts, turned_by, turned}
 use Rattle.nm_manager.specs.Slot as slot_specs
+use Rattle.nm_manager.proofs.Reach.{side_reached}
 use Rattle.nm_world.specs.declared.happened.Sending.{Sending}
 use Rattle.nm_world.specs.World.{happened_of, sending_of}
 
 -- what is sent goes to such a device
 abbrev GoesOut : Action → Type 0
-GoesOut (action.Sent device link) = 1 ≤ device
+GoesOut (action.Sent device link request) = 1 ≤ device
 GoesOut action.Idle = Unit {0}
 GoesOut action.Started = Unit {0}
 GoesOut action.Handled = Unit {0}
@@ -35,24 +34,23 @@ GoesOut action.Ended = Unit {0}
 GoesOut action.Forgot = Unit {0}
 
 module _ (device : ℕ) (numbered : 1 ≤ device) (before now : CourseState) (side : SideState) where
-  if_goes : (links : WireState) (b : Bool) → GoesOut (sends_if b device before now side links).action
-  if_goes links true = numbered
-  if_goes links false = tt
+  if_goes : (new : Bool) (request : Request) (b : Bool) → GoesOut (sends_if b new device before now side request).action
+  if_goes new request true = numbered
+  if_goes new request false = tt
 
   request_goes : (new : Bool) (found : Option Request) → GoesOut (sends_request new device before now side found).action
   request_goes new None = tt
-  request_goes new (Some request) = if_goes (gone new side.wire request) (may_go new side.wire)
-
-on_goes : (plan : ChangePlan) (entries : List Entry) (slot : SlotState) (device : ℕ) → 1 ≤ device → (what : Ask) (found : Option SideState) → GoesOut (sends_on plan entries slot device what found).action
-on_goes plan entries slot device numbered what None = tt
-on_goes plan entries slot device numbered what (Some side) =
-    request_goes device numbered slot.course (course.with_sent slot.course device) side (opens (asked_in_fact side.resync what)) (request_for plan entries slot.course.change device (asked_in_fact side.resync what))
+  request_goes new (Some request) = if_goes new request (may_go new side.wire)
 
 module _ (plans : List ChangePlan) (state : ManagerState) (change : ℕ) where
   sent_goes : (device : ℕ) → 1 ≤ device → (what : Ask) (plan : Option ChangePlan) (slot : Option SlotState) → GoesOut (sent_by state change plan slot device what).action
   sent_goes device numbered what None slot = tt
   sent_goes device numbered what (Some plan) None = tt
-  sent_goes device numbered what (Some plan) (Some slot) = on_goes plan state.entries slot device numbered what (slice_get slot.sides (device - 1))
+  sent_goes device numbered what (Some plan) (Some slot) =
+      side_reached (sends_pair plan state.entries device what) slot device (λ (done : SlotStep). GoesOut done.action) tt
+      (λ side there.
+      request_goes device numbered slot.course (course.with_sent slot.course device) side (opens (asked_in_fact side.resync what))
+      (request_for plan state.entries slot.course.change device (asked_in_fact side.resync what)))
 
   decided_goes : (verdict : _) (slot : Option SlotState) → GoesOut (decided_by state change verdict slot).action
   decided_goes verdict None = tt
@@ -76,16 +74,15 @@ module _ (plans : List ChangePlan) (state : ManagerState) (change : ℕ) where
       cond_both (is_ready_in state.entries change) (turned_by plans state change (slot_at state change)) (idle state) (λ (step : Step). GoesOut step.action)
       (λ _. turned_by_goes (slot_at state change)) (λ _. tt)
 
-happened_goes : (what : Action) (request : Option Request) → GoesOut what → IfSome (sending_of (happened_of what request)) (λ (sending : Sending). 1 ≤ sending.device)
-happened_goes (action.Sent device link) None goes = tt
-happened_goes (action.Sent device link) (Some request) goes = goes
-happened_goes action.Idle request goes = tt
-happened_goes action.Started request goes = tt
-happened_goes action.Handled request goes = tt
-happened_goes action.Broken request goes = tt
-happened_goes (action.Decided verdict) request goes = tt
-happened_goes action.Ended request goes = tt
-happened_goes action.Forgot request goes = tt
+happened_goes : (what : Action) → GoesOut what → IfSome (sending_of (happened_of what)) (λ (sending : Sending). 1 ≤ sending.device)
+happened_goes (action.Sent device link request) goes = goes
+happened_goes action.Idle goes = tt
+happened_goes action.Started goes = tt
+happened_goes action.Handled goes = tt
+happened_goes action.Broken goes = tt
+happened_goes (action.Decided verdict) goes = tt
+happened_goes action.Ended goes = tt
+happened_goes action.Forgot goes = tt
 
-pub turn_goes : (plans : List ChangePlan) (state : ManagerState) (change : ℕ) (request : Option Request) → IfSome (sending_of (happened_of (turned plans state change).action request)) (λ (sending : Sending). 1 ≤ sending.device)
-turn_goes plans state change request = happened_goes (turned plans state change).action request (turned_goes plans state change)
+pub turn_goes : (plans : List ChangePlan) (state : ManagerState) (change : ℕ) → IfSome (sending_of (happened_of (turned plans state change).action)) (λ (sending : Sending). 1 ≤ sending.device)
+turn_goes plans state change = happened_goes (turned plans state change).action (turned_goes plans state change)

@@ -28,8 +28,9 @@ use Rattle.nm_wire.specs.Wire.{WireState, broken, handled_at, due, restarted}
 use Rattle.nm_resync.specs.Resync.{ResyncState, settled_in, resync_learnt}
 use Rattle.nm_resync.specs.Resync as resync
 use Rattle.nm_manager.specs.Requests.{request_for}
-use Rattle.nm_manager.specs.Slot.{SideState, SlotState, with_pair, with_wire, asked_in_fact, opens, may_go, gone, sends_if, sends_request, sends_on, sends, renews_if, renews_on, renews, breaks_current, breaks_on, breaks, cut_off, to_commit, is_commit, anew, decided, lost_memory, is_resync, awaits_resync, settled_by, hears, receives_due, receives_on, receives, wires_on, lost_wire}
+use Rattle.nm_manager.specs.Slot.{SideState, SlotState, PairStep, SlotStep, with_pair, with_wire, asked_in_fact, opens, may_go, gone, sends_if, sends_request, sends, renews_if, renews, breaks_current, breaks, cut_off, to_commit, is_commit, anew, decided, lost_memory, is_resync, awaits_resync, settled_by, hears, receives_due, receives, wires_on, lost_wire, on_side, sends_pair, renews_pair, receives_pair, breaks_pair}
 use Rattle.nm_manager.proofs.Kept.{asks_fit}
+use Rattle.nm_manager.proofs.Reach.{side_reached}
 use Rattle.nm_safety.specs.Step.{GoesWith, IsSeated, IsInStep}
 use Rattle.nm_safety.specs.Pair.{PairHolds}
 use Rattle.nm_safety.specs.Slots.{HoldsAt, AllHold}
@@ -64,6 +65,12 @@ module _ {Config Node : Type 0} (change : ℕ) (decided : Option Verdict) (devic
   pub unmoved_holds : (place : ℕ) (side : SideState) → slice_get slot.sides place ≡ Some side → AllHold change decided (record { course = slot.course; sides = slice_set slot.sides place side }) devices
   unmoved_holds place side there = subst (λ sides. AllHold change decided (record { course = slot.course; sides = sides }) devices) (sym (set_same slot.sides place side there)) all
 
+  -- a step for a device, where it has a side
+  on_holds : (step : CourseState → SideState → PairStep) (device : ℕ)
+      → ((side : SideState) → slice_get slot.sides (device - 1) ≡ Some side → AllHold change decided (with_pair slot device (step slot.course side)).slot devices)
+      → AllHold change decided (on_side step slot device (slice_get slot.sides (device - 1))).slot devices
+  on_holds step device = side_reached step slot device (λ (done : SlotStep). AllHold change decided done.slot devices) all
+
   module _ (members : ℕ) (entries : List Entry) (in_step : IsInStep change members entries slot) (of_journal : slot.course.verdict ≡ decided) where
     goes_at : (place : ℕ) (seat : Seat) (side : SideState) → slice_get slot.course.seats place ≡ Some seat → slice_get slot.sides place ≡ Some side → GoesWith decided seat side
     goes_at place seat side here there = subst (λ v. GoesWith v seat side) of_journal (pair_at change members entries slot in_step place (Some seat) (Some side) here there).1
@@ -72,7 +79,7 @@ module _ {Config Node : Type 0} (change : ℕ) (decided : Option Verdict) (devic
 
     module _ (plan : ChangePlan) (device : ℕ) (what : Ask) (a : IsAsked slot.course device what) (side : SideState) (there : slice_get slot.sides (device - 1) ≡ Some side) where
       sent_if : (request : Request) → ask_of request ≡ asked_in_fact side.resync what → (b : Bool)
-          → AllHold change decided (with_pair slot device (sends_if b device slot.course (course.with_sent slot.course device) side (gone (opens (asked_in_fact side.resync what)) side.wire request))).slot devices
+          → AllHold change decided (with_pair slot device (sends_if b (opens (asked_in_fact side.resync what)) device slot.course (course.with_sent slot.course device) side request)).slot devices
       sent_if request is false = unmoved_holds (device - 1) side there
       sent_if request is true =
           stepped_holds (course.with_sent slot.course device) (device - 1) a.seat (asked_next slot.course.verdict a.seat) side (with_wire side (gone (opens (asked_in_fact side.resync what)) side.wire request)) a.here there
@@ -86,14 +93,12 @@ module _ {Config Node : Type 0} (change : ℕ) (decided : Option Verdict) (devic
       sent_request None is = unmoved_holds (device - 1) side there
       sent_request (Some request) is = sent_if request is (may_go (opens (asked_in_fact side.resync what)) side.wire)
 
-    sent_on_holds : (plan : ChangePlan) (device : ℕ) (what : Ask) → IsAsked slot.course device what → (found : Option SideState) → slice_get slot.sides (device - 1) ≡ found
-        → AllHold change decided (sends_on plan entries slot device what found).slot devices
-    sent_on_holds plan device what a None there = all
-    sent_on_holds plan device what a (Some side) there =
-        sent_request plan device what a side there (request_for plan entries slot.course.change device (asked_in_fact side.resync what)) (asks_fit plan entries slot.course.change device (asked_in_fact side.resync what))
-
     pub sent_holds : (plan : ChangePlan) (device : ℕ) (what : Ask) → next_action slot.course ≡ Send device what → AllHold change decided (sends plan entries slot device what).slot devices
-    sent_holds plan device what h = sent_on_holds plan device what (asked slot.course device what h) (slice_get slot.sides (device - 1)) refl
+    sent_holds plan device what h =
+        on_holds (sends_pair plan entries device what) device
+        (λ side there.
+        sent_request plan device what (asked slot.course device what h) side there (request_for plan entries slot.course.change device (asked_in_fact side.resync what))
+        (asks_fit plan entries slot.course.change device (asked_in_fact side.resync what)))
 
     some_seat : (place : ℕ) (side : SideState) (seat : Option Seat) → slice_get slot.course.seats place ≡ seat → slice_get slot.sides place ≡ Some side → is_some seat ≡ true
     some_seat place side None here there = absurd (pair_at change members entries slot in_step place None (Some side) here there)
@@ -107,7 +112,7 @@ module _ {Config Node : Type 0} (change : ℕ) (decided : Option Verdict) (devic
     renewed_if device seat side none here there quiet acked None is = unmoved_holds (device - 1) side there
     renewed_if device seat side none here there quiet acked (Some request) is = by_going (may_go false side.wire)
       where
-        by_going : (b : Bool) → AllHold change decided (with_pair slot device (sends_if b device slot.course (course.with_renewed slot.course device) side (gone false side.wire request))).slot devices
+        by_going : (b : Bool) → AllHold change decided (with_pair slot device (sends_if b false device slot.course (course.with_renewed slot.course device) side request)).slot devices
         by_going false = unmoved_holds (device - 1) side there
         by_going true =
             stepped_holds (course.with_renewed slot.course device) (device - 1) seat (renewed seat) side (with_wire side (gone false side.wire request)) here there
@@ -127,12 +132,9 @@ module _ {Config Node : Type 0} (change : ℕ) (decided : Option Verdict) (devic
         stepped_holds (course.with_break slot.course device) (device - 1) seat (record seat { stage = broken_stage seat.stage; awaited = None }) side (cut_off (to_commit slot.course.verdict) side) here there
         (ap (λ o. (course.with_break_at slot.course device o).seats) here) (λ r pair. broken_pair change seat side.wire r decided pair)
 
-    broken_on : (device : ℕ) (found : Option SideState) → slice_get slot.sides (device - 1) ≡ found → AllHold change decided (breaks_on slot device found).slot devices
-    broken_on device None there = all
-    broken_on device (Some side) there = breaks_here device side (slice_get slot.course.seats (device - 1)) refl there side.wire.current
-
     pub broken_holds : (device : ℕ) → AllHold change decided (breaks slot device).slot devices
-    broken_holds device = broken_on device (slice_get slot.sides (device - 1)) refl
+    broken_holds device =
+        on_holds (breaks_pair device) device (λ side there. breaks_here device side (slice_get slot.course.seats (device - 1)) refl there side.wire.current)
 
     -- ---- a reply is handled
 
@@ -181,12 +183,10 @@ module _ {Config Node : Type 0} (change : ℕ) (decided : Option Verdict) (devic
     due_holds device link number side (Some seat) here there (Some exchange) e =
         hears_holds device side seat here there link exchange (due_is side.wire link number exchange e) seat.awaited refl (is_resync seat.awaited) refl
 
-    received_on : (device link number : ℕ) (found : Option SideState) → slice_get slot.sides (device - 1) ≡ found → AllHold change decided (receives_on slot device link number found).slot devices
-    received_on device link number None there = all
-    received_on device link number (Some side) there = due_holds device link number side (slice_get slot.course.seats (device - 1)) refl there (due side.wire link number) refl
-
     pub received_holds : (device link number : ℕ) → AllHold change decided (receives slot device link number).slot devices
-    received_holds device link number = received_on device link number (slice_get slot.sides (device - 1)) refl
+    received_holds device link number =
+        on_holds (receives_pair device link number) device
+        (λ side there. due_holds device link number side (slice_get slot.course.seats (device - 1)) refl there (due side.wire link number) refl)
 
     -- ---- a device's side of a link ends
 
@@ -278,13 +278,10 @@ module _ {Config Node : Type 0} (change : ℕ) (decided : Option Verdict) (devic
         renewed_if device seat side (sym of_journal ∙ none_is slot.course.verdict undecided.0) here there (no_ask seat.awaited quiet.0) quiet.1
         (request_for plan entries slot.course.change device ask.Renew) (asks_fit plan entries slot.course.change device ask.Renew)
 
-    renewed_on : (plan : ChangePlan) (device : ℕ) (found : Option SideState) → slice_get slot.sides (device - 1) ≡ found → AllHold change decided (renews_on plan entries slot device found).slot devices
-    renewed_on plan device None there = all
-    renewed_on plan device (Some side) there =
-        renewed_by plan device (slice_get slot.course.seats (device - 1)) side refl there (course.may_renew slot.course device) refl
-
     pub renewed_holds : (plan : ChangePlan) (device : ℕ) → AllHold change decided (renews plan entries slot device).slot devices
-    renewed_holds plan device = renewed_on plan device (slice_get slot.sides (device - 1)) refl
+    renewed_holds plan device =
+        on_holds (renews_pair plan entries device) device
+        (λ side there. renewed_by plan device (slice_get slot.course.seats (device - 1)) side refl there (course.may_renew slot.course device) refl)
 
 -- ---- the verdict falls
 

@@ -3,7 +3,7 @@ use Rattle.std.proofs.Common.{ℕ, ◌≡◌, zero, suc, ◌≤◌, false, List,
 use Rattle.nm_proto.specs.declared.plan.Event.{Event}
 use Rattle.nm_proto.specs.declared.plan.Event.TheVariants.{Submit, Turn, Deliver, Answer, Break, Lose, Advance, Restart, Forget, Crash, Renew, Foreign, Leave, Round}
 use Rattle.nm_proto.specs.Content.{Meaning}
-use Rattle.nm_manager.specs.Manager.{wire_in, request_next}
+use Rattle.nm_manager.specs.Manager.{wire_in}
 use Rattle.nm_world.specs.declared.happened.Sending.{Sending}
 use Rattle.nm_world.specs.World.{Setting, WorldState, elementary, world_step, core_of, manager_in, sending_of, replies_on, followed, round, rounds, event_step, run}
 use Rattle.nm_world.proofs.Passing.{is_round}
@@ -24,7 +24,7 @@ module _ {Config TheEdit Node : Type 0} (m : Meaning Config TheEdit Node) (setti
   rounds_keep (suc n) w change numbered k =
       rounds_keep n (round m setting w change) change numbered
       (followed_keeps (world_step m setting w (Turn change)) change numbered (sending_of (elementary m setting (core_of w) (Turn change)).happened)
-      (turn_goes setting.plans (manager_in (core_of w)) change (request_next setting.plans (manager_in (core_of w)) change)) (one w (Turn change) numbered refl k))
+      (turn_goes setting.plans (manager_in (core_of w)) change) (one w (Turn change) numbered refl k))
 
   step_keeps : (w : WorldState Config Node) (event : Event) → IsGiven setting event → P w → P (event_step m setting w event)
   step_keeps w (Submit change) given k = one w (Submit change) given refl k

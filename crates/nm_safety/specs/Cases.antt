@@ -3,7 +3,6 @@
 use Rattle.std.specs.Prelude.{ℕ, ◌≡◌, ◌+◌, ◌-◌, ◌≤◌, List, true, false, Option, Some, None, slice_get, slice_set}
 use Rattle.nm_base.specs.declared.mask.DeviceMask.{DeviceMask}
 use Rattle.nm_proto.specs.declared.ask.Ask.{Ask}
-use Rattle.nm_proto.specs.declared.ask.Ask.TheVariants as ask
 use Rattle.nm_proto.specs.declared.message.Request.{Request}
 use Rattle.nm_proto.specs.declared.message.Request.TheVariants.{OpenSession}
 use Rattle.nm_proto.specs.declared.message.Reply.{Reply}
@@ -27,7 +26,7 @@ use Rattle.nm_decider.specs.Course.{next_action}
 use Rattle.nm_wire.specs.Link.{LinkState, session_of}
 use Rattle.nm_wire.specs.Wire.{WireState, link_at, outstanding_at}
 use Rattle.nm_manager.specs.Queues.{is_ready_in}
-use Rattle.nm_manager.specs.Slot.{SideState, SlotState, asked_on, breaks, decided, lost_memory, lost_wire, receives, renews, sends, side_at, told_wire, wires_on}
+use Rattle.nm_manager.specs.Slot.{SideState, SlotState, breaks, decided, lost_memory, lost_wire, receives, renews, sends, told_wire, wires_on}
 use Rattle.nm_manager.specs.Manager.{restarted_on, start_of, with_entry, with_slot, with_step}
 use Rattle.nm_world.specs.declared.happened.Happened.TheVariants as happened
 use Rattle.nm_world.specs.World.{Setting, CoreState, Came, by_manager, came, crashing, device_at, given_on, idle, is_side_open, manager_in, with_device, with_manager, with_opened}
@@ -65,6 +64,7 @@ module _ {Config Node : Type 0} (w : CoreState Config Node) where
   wired {change} {device} a happens =
       with_manager w (with_slot (manager_in w) change (wires_on happens a.slot device (Some a.side)))
 
+  -- the same, where the device is another too
   abbrev pub wired_with : {change device link : ℕ} → IsLink change device link → (WireState → WireState) → RecordedState Config Node
       → CoreState Config Node
   wired_with {change} {device} a happens after =
@@ -95,6 +95,7 @@ module _ {Config TheEdit Node : Type 0} (m : Meaning Config TheEdit Node) (setti
     pub replies : h.reply ≡ Some reply
 
 module _ {Config TheEdit Node : Type 0} (m : Meaning Config TheEdit Node) (setting : Setting TheEdit) (w : CoreState Config Node) where
+  -- a goal holds at each kind of step
   pub record Cases (G : Event → Came Config Node → Type 0) : Type 0 where
     -- an event that doesn't apply
     pub nothing : (event : Event) → G event (idle w)
@@ -112,15 +113,13 @@ module _ {Config TheEdit Node : Type 0} (m : Meaning Config TheEdit Node) (setti
     -- it sends, hears and breaks
     pub sends_out : (change : ℕ) (a : IsAt setting w change) → is_ready_in w.entries change ≡ true → (device : ℕ) (what : Ask)
         → next_action a.slot.course ≡ next.Send device what
-        → G (Turn change) (by_manager w (with_step (manager_in w) change (sends a.plan w.entries a.slot device what))
-        (asked_on a.plan w.entries a.slot device what (side_at a.slot device)))
+        → G (Turn change) (by_manager w (with_step (manager_in w) change (sends a.plan w.entries a.slot device what)))
     pub renews_timer : (change device : ℕ) (a : IsAt setting w change) → 1 ≤ device → is_ready_in w.entries change ≡ true
-        → G (Renew change device) (by_manager w (with_step (manager_in w) change (renews a.plan w.entries a.slot device))
-        (asked_on a.plan w.entries a.slot device ask.Renew (side_at a.slot device)))
+        → G (Renew change device) (by_manager w (with_step (manager_in w) change (renews a.plan w.entries a.slot device)))
     pub hears : (change device link number : ℕ) (a : IsSlot w change) → 1 ≤ device
-        → G (Answer change device link number) (by_manager w (with_step (manager_in w) change (receives a.slot device link number)) None)
+        → G (Answer change device link number) (by_manager w (with_step (manager_in w) change (receives a.slot device link number)))
     pub breaks_off : (change device : ℕ) (a : IsSlot w change) → 1 ≤ device
-        → G (Break change device) (by_manager w (with_step (manager_in w) change (breaks a.slot device)) None)
+        → G (Break change device) (by_manager w (with_step (manager_in w) change (breaks a.slot device)))
     -- it forgets
     pub forgets : (change : ℕ) (a : IsAt setting w change) → is_started change w.entries ≡ true → is_ended_in change w.entries ≡ false
         → G (Forget change) (came (with_manager w (with_slot (manager_in w) change

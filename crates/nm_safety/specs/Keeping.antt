@@ -1,11 +1,12 @@
 -- What a law owes that speaks of each change set and of each device, at each kind of step (this project's own).
 use Rattle.std.specs.Prelude.{ℕ, ◌≡◌, suc, ◌+◌, ◌-◌, ◌≤◌, ◌<◌, ◌^◌, List, [], ◌∷◌, ◌++◌, Bool, true, false, Some, None, IfSome, slice_get, slice_set}
+use Rattle.nm_base.specs.declared.mask.DeviceMask.{DeviceMask}
 use Rattle.nm_proto.specs.declared.ask.Ask.{Ask}
 use Rattle.nm_proto.specs.declared.message.Request.{Request}
 use Rattle.nm_proto.specs.declared.message.Request.TheVariants.{OpenSession}
 use Rattle.nm_proto.specs.declared.message.Reply.{Reply}
 use Rattle.nm_proto.specs.declared.journal.Entry.{Entry}
-use Rattle.nm_proto.specs.declared.journal.Entry.TheVariants.{Decided}
+use Rattle.nm_proto.specs.declared.journal.Entry.TheVariants.{Decided, Ended}
 use Rattle.nm_proto.specs.declared.journal.Verdict.{Verdict}
 use Rattle.nm_proto.specs.declared.plan.ChangePlan.{ChangePlan}
 use Rattle.nm_proto.specs.declared.plan.Event.TheVariants.{Deliver}
@@ -132,12 +133,15 @@ module _ {Config TheEdit Node : Type 0} (m : Meaning Config TheEdit Node) (setti
       abbrev pub device_then : RecordedState Config Node
       device_then = recorded_with x.r event d.h
 
+      -- all devices then
       abbrev pub devices_then : List (RecordedState Config Node)
       devices_then = slice_set x.w.devices (x.device - 1) device_then
 
+      -- what is kept of the change set then
       abbrev pub slot_then : SlotState
       slot_then = wires_on (told_wire x.link d.reply) x.slot x.device (Some x.side)
 
+      -- the world then
       abbrev pub world_then : WorldState Config Node
       world_then =
           passed x.w (Deliver x.change x.device x.link)
@@ -146,15 +150,25 @@ module _ {Config TheEdit Node : Type 0} (m : Meaning Config TheEdit Node) (setti
 
   -- ---- what is owed
 
+  -- an entry comes that may, and one that ends the change set comes where its course is at the end
+  pub record IsComing (x : Site) (entry : Entry) : Type 0 where
+    pub may : may_follow x.w.entries entry ≡ true
+    pub ends : (kept : DeviceMask) → entry ≡ Ended x.change kept
+        → (is_ready_in x.w.entries x.change ≡ true) × (next_action x.slot.course ≡ next.Finish kept)
+
+  -- the entry may come
+  abbrev pub MayCome : Site → Entry → Type 0
+  MayCome x entry = may_follow x.w.entries entry ≡ true
+
   module _ (S : OfSlot Config Node) (D : OfDevice Config Node) where
     -- what is said of the change set, with another slot
     abbrev On : Site → SlotState → Type 0
     On x = S x.change x.plan x.w.entries x.w.devices
 
-    -- at each kind of step, where something is known of the world before it, and of that after a delivery
-    pub record Keeps : Type 0 where
+    -- at each kind of step, where something is known of the world before it, of that after a delivery, and of an entry that comes
+    pub record KeepsBy (Comes : Site → Entry → Type 0) : Type 0 where
       -- an entry comes that decides nothing of the change set; its verdict falls
-      pub entered : (x : Site) (entry : Entry) → decides x.change entry ≡ false → may_follow x.w.entries entry ≡ true
+      pub entered : (x : Site) (entry : Entry) → decides x.change entry ≡ false → Comes x entry
           → On x x.slot → S x.change x.plan (x.w.entries ++ entry ∷ []) x.w.devices x.slot
       pub decides_on : (x : Site) (v : Verdict) → is_ready_in x.w.entries x.change ≡ true → next_action x.slot.course ≡ next.Decide v
           → may_follow x.w.entries (Decided x.change v) ≡ true
@@ -207,6 +221,10 @@ module _ {Config TheEdit Node : Type 0} (m : Meaning Config TheEdit Node) (setti
       pub silent : (w : WorldState Config Node) → B w → (place : ℕ) (r : RecordedState Config Node) → slice_get w.devices place ≡ Some r
           → (event : DeviceEvent) → is_silent event ≡ true → (h : Happened Config Node) → Happens m setting.tables r.device event h
           → D w.entries place r → D w.entries place (recorded_with r event h)
+
+    -- where it is enough that the entry may come
+    abbrev pub Keeps : Type 0
+    Keeps = KeepsBy MayCome
 
 module _ {Config TheEdit Node : Type 0} (setting : Setting TheEdit) (B : WorldState Config Node → Type 0)
     (S : OfSlot Config Node) (D : OfDevice Config Node) where

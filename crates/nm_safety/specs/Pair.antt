@@ -31,18 +31,22 @@ use Rattle.nm_manager.specs.Slot.{to_commit}
 
 -- ---- words
 
+-- it was never committed there
 abbrev pub is_never : Outcome → Bool
 is_never Never = true
 is_never _ = false
 
+-- it is confirmed there
 abbrev pub is_confirmed : Outcome → Bool
 is_confirmed Confirmed = true
 is_confirmed _ = false
 
+-- a cancel undid it
 abbrev pub is_cancelled : Outcome → Bool
 is_cancelled (Undone Cancel) = true
 is_cancelled _ = false
 
+-- the end of a session undid it
 abbrev pub is_ended : Outcome → Bool
 is_ended (Undone End) = true
 is_ended _ = false
@@ -61,6 +65,7 @@ first_link wire = unwrap_or (slice_get wire.links 0) fresh_link
 abbrev pub asked_ask : LinkState → Option Ask
 asked_ask link = option_map ask_of (asked_on link.way)
 
+-- a request is the confirmed commit of a change set
 abbrev pub commits_in : Option Request → ℕ
 commits_in None = 0
 commits_in (Some request) = commit_count (ask_of request)
@@ -127,10 +132,12 @@ abbrev pub is_locked : Stage → Bool
 is_locked (Live done) = nat_le 2 done
 is_locked _ = false
 
+-- the device is at one of its own stages
 abbrev pub is_live : Stage → Bool
 is_live (Live done) = true
 is_live _ = false
 
+-- what holds of a device while nothing is decided
 pub record Undecided (outcome : Outcome) (seat : Seat) (wire : WireState) : Type 0 where
   pub unsent : commits_sent (first_link wire) ≤ may_be_sent seat.stage seat.awaited
   -- a device that has acknowledged has committed
@@ -143,6 +150,7 @@ pub record Undecided (outcome : Outcome) (seat : Seat) (wire : WireState) : Type
 
 -- ---- all together
 
+-- what holds of a device, its seat and its links
 pub record PairHolds {Config Node : Type 0} (change : ℕ) (decided : Option Verdict) (seat : Seat) (wire : WireState)
     (r : RecordedState Config Node) : Type 0 where
   pub first : FirstLink (token_of change) (first_link wire) r

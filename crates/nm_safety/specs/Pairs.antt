@@ -10,6 +10,7 @@ abbrev pub OfPair : Type 1
 OfPair = ℕ → Option Verdict → Seat → SideState → Type 0
 
 module _ (Q : OfPair) where
+  -- so of a seat and its side, where both are there
   abbrev pub PairAt : ℕ → Option Verdict → Option Seat → Option SideState → Type 0
   PairAt place decided None side = Unit {0}
   PairAt place decided (Some seat) None = Unit {0}

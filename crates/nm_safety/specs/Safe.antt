@@ -86,6 +86,7 @@ IsGiven setting (Foreign operator device request) = IsOwnOpening setting operato
 IsGiven setting (Leave operator device) = Unit {0}
 IsGiven setting (Round change turns) = 1 ≤ change
 
+-- so is each of these events
 abbrev pub AreGiven : {TheEdit : Type 0} → Setting TheEdit → List Event → Type 0
 AreGiven setting [] = Unit {0}
 AreGiven setting (event ∷ events) = IsGiven setting event × AreGiven setting events

@@ -35,9 +35,11 @@ use Rattle.nm_manager.specs.Slot.{SideState, SlotState, asked_in_fact}
 
 -- ---- what is on its way
 
+-- what is on its way on a link asks this
 abbrev pub way_ask : LinkState → Option Ask
 way_ask link = ask_on link.way
 
+-- the exchange whose reply is on its way
 abbrev pub way_told : LinkState → Option Exchange
 way_told link = told_on_way link.way
 
@@ -55,6 +57,7 @@ opens_or_refuses (Opened session) = true
 opens_or_refuses (Error tag session path) = true
 opens_or_refuses _ = false
 
+-- a reply fits what was asked
 abbrev pub answers_ask : Ask → Reply → Bool
 answers_ask ask.OpenSession reply = opens_or_refuses reply
 answers_ask _ reply = true
@@ -92,6 +95,7 @@ abbrev pub may_close : Bool → Option Bool → Bool
 may_close commit None = true
 may_close commit (Some kept) = commit || not kept
 
+-- a resynchronisation may be at this stage
 abbrev pub may_go_on : Bool → ResyncStage → Bool
 may_go_on commit Opening = true
 may_go_on commit Discarding = true
@@ -102,6 +106,7 @@ may_go_on commit Checking = commit
 may_go_on commit (Closing kept) = may_close commit kept
 may_go_on commit (Done kept) = false
 
+-- a resynchronisation is at its beginning
 abbrev pub is_opening : ResyncStage → Bool
 is_opening Opening = true
 is_opening _ = false
@@ -117,6 +122,7 @@ abbrev pub fits_stage : Option Verdict → Stage → ResyncState → Bool
 fits_stage decided Resync resync = resyncs_rightly decided resync
 fits_stage decided _ resync = true
 
+-- this is what is asked
 abbrev pub asks_this : Option Ask → Ask → Bool
 asks_this None what = false
 asks_this (Some other) what = same_ask other what
@@ -130,6 +136,7 @@ asked_before _ what = false
 abbrev pub may_await : Option Verdict → Stage → Ask → Bool
 may_await decided stage what = asks_this (next_ask decided stage) what || asked_before stage what
 
+-- what is awaited fits the verdict and the stage
 abbrev pub awaits_rightly : Option Verdict → Stage → Option Ask → Bool
 awaits_rightly decided stage None = true
 awaits_rightly decided stage (Some what) = may_await decided stage what
@@ -164,6 +171,7 @@ pub record IsSeated (devices device : ℕ) (seat : Seat) : Type 0 where
   pub numbered : is_device device ≡ true
   pub member : seat.is_member ≡ mask_contains devices device
 
+-- a seat and its side go together, where both are there
 abbrev pub GoWith : ℕ → Option Verdict → ℕ → Option Seat → Option SideState → Type 0
 GoWith devices decided device None None = Unit {0}
 GoWith devices decided device None (Some side) = ⊥
@@ -184,7 +192,7 @@ pub record IsInStep (change devices : ℕ) (entries : List Entry) (slot : SlotSt
 
 -- a request went out
 abbrev pub is_sent : Action → Bool
-is_sent (action.Sent device link) = true
+is_sent (action.Sent device link request) = true
 is_sent _ = false
 
 -- each device of a change set has its edit

@@ -79,6 +79,7 @@ module _ {Config Node : Type 0} where
     pub linked : AllLinks (λ d. IsLinked change entries (owners d) (slice_get devices d)) slot.sides
     pub tells : (d : ℕ) → IfSome (slice_get devices d) (TellsToken (token_of change))
 
+  -- what is kept goes with the plan, where both are there
   abbrev pub KeptAt : ℕ → List Entry → (ℕ → Owners) → List (RecordedState Config Node) → Option ChangePlan → Option SlotState → Type 0
   KeptAt change entries owners devices None None = Unit {0}
   KeptAt change entries owners devices None (Some slot) = ⊥
@@ -109,6 +110,7 @@ module _ {Config Node : Type 0} where
 
 -- ---- all together
 
+-- what every world keeps: whose each session is, and what is kept of each change set
 pub record IsSupported {Config TheEdit Node : Type 0} (m : Meaning Config TheEdit Node) (setting : Setting TheEdit) (w : CoreState Config Node) : Type 0 where
   pub owners : ℕ → Owners
   pub entries : (change : ℕ) → IsOrdered change w.entries

@@ -27,6 +27,7 @@ abbrev pub locks_running : Ask → Reply → Bool
 locks_running ask.LockRunning reply = is_done reply
 locks_running _ reply = false
 
+-- a request was the confirmed commit, and was done
 abbrev pub does_commit : Ask → Reply → Bool
 does_commit ask.CommitConfirmed reply = is_done reply
 does_commit _ reply = false
@@ -79,6 +80,7 @@ module _ {Config Node : Type 0} where
     pub outcome : outcome_of token after.history ≡ Confirmed
     pub ended : after.device.pending ≡ None
 
+  -- a cancel of a change set was done
   pub record CancelsOurs (token : List ℕ) (before after : RecordedState Config Node) : Type 0 where
     pub follows : FollowsUp token before after
     pub outcome : outcome_of token after.history ≡ Undone Cancel

@@ -1,3 +1,5 @@
+//! Why no session was opened.
+
 ghost use Rattle.std.specs.Prelude.{◌≡◌};
 
 use nm_base::NoMemory;

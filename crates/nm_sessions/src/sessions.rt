@@ -1,3 +1,5 @@
+//! The open sessions of a device, each with its user.
+
 ghost use Rattle.std.specs.Prelude.{◌≡◌, ◌≢◌, ◌↔◌, false, ℕ, List, Some, None, Err, length, option_copied, IfOk, OnOk, OnErr, IfSome, IfNone, if◌then◌else◌};
 ghost use Rattle.slab.specs.Slab.{get};
 ghost use Rattle.nm_sessions.specs.Sessions.{id_after};

@@ -1,3 +1,5 @@
+//! Running and candidate of a device. Candidate is kept only while it is modified.
+
 ghost use Rattle.std.specs.Prelude.{◌≡◌, IfNone, OnErr};
 
 use nm_proto::{ApplyFault, Content, DefaultOperation, Marks};

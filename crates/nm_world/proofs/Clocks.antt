@@ -95,11 +95,17 @@ module _ {Config Node : Type 0} where
   time_more seconds most old new le keeps = record { goes = λ more has. keeps.goes more (less_time (more + most) (more + seconds) old (omega (arith, le)) has) }
 
   -- as the events of a run pass, each of which takes less than 2^32 seconds
-  pub time_first : (n : ℕ) (devices : List (RecordedState Config Node)) → HasTime (2 ^ 32 * n) devices → HasTime (2 ^ 32 * (n - 0)) devices
-  time_first n devices has = let e : n ≡ n - 0 = omega arith in subst (λ k. HasTime (2 ^ 32 * k) devices) e has
+  pub time_first : (devices : List (RecordedState Config Node)) → KeepsTime (2 ^ 32 * 0) devices devices
+  time_first devices = time_more 0 (2 ^ 32 * 0) devices devices (omega arith) (time_stays devices)
 
-  pub time_left : (n i : ℕ) (old new : List (RecordedState Config Node)) → i < n → KeepsTime (2 ^ 32) old new → HasTime (2 ^ 32 * (n - i)) old → HasTime (2 ^ 32 * (n - (i + 1))) new
-  time_left n i old new within keeps has =
-      let left = n - (i + 1) in
-      let e : n - i ≡ left + 1 = omega (arith, within) in
-      keeps.goes (2 ^ 32 * left) (less_time (2 ^ 32 * (n - i)) (2 ^ 32 * left + 2 ^ 32) old (omega (arith, e)) has)
+  pub time_next : (i : ℕ) (old mid new : List (RecordedState Config Node)) → KeepsTime (2 ^ 32 * i) old mid → KeepsTime (2 ^ 32) mid new → KeepsTime (2 ^ 32 * (i + 1)) old new
+  time_next i old mid new one other = time_more (2 ^ 32 * i + 2 ^ 32) (2 ^ 32 * (i + 1)) old new (omega arith) (time_then (2 ^ 32 * i) (2 ^ 32) old mid new one other)
+
+  pub time_left : (n i : ℕ) (old now : List (RecordedState Config Node)) → i ≤ n → KeepsTime (2 ^ 32 * i) old now → HasTime (2 ^ 32 * n) old → HasTime (2 ^ 32 * (n - i)) now
+  time_left n i old now le keeps has =
+      let left = n - i in
+      let e : n ≡ left + i = omega (arith, le) in
+      keeps.goes (2 ^ 32 * left) (less_time (2 ^ 32 * n) (2 ^ 32 * left + 2 ^ 32 * i) old (omega (arith, e)) has)
+
+  pub time_all : (n i : ℕ) (old now : List (RecordedState Config Node)) → i ≤ n → KeepsTime (2 ^ 32 * i) old now → KeepsTime (2 ^ 32 * n) old now
+  time_all n i old now le keeps = time_more (2 ^ 32 * i) (2 ^ 32 * n) old now (omega (arith, le)) keeps

@@ -1,7 +1,6 @@
 -- Where a turn fails, and where it hasn't begun.
 use Rattle.std.proofs.Common.{◌≡◌, ℕ, Bool, List, Option, Some, None, Result, Err, IsSome, ◌⊎◌, inl, inr, sym, ap, ◌∙◌, subst, arith}
 use Rattle.nm_disk.specs.Image.{DiskState, AnyMoment}
-use Rattle.nm_proto.specs.Content.{TablesState}
 use Rattle.nm_proto.specs.declared.journal.Entry.{Entry}
 use Rattle.nm_journal.specs.Fits.{JournalState, Fits, ReadsAs}
 use Rattle.nm_history.specs.History.{RecordedState}
@@ -10,7 +9,7 @@ use Rattle.nm_manager.specs.declared.action.TurnFault.{TurnFault}
 use Rattle.nm_manager.specs.declared.action.TurnFault.TheVariants as fault
 use Rattle.nm_manager.specs.Manager.{Managing, MayRead, FailsAt}
 use Rattle.nm_world.specs.declared.happened.Happened.{Happened}
-use Rattle.nm_world.specs.World.{CoreValue, Came, ComesOrFails}
+use Rattle.nm_world.specs.World.{CoreValue, SetupState, Came, ComesOrFails}
 use Rattle.nm_world.proofs.Order.{reads_whole}
 use Rattle.nm_world.proofs.Staging.{core_value}
 
@@ -43,10 +42,10 @@ turn_only : (why : TurnFault) (entry : Option Entry) (before after : Managing) �
 turn_only why entry before after (inl memory) same fails = let is = same (ap Failed memory) in is ∙ ap (Only before) (sym is)
 turn_only why entry before after (inr disk) same fails = fails_only entry before after (fails (ap Failed disk))
 
-module _ {TheContent Config TheEdit Node : Type 0} (content : TheContent) (tables : TablesState TheEdit) (users : List (List ℕ)) (has_diverged : Bool)
+module _ {TheContent Config TheEdit Node : Type 0} (setup : SetupState TheContent Config TheEdit) (has_diverged : Bool)
     (devices : List (RecordedState Config Node)) (operators : List (List (Option ℕ))) where
   abbrev At : Managing → CoreValue TheContent Config TheEdit Node
-  At manager = core_value content tables users has_diverged manager devices operators
+  At manager = core_value setup has_diverged manager devices operators
 
   pub turn_fails : (result : Result Happened TurnFault) (why : TurnFault) (entry : Option Entry) (before after : Managing) (c : Came Config Node) → result ≡ Err why
       → (why ≡ fault.NoMemory) ⊎ (why ≡ fault.DiskFault) → (Failed why ≡ Failed fault.NoMemory → after ≡ before) → (Failed why ≡ Failed fault.DiskFault → FailsAt entry before after)

@@ -15,15 +15,15 @@ use Rattle.nm_journal.specs.Fits.{ReadsAs}
 use Rattle.nm_recovery.specs.Recovery.{is_started, is_ended_in}
 use Rattle.nm_decider.specs.declared.course.NextAction.{NextAction}
 use Rattle.nm_decider.specs.declared.course.NextAction.TheVariants as next
-use Rattle.nm_decider.specs.Course.{next_action}
+use Rattle.nm_decider.specs.Course.{CourseState, next_action}
 use Rattle.nm_wire.specs.Wire.{WireState, session_at}
 use Rattle.nm_history.specs.History.{RecordedState, Served, Parted, served, lost}
 use Rattle.nm_manager.specs.declared.action.Action.{Action}
 use Rattle.nm_manager.specs.declared.action.Action.TheVariants as action
 use Rattle.nm_manager.specs.Queues.{is_ready_in}
-use Rattle.nm_manager.specs.Slot.{SlotState, decided, told_wire, lost_wire}
+use Rattle.nm_manager.specs.Slot.{SideState, SlotState, PairStep, sends_pair, renews_pair, receives_pair, breaks_pair, decided, told_wire, lost_wire}
 use Rattle.nm_manager.specs.Manager as manager
-use Rattle.nm_manager.specs.Manager.{ManagerState, Step, MayRead, slot_at, start_of, start_by, entry_of, entry_by, entry_next, submitted_by, sent_by, acts, turned_by, received_by, broken_by, forgotten_by, renewed_by, wires_in, told_on, lost_on, wire_in}
+use Rattle.nm_manager.specs.Manager.{ManagerState, Step, MayRead, slot_at, start_of, start_by, entry_of, entry_by, entry_next, submitted_by, sent_by, acts, turned_by, on_slot, forgotten_by, renewed_by, wires_in, told_on, lost_on, wire_in}
 use Rattle.nm_world.specs.Runs.{GoesOnAs, IsBetween}
 use Rattle.nm_world.specs.World as world
 use Rattle.nm_world.specs.World.{Setting, CoreState, WorldState, Came, Meeting, Moved, Asking, manager_in, core_of, met, moved, asked_by, told_by, lost_by, loses, lost_from, losing_at, does, delivered_to, delivering_at, anew_at, is_side_open, undelivered, device_at, later_at, asking_at, leaving_at, operator_at, elementary, world_step}
@@ -91,10 +91,13 @@ submits_enters state change None = refl
 submits_enters state change (Some plan) =
     step_if (may_follow state.entries (start_of change plan)) state (manager.with_entry state (start_of change plan)) action.Started (start_of change plan) refl
 
+pair_enters : (step : CourseState → SideState → PairStep) (state : ManagerState) (change device : ℕ) (slot : Option SlotState) → StepEnters state None (on_slot step state change device slot)
+pair_enters step state change device None = refl
+pair_enters step state change device (Some slot) = refl
+
 sends_enters : (state : ManagerState) (change device : ℕ) (what : Ask) (plan : Option ChangePlan) (slot : Option SlotState) → StepEnters state None (sent_by state change plan slot device what)
 sends_enters state change device what None slot = refl
-sends_enters state change device what (Some plan) None = refl
-sends_enters state change device what (Some plan) (Some slot) = refl
+sends_enters state change device what (Some plan) slot = pair_enters (sends_pair plan state.entries device what) state change device slot
 
 acts_enters : (plans : List ChangePlan) (state : ManagerState) (change : ℕ) (slot : SlotState) (act : NextAction) → slot_at state change ≡ Some slot
     → StepEnters state (entry_of change act) (acts plans state change act)
@@ -118,14 +121,6 @@ turns_enters : (plans : List ChangePlan) (state : ManagerState) (change : ℕ) (
 turns_enters plans state change true = turned_by_enters plans state change (slot_at state change) refl
 turns_enters plans state change false = refl
 
-receives_enters : (state : ManagerState) (change device link number : ℕ) (slot : Option SlotState) → StepEnters state None (received_by state change device link number slot)
-receives_enters state change device link number None = refl
-receives_enters state change device link number (Some slot) = refl
-
-breaks_enters : (state : ManagerState) (change device : ℕ) (slot : Option SlotState) → StepEnters state None (broken_by state change device slot)
-breaks_enters state change device None = refl
-breaks_enters state change device (Some slot) = refl
-
 forgets_enters : (state : ManagerState) (change : ℕ) (plan : Option ChangePlan) (slot : Option SlotState) (may : Bool)
     → StepEnters state None (if may then forgotten_by state change plan slot else manager.idle state)
 forgets_enters state change plan slot false = refl
@@ -137,8 +132,7 @@ renews_enters : (state : ManagerState) (change device : ℕ) (plan : Option Chan
     → StepEnters state None (if may then renewed_by state change device plan slot else manager.idle state)
 renews_enters state change device plan slot false = refl
 renews_enters state change device None slot true = refl
-renews_enters state change device (Some plan) None true = refl
-renews_enters state change device (Some plan) (Some slot) true = refl
+renews_enters state change device (Some plan) slot true = pair_enters (renews_pair plan state.entries device) state change device slot
 
 wires_entries : (state : ManagerState) (change device : ℕ) (happens : WireState → WireState) (slot : Option SlotState) → (wires_in state change device happens slot).entries ≡ state.entries
 wires_entries state change device happens None = refl
@@ -229,8 +223,8 @@ module _ {Config TheEdit Node : Type 0} (m : Meaning Config TheEdit Node) (setti
   event_enters w (Turn change) = turns_enters setting.plans (manager_in w) change (is_ready_in w.entries change)
   event_enters w (Deliver change device link) =
       met_enters w device (delivering_at m setting.tables (manager_in w) change device link (device_at w device)) (delivering_keeps m (manager_in w) change device link setting.tables (device_at w device))
-  event_enters w (Answer change device link number) = receives_enters (manager_in w) change device link number (slot_at (manager_in w) change)
-  event_enters w (Break change device) = breaks_enters (manager_in w) change device (slot_at (manager_in w) change)
+  event_enters w (Answer change device link number) = pair_enters (receives_pair device link number) (manager_in w) change device (slot_at (manager_in w) change)
+  event_enters w (Break change device) = pair_enters (breaks_pair device) (manager_in w) change device (slot_at (manager_in w) change)
   event_enters w (Lose change device link) =
       met_enters w device (losing_at m (manager_in w) change device link (device_at w device)) (losing_keeps m (manager_in w) change device link (device_at w device))
   event_enters w (Advance device seconds) = moved_enters w device (later_at m seconds (device_at w device))

@@ -5,6 +5,7 @@ pub mod Meetings
 pub mod Beginnings
 pub mod Order
 pub mod Growing
+pub mod Absent
 pub mod Aside
 pub mod Passing
 pub mod Crashing

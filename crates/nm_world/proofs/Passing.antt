@@ -281,6 +281,7 @@ module _ {TheContent Config TheEdit Node : Type 0} where
   whole_of core trail = record {
     content = core.content;
     setting = core.setting;
+    first_configs = core.first_configs;
     failed = core.failed;
     has_failed = core.has_failed;
     state = record { devices = core.state.devices; entries = core.state.entries; slots = core.state.slots; operators = core.state.operators; trail = trail; has_diverged = core.state.has_diverged };

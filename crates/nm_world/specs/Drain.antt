@@ -16,6 +16,7 @@ use Rattle.nm_world.specs.World.{Setting, CoreState, WorldState, core_of, manage
 -- ---- the first of many
 
 module _ {A : Type 0} where
+  -- the first of two that is there
   abbrev pub found_or : Option A → Option A → Option A
   found_or None later = later
   found_or (Some x) later = Some x
@@ -25,6 +26,7 @@ module _ {A : Type 0} where
   first_from find number zero = None
   first_from find number (suc count) = found_or (find number) (first_from find (number + 1) count)
 
+-- an event, where it applies
 abbrev pub event_if : Bool → Event → Option Event
 event_if true event = Some event
 event_if false event = None
@@ -43,6 +45,7 @@ module _ {Config Node : Type 0} where
   abbrev pub lose_first : RecordedState Config Node → WireState → ℕ → ℕ → Option Event
   lose_first r links change device = first_from (lose_link r links change device) 1 (length links.links)
 
+-- more replies were sent than were handled
 abbrev pub is_awaited_by : ℕ × ℕ → Bool
 is_awaited_by counts = nat_lt counts.1 counts.0
 
@@ -51,6 +54,7 @@ abbrev pub is_awaited : WireState → ℕ → Bool
 is_awaited links link = is_awaited_by (counts_of (link_at links link))
 
 module _ {Config Node : Type 0} where
+  -- the session of the current link has ended, where there is one
   abbrev pub is_stranded_on : RecordedState Config Node → WireState → Option ℕ → Bool
   is_stranded_on r links None = false
   is_stranded_on r links (Some link) = not (is_side_open r links link) && not (is_awaited links link)
@@ -63,6 +67,7 @@ module _ {Config Node : Type 0} where
   abbrev pub break_on : RecordedState Config Node → WireState → ℕ → ℕ → Option Event
   break_on r links change device = event_if (is_stranded r links) (Break change device)
 
+  -- the delivery on the current link, where something is on its way
   abbrev pub deliver_by : RecordedState Config Node → WireState → ℕ → ℕ → Option ℕ → Option Event
   deliver_by r links change device None = None
   deliver_by r links change device (Some link) = event_if (is_some (undelivered r links link)) (Deliver change device link)
@@ -71,6 +76,7 @@ module _ {Config Node : Type 0} where
   abbrev pub deliver_on : RecordedState Config Node → WireState → ℕ → ℕ → Option Event
   deliver_on r links change device = deliver_by r links change device links.current
 
+-- the answer on the current link, where a reply waits
 abbrev pub answer_by : WireState → ℕ → ℕ → Option ℕ → Option Event
 answer_by links change device None = None
 answer_by links change device (Some link) = event_if (is_awaited links link) (Answer change device link (replies_on links link))
@@ -89,6 +95,7 @@ found_by rules.Deliver r links change device = deliver_on r links change device
 found_by rules.Answer r links change device = answer_on links change device
 
 module _ {Config Node : Type 0} (devices : List (RecordedState Config Node)) (state : ManagerState) where
+  -- what a rule finds at a change set and a device that is there
   abbrev pub found_of : Rule → ℕ → ℕ → Option (RecordedState Config Node) → Option Event
   found_of rule change device None = None
   found_of rule change device (Some r) = found_by rule r (wire_in state change device) change device
@@ -101,6 +108,7 @@ module _ {Config Node : Type 0} (devices : List (RecordedState Config Node)) (st
   at_devices rule change = first_from (at_pair rule change) 1 (length devices)
 
 module _ {Config Node : Type 0} (devices : List (RecordedState Config Node)) (operators : List (List (Option ℕ))) where
+  -- an operator's leaving, where it has an open session there
   abbrev pub leave_by : ℕ → ℕ → Option (List (Option ℕ)) → Option (RecordedState Config Node) → Option Event
   leave_by number device None r = None
   leave_by number device (Some operator) None = None
@@ -136,6 +144,7 @@ module _ {Config Node : Type 0} (devices : List (RecordedState Config Node)) (st
   goes_on change = found_or (at_devices devices state rules.Break change)
       (found_or (at_devices devices state rules.Deliver change) (found_or (at_devices devices state rules.Answer change) (Some (Turn change))))
 
+  -- the turn of a change set, where there is one
   abbrev pub goes_on_with : Option ℕ → Option Event
   goes_on_with None = None
   goes_on_with (Some change) = goes_on change
@@ -145,6 +154,7 @@ module _ {Config Node : Type 0} (devices : List (RecordedState Config Node)) (st
   drain_of changes operators =
       found_or (leaves devices operators) (found_or (loses_links changes) (goes_on_with (first_ready changes state.entries)))
 
+-- the next event of a drain, in a core
 abbrev pub drain_in : {Config Node : Type 0} → ℕ → CoreState Config Node → Option Event
 drain_in changes w = drain_of w.devices (manager_in w) changes w.operators
 
@@ -153,6 +163,7 @@ abbrev pub drain_event : {Config TheEdit Node : Type 0} → Setting TheEdit → 
 drain_event setting w = drain_in (length setting.plans) (core_of w)
 
 module _ {Config TheEdit Node : Type 0} (m : Meaning Config TheEdit Node) (setting : Setting TheEdit) where
+  -- the world after the next event of a drain, where there is one
   abbrev pub drain_by : WorldState Config Node → Option Event → WorldState Config Node
   drain_by w None = w
   drain_by w (Some event) = world_step m setting w event

@@ -40,6 +40,7 @@ module _ {A : Type 0} where
   each_from give number zero = []
   each_from give number (suc count) = give number ++ each_from give (number + 1) count
 
+-- a change set and a device, where it is so
 abbrev pub pair_if : Bool → ℕ → ℕ → List Pair
 pair_if true change device = record { change = change; device = device } ∷ []
 pair_if false change device = []
@@ -74,8 +75,10 @@ module _ {Config Node : Type 0} where
     unsettled = each_from (unsettling devices state) 1 changes;
   }
 
+-- what is reported of a core
 abbrev pub report_in : {Config TheEdit Node : Type 0} → Setting TheEdit → CoreState Config Node → Report
 report_in setting w = report_from w.devices (manager_in w) (length setting.plans)
 
+-- what is reported of a world
 abbrev pub report_of : {Config TheEdit Node : Type 0} → Setting TheEdit → WorldState Config Node → Report
 report_of setting w = report_in setting (core_of w)

@@ -1,10 +1,9 @@
 -- The world: devices with their histories, the manager's journal and what it keeps of each change set, operators, and what
 -- each event does to them. An event that doesn't apply changes nothing but the trail (this project's own). The code changes
 -- its parts in place; these are functions of the whole.
-use Rattle.std.specs.Prelude.{◌≡◌, ℕ, zero, suc, ◌+◌, ◌-◌, ◌==◌, List, [], ◌∷◌, ◌++◌, Bool, true, false, ◌&&◌, length, map, replicate, Option, Some, None, is_some, slice_get, slice_set, Result, Ok, Err, if◌then◌else◌}
+use Rattle.std.specs.Prelude.{◌≡◌, ◌≤◌, ℕ, zero, suc, ◌+◌, ◌-◌, ◌==◌, List, [], ◌∷◌, ◌++◌, Bool, true, false, ◌&&◌, length, map, replicate, Option, Some, None, is_some, slice_get, slice_set, Result, Ok, Err, if◌then◌else◌}
 use Rattle.std.specs.List.{All}
 use Rattle.nm_base.specs.declared.fault.NoMemory.{NoMemory}
-use Rattle.nm_proto.specs.declared.ask.Ask.TheVariants as ask
 use Rattle.nm_proto.specs.declared.message.Request.{Request}
 use Rattle.nm_proto.specs.declared.message.Reply.{Reply}
 use Rattle.nm_proto.specs.declared.journal.Entry.{Entry}
@@ -23,9 +22,10 @@ use Rattle.nm_history.specs.History.{RecordedState, recorded, recorded_with, Ser
 use Rattle.nm_manager.specs.declared.action.Action.{Action}
 use Rattle.nm_manager.specs.declared.action.Action.TheVariants as action
 use Rattle.nm_manager.specs.declared.action.TurnFault.{TurnFault}
+use Rattle.nm_manager.specs.Requests.{IsWellFormed}
 use Rattle.nm_manager.specs.Slot.{SlotState}
 use Rattle.nm_manager.specs.Manager as manager
-use Rattle.nm_manager.specs.Manager.{Managing, ManagerState, Step, slots_from, submitted, turned, received, broken, forgotten, renewed, start_at, entry_turned, wire_in, told_on, lost_on, restarted_on, start_anew, request_to, request_next}
+use Rattle.nm_manager.specs.Manager.{Managing, ManagerState, Step, slots_from, submitted, turned, received, broken, forgotten, renewed, start_at, entry_turned, wire_in, told_on, lost_on, restarted_on, start_anew}
 use Rattle.nm_world.specs.declared.happened.Happened.{Happened}
 use Rattle.nm_world.specs.declared.happened.Happened.TheVariants as happened
 use Rattle.nm_world.specs.declared.happened.TraceEntry.{TraceEntry}
@@ -65,9 +65,11 @@ pub record Came (Config Node : Type 0) : Type 0 where
 -- ---- what a world is made of
 
 module _ {Config Node : Type 0} where
+  -- a device, by its number
   abbrev pub device_at : CoreState Config Node → ℕ → Option (RecordedState Config Node)
   device_at w device = slice_get w.devices (device - 1)
 
+  -- another device in its place
   abbrev pub with_device : CoreState Config Node → ℕ → RecordedState Config Node → CoreState Config Node
   with_device w device r = record w { devices = slice_set w.devices (device - 1) r }
 
@@ -75,9 +77,11 @@ module _ {Config Node : Type 0} where
   abbrev pub manager_in : CoreState Config Node → ManagerState
   manager_in w = record { entries = w.entries; slots = w.slots }
 
+  -- the manager's entries and what it keeps are others
   abbrev pub with_manager : CoreState Config Node → ManagerState → CoreState Config Node
   with_manager w state = record w { entries = state.entries; slots = state.slots }
 
+  -- this came of an event
   abbrev pub came : CoreState Config Node → Happened → Came Config Node
   came w what = record { after = w; happened = what }
 
@@ -87,46 +91,46 @@ module _ {Config Node : Type 0} where
 
 -- ---- the manager alone
 
--- what the manager's action is in the world, with the request where it sent one
-abbrev pub happened_of : Action → Option Request → Happened
-happened_of action.Idle request = happened.Idle
-happened_of action.Started request = happened.Started
-happened_of (action.Sent device link) None = happened.Idle
-happened_of (action.Sent device link) (Some request) = happened.Sent device link request
-happened_of action.Handled request = happened.Handled
-happened_of action.Broken request = happened.Broken
-happened_of (action.Decided verdict) request = happened.Decided verdict
-happened_of action.Ended request = happened.Ended
-happened_of action.Forgot request = happened.Forgot
+-- what the manager's action is in the world
+abbrev pub happened_of : Action → Happened
+happened_of action.Idle = happened.Idle
+happened_of action.Started = happened.Started
+happened_of (action.Sent device link request) = happened.Sent device link request
+happened_of action.Handled = happened.Handled
+happened_of action.Broken = happened.Broken
+happened_of (action.Decided verdict) = happened.Decided verdict
+happened_of action.Ended = happened.Ended
+happened_of action.Forgot = happened.Forgot
 
 module _ {Config Node : Type 0} where
-  abbrev pub by_manager : CoreState Config Node → Step → Option Request → Came Config Node
-  by_manager w step request = came (with_manager w step.state) (happened_of step.action request)
+  -- the manager did a step
+  abbrev pub by_manager : CoreState Config Node → Step → Came Config Node
+  by_manager w step = came (with_manager w step.state) (happened_of step.action)
 
   -- ["submit",c]: the change set comes into the journal, once
   abbrev pub submitting : List ChangePlan → CoreState Config Node → ℕ → Came Config Node
-  submitting plans w change = by_manager w (submitted plans (manager_in w) change) None
+  submitting plans w change = by_manager w (submitted plans (manager_in w) change)
 
   -- ["turn",c]: one action of the manager, where the change set is submitted, not ended and ready
   abbrev pub turning : List ChangePlan → CoreState Config Node → ℕ → Came Config Node
-  turning plans w change = by_manager w (turned plans (manager_in w) change) (request_next plans (manager_in w) change)
+  turning plans w change = by_manager w (turned plans (manager_in w) change)
 
   -- ["answer",c,d,l,k]: the manager handles a reply, where it is the next one on the current link
   abbrev pub answering : CoreState Config Node → ℕ → ℕ → ℕ → ℕ → Came Config Node
-  answering w change device link number = by_manager w (received (manager_in w) change device link number) None
+  answering w change device link number = by_manager w (received (manager_in w) change device link number)
 
   -- ["break",c,d]: the manager's side of the current link ends, where there is one
   abbrev pub breaking : CoreState Config Node → ℕ → ℕ → Came Config Node
-  breaking w change device = by_manager w (broken (manager_in w) change device) None
+  breaking w change device = by_manager w (broken (manager_in w) change device)
 
   -- ["forget",c]: what the manager knows of a change set is lost, where it is submitted and not ended
   abbrev pub forgetting : List ChangePlan → CoreState Config Node → ℕ → Came Config Node
-  forgetting plans w change = by_manager w (forgotten plans (manager_in w) change) None
+  forgetting plans w change = by_manager w (forgotten plans (manager_in w) change)
 
   -- ["renew",c,d]: the timer of a pending commit is set anew (RFC 6241 section 8.4.1), where the change set is ready and undecided
   -- without trouble, and the device has acknowledged and awaits no reply
   abbrev pub renewing : List ChangePlan → CoreState Config Node → ℕ → ℕ → Came Config Node
-  renewing plans w change device = by_manager w (renewed plans (manager_in w) change device) (request_to plans (manager_in w) change device ask.Renew)
+  renewing plans w change device = by_manager w (renewed plans (manager_in w) change device)
 
   -- ["crash"]: all that the manager knows is lost, and it goes on from its journal
   abbrev pub crashing : List ChangePlan → CoreState Config Node → Came Config Node
@@ -135,6 +139,7 @@ module _ {Config Node : Type 0} where
 -- ---- a device and the manager's links to it
 
 module _ {Config Node : Type 0} where
+  -- the session of a link is open, or it has none yet
   abbrev pub is_session_open : RecordedState Config Node → Option ℕ → Bool
   is_session_open r None = true
   is_session_open r (Some session) = is_open r.device.sessions session
@@ -154,6 +159,7 @@ pub record Meeting (Config Node : Type 0) : Type 0 where
   pub happened : Happened
 
 module _ {Config Node : Type 0} where
+  -- a device did what was asked, and the manager keeps the reply
   abbrev pub told_by : ManagerState → ℕ → ℕ → ℕ → Option (Served Config Node) → Option (Meeting Config Node)
   told_by state change device link None = None
   told_by state change device link (Some s) = Some (record {
@@ -162,6 +168,7 @@ module _ {Config Node : Type 0} where
     happened = happened.Replied s.reply s.undone;
   })
 
+  -- a session is lost, and the link ends
   abbrev pub lost_by : ManagerState → ℕ → ℕ → ℕ → Option (Parted Config Node) → Option (Meeting Config Node)
   lost_by state change device link None = None
   lost_by state change device link (Some parted) = Some (record {
@@ -182,10 +189,12 @@ module _ {Config TheEdit Node : Type 0} (m : Meaning Config TheEdit Node) where
       Some (record { device = r; manager = lost_on state change device link; happened = happened.Lost false })
   loses r state change device link (Some session) = lost_by state change device link (lost m r session)
 
+  -- the same of a link whose device side is open
   abbrev pub lost_from : RecordedState Config Node → ManagerState → ℕ → ℕ → ℕ → WireState → Option (Meeting Config Node)
   lost_from r state change device link links =
       if is_side_open r links link then loses r state change device link (session_at links link) else None
 
+  -- the same of a device that is there
   abbrev pub losing_at : ManagerState → ℕ → ℕ → ℕ → Option (RecordedState Config Node) → Option (Meeting Config Node)
   losing_at state change device link None = None
   losing_at state change device link (Some r) = lost_from r state change device link (wire_in state change device)
@@ -195,13 +204,16 @@ module _ {Config TheEdit Node : Type 0} (m : Meaning Config TheEdit Node) where
   losing w change device link = met w device (losing_at (manager_in w) change device link (device_at w device))
 
 module _ {Config TheEdit Node : Type 0} (m : Meaning Config TheEdit Node) (tables : TablesState TheEdit) where
+  -- a device does a request, where there is one
   abbrev pub does : RecordedState Config Node → ManagerState → ℕ → ℕ → ℕ → Option ℕ → Option Request → Option (Meeting Config Node)
   does r state change device link session None = None
   does r state change device link session (Some request) = told_by state change device link (served m tables r session request)
 
+  -- a device does what a link has outstanding
   abbrev pub delivered_to : RecordedState Config Node → ManagerState → ℕ → ℕ → ℕ → WireState → Option (Meeting Config Node)
   delivered_to r state change device link links = does r state change device link (session_at links link) (undelivered r links link)
 
+  -- the same of a device that is there
   abbrev pub delivering_at : ManagerState → ℕ → ℕ → ℕ → Option (RecordedState Config Node) → Option (Meeting Config Node)
   delivering_at state change device link None = None
   delivering_at state change device link (Some r) = delivered_to r state change device link (wire_in state change device)
@@ -211,6 +223,7 @@ module _ {Config TheEdit Node : Type 0} (m : Meaning Config TheEdit Node) (table
   delivering w change device link = met w device (delivering_at (manager_in w) change device link (device_at w device))
 
 module _ {Config TheEdit Node : Type 0} (m : Meaning Config TheEdit Node) where
+  -- a device restarts, and its sides of all links end
   abbrev pub restarted_with : ManagerState → ℕ → RecordedState Config Node → Meeting Config Node
   restarted_with state device r = record {
     device = recorded_with r device_event.Restarted (restarting m r.device);
@@ -218,6 +231,7 @@ module _ {Config TheEdit Node : Type 0} (m : Meaning Config TheEdit Node) where
     happened = happened.Restarted (restarting m r.device).undone;
   }
 
+  -- the same of a device that is there
   abbrev pub anew_at : ManagerState → ℕ → Option (RecordedState Config Node) → Option (Meeting Config Node)
   anew_at state device None = None
   anew_at state device (Some r) = Some (restarted_with state device r)
@@ -239,12 +253,14 @@ moved w device None = idle w
 moved w device (Some now) = came (with_device w device now.device) now.happened
 
 module _ {Config TheEdit Node : Type 0} (m : Meaning Config TheEdit Node) where
+  -- the clock of a device rises
   abbrev pub later_by : ℕ → RecordedState Config Node → Moved Config Node
   later_by seconds r = record {
     device = recorded_with r (device_event.Advanced seconds) (advancing m r.device seconds);
     happened = happened.Now (r.device.clock + seconds) (advancing m r.device seconds).undone;
   }
 
+  -- the same of a device that is there
   abbrev pub later_at : ℕ → Option (RecordedState Config Node) → Option (Moved Config Node)
   later_at seconds None = None
   later_at seconds (Some r) = Some (later_by seconds r)
@@ -260,10 +276,12 @@ abbrev pub given_in : Option (Option ℕ) → Option ℕ
 given_in None = None
 given_in (Some session) = session
 
+-- the session that an operator was given on a device
 abbrev pub given_on : List (Option ℕ) → ℕ → Option ℕ
 given_on operator place = given_in (slice_get operator place)
 
 module _ {Config Node : Type 0} where
+  -- that session, where it is open
   abbrev pub open_on : RecordedState Config Node → Option ℕ → Option ℕ
   open_on r None = None
   open_on r (Some session) = if is_open r.device.sessions session then Some session else None
@@ -272,6 +290,7 @@ module _ {Config Node : Type 0} where
   abbrev pub has_on : List (Option ℕ) → RecordedState Config Node → ℕ → Option ℕ
   has_on operator r place = open_on r (given_on operator place)
 
+-- an operator has another session on a device
 abbrev pub with_session : List (Option ℕ) → ℕ → Option ℕ → List (Option ℕ)
 with_session operator place None = operator
 with_session operator place (Some session) = slice_set operator place (Some session)
@@ -291,6 +310,7 @@ pub record Asking (Config Node : Type 0) : Type 0 where
   pub happened : Happened
 
 module _ {Config Node : Type 0} where
+  -- what an operator is told, and what it has then
   abbrev pub answered_to : List (Option ℕ) → ℕ → Option (Served Config Node) → Option (Asking Config Node)
   answered_to operator place None = None
   answered_to operator place (Some s) =
@@ -312,6 +332,7 @@ module _ {Config TheEdit Node : Type 0} (m : Meaning Config TheEdit Node) (table
   abbrev pub asks : RecordedState Config Node → List (Option ℕ) → ℕ → Request → Option (Asking Config Node)
   asks r operator place request = asks_with r operator place request (has_on operator r place)
 
+  -- an operator asks a device, where both are there
   abbrev pub asking_at : ℕ → Request → Option (List (Option ℕ)) → Option (RecordedState Config Node) → Option (Asking Config Node)
   asking_at device request None r = None
   asking_at device request (Some operator) None = None
@@ -321,15 +342,18 @@ module _ {Config TheEdit Node : Type 0} (m : Meaning Config TheEdit Node) (table
   abbrev pub asking : CoreState Config Node → ℕ → ℕ → Request → Came Config Node
   asking w number device request = asked_by w number device (asking_at device request (operator_at w.operators number) (device_at w device))
 
+-- a session was lost
 abbrev pub parted_by : {Config Node : Type 0} → Option (Parted Config Node) → Option (Moved Config Node)
 parted_by None = None
 parted_by (Some parted) = Some (record { device = parted.after; happened = happened.Left parted.undone })
 
 module _ {Config TheEdit Node : Type 0} (m : Meaning Config TheEdit Node) where
+  -- an operator leaves, where it has an open session
   abbrev pub left_with : RecordedState Config Node → Option ℕ → Option (Moved Config Node)
   left_with r None = None
   left_with r (Some session) = parted_by (lost m r session)
 
+  -- the same, where both are there
   abbrev pub leaving_at : ℕ → Option (List (Option ℕ)) → Option (RecordedState Config Node) → Option (Moved Config Node)
   leaving_at device None r = None
   leaving_at device (Some operator) None = None
@@ -339,9 +363,20 @@ module _ {Config TheEdit Node : Type 0} (m : Meaning Config TheEdit Node) where
   abbrev pub leaving : CoreState Config Node → ℕ → ℕ → Came Config Node
   leaving w number device = moved w device (leaving_at device (operator_at w.operators number) (device_at w device))
 
+module _ {Config Node : Type 0} where
+  abbrev pub session_by : ℕ → Option (List (Option ℕ)) → Option (RecordedState Config Node) → Option ℕ
+  session_by place None r = None
+  session_by place (Some operator) None = None
+  session_by place (Some operator) (Some r) = has_on operator r place
+
+  -- the session that an operator has on a device, where there are both
+  abbrev pub operator_session : CoreState Config Node → ℕ → ℕ → Option ℕ
+  operator_session w number device = session_by (device - 1) (operator_at w.operators number) (device_at w device)
+
 -- ---- the whole
 
 module _ {Config Node : Type 0} where
+  -- what stands, without the trail
   abbrev pub core_of : WorldState Config Node → CoreState Config Node
   core_of w = record { devices = w.devices; entries = w.entries; slots = w.slots; operators = w.operators; has_diverged = w.has_diverged }
 
@@ -404,6 +439,7 @@ module _ {Config TheEdit Node : Type 0} (m : Meaning Config TheEdit Node) (setti
   abbrev pub round : WorldState Config Node → ℕ → WorldState Config Node
   round w change = followed (world_step m setting w (Turn change)) change (sending_of (elementary m setting (core_of w) (Turn change)).happened)
 
+  -- so many rounds
   abbrev pub rounds : ℕ → WorldState Config Node → ℕ → WorldState Config Node
   rounds zero w change = w
   rounds (suc n) w change = rounds n (round w change) change
@@ -446,6 +482,22 @@ pub record IsFirst {Config TheEdit Node : Type 0} (m : Meaning Config TheEdit No
   pub belongs : m.belongs config
   pub valid : m.violation config ≡ None
 
+-- what a world can begin with: configurations that devices may begin with, edits that belong to the content, change sets that are
+-- well formed, and no more devices and change sets than there are numbers for
+pub record CanBegin {Config TheEdit Node : Type 0} (m : Meaning Config TheEdit Node) (setting : Setting TheEdit)
+    (first_configs : List Config) : Type 0 where
+  pub first : All (IsFirst m) first_configs
+  pub edits : All m.edit_belongs setting.tables.edits
+  pub few_devices : length first_configs ≤ 32
+  pub well_formed : All IsWellFormed setting.plans
+  pub few : length setting.plans ≤ 64
+
+-- what worlds begin with: their content, what stays through a run, and the first configuration of each device
+pub record SetupState (TheContent Config TheEdit : Type 0) : Type 0 where
+  pub content : TheContent
+  pub setting : Setting TheEdit
+  pub first_configs : List Config
+
 -- ---- what the code holds
 
 -- each device is sound for the content
@@ -456,11 +508,12 @@ AreSound m devices = All (λ r. IsSound m r.device) devices
 abbrev pub AreInTime : {Config Node : Type 0} → List (RecordedState Config Node) → Type 0
 AreInTime devices = All (λ r. IsInTime r.device.clock) devices
 
--- a world as the code holds it: its content, its setting, the entry at which its journal stopped, whether it has failed, and its
--- state
+-- a world as the code holds it: its content, its setting and the configurations that it began with, the entry at which its journal
+-- stopped, whether it has failed, and its state
 pub record WorldValue (TheContent Config TheEdit Node : Type 0) : Type 0 where
   pub content : TheContent
   pub setting : Setting TheEdit
+  pub first_configs : List Config
   pub failed : Option Entry
   pub has_failed : Bool
   pub state : WorldState Config Node
@@ -469,15 +522,46 @@ pub record WorldValue (TheContent Config TheEdit Node : Type 0) : Type 0 where
 pub record CoreValue (TheContent Config TheEdit Node : Type 0) : Type 0 where
   pub content : TheContent
   pub setting : Setting TheEdit
+  pub first_configs : List Config
   pub failed : Option Entry
   pub has_failed : Bool
   pub state : CoreState Config Node
 
 module _ {TheContent Config TheEdit Node : Type 0} where
+  -- a world at its beginning
+  abbrev pub fresh_world : SetupState TheContent Config TheEdit → WorldValue TheContent Config TheEdit Node
+  fresh_world setup = record {
+    content = setup.content;
+    setting = setup.setting;
+    first_configs = setup.first_configs;
+    failed = None;
+    has_failed = false;
+    state = start setup.setting setup.first_configs;
+  }
+
+  -- a world that begins again
+  abbrev pub world_anew : WorldValue TheContent Config TheEdit Node → WorldValue TheContent Config TheEdit Node
+  world_anew w = record w { failed = None; has_failed = false; state = start w.setting w.first_configs }
+
+  -- the same of what stands at a moment
+  abbrev pub fresh_core : SetupState TheContent Config TheEdit → CoreValue TheContent Config TheEdit Node
+  fresh_core setup = record {
+    content = setup.content;
+    setting = setup.setting;
+    first_configs = setup.first_configs;
+    failed = None;
+    has_failed = false;
+    state = begin setup.setting setup.first_configs;
+  }
+
+  abbrev pub core_anew : CoreValue TheContent Config TheEdit Node → CoreValue TheContent Config TheEdit Node
+  core_anew w = record w { failed = None; has_failed = false; state = begin w.setting w.first_configs }
+
   -- the same world in another state
   abbrev pub with_state : WorldValue TheContent Config TheEdit Node → WorldState Config Node → WorldValue TheContent Config TheEdit Node
   with_state w state = record w { state = state }
 
+  -- what the world's journal holds
   abbrev pub journal_of : WorldValue TheContent Config TheEdit Node → JournalState
   journal_of w = record { entries = w.state.entries; failed = w.failed }
 
@@ -497,35 +581,16 @@ abbrev pub IsMet : {Config Node : Type 0} → Happened → (old new : RecordedSt
 IsMet what old new before after None = (what ≡ happened.Idle) × (new ≡ old) × (after ≡ before)
 IsMet what old new before after (Some now) = (what ≡ now.happened) × (new ≡ now.device) × (after ≡ manager.with_state before now.manager)
 
--- the same of the devices, one of which it changes
-abbrev pub AreMet : {Config Node : Type 0} → Happened → (old new : List (RecordedState Config Node)) → (before after : Managing)
-    → ℕ → Option (Meeting Config Node) → Type 0
-AreMet what old new before after device None = (what ≡ happened.Idle) × (new ≡ old) × (after ≡ before)
-AreMet what old new before after device (Some now) =
-    (what ≡ now.happened) × (new ≡ slice_set old (device - 1) now.device) × (after ≡ manager.with_state before now.manager)
-
 -- a call at a device and an operator
 abbrev pub IsAsked : {Config Node : Type 0} → Happened → (old new : RecordedState Config Node)
     → (before after : List (Option ℕ)) → Option (Asking Config Node) → Type 0
 IsAsked what old new before after None = (what ≡ happened.Idle) × (new ≡ old) × (after ≡ before)
 IsAsked what old new before after (Some now) = (what ≡ now.happened) × (new ≡ now.device) × (after ≡ now.operator)
 
--- the same of the devices and the operators
-abbrev pub AreAsked : {Config Node : Type 0} → Happened → (old new : List (RecordedState Config Node))
-    → (before after : List (List (Option ℕ))) → ℕ → ℕ → Option (Asking Config Node) → Type 0
-AreAsked what old new before after number device None = (what ≡ happened.Idle) × (new ≡ old) × (after ≡ before)
-AreAsked what old new before after number device (Some now) =
-    (what ≡ now.happened) × (new ≡ slice_set old (device - 1) now.device) × (after ≡ slice_set before (number - 1) now.operator)
-
 -- a call at a device alone
 abbrev pub IsMoved : {Config Node : Type 0} → Happened → (old new : RecordedState Config Node) → Option (Moved Config Node) → Type 0
 IsMoved what old new None = (what ≡ happened.Idle) × (new ≡ old)
 IsMoved what old new (Some now) = (what ≡ now.happened) × (new ≡ now.device)
-
--- the same of the devices
-abbrev pub AreMoved : {Config Node : Type 0} → Happened → (old new : List (RecordedState Config Node)) → ℕ → Option (Moved Config Node) → Type 0
-AreMoved what old new device None = (what ≡ happened.Idle) × (new ≡ old)
-AreMoved what old new device (Some now) = (what ≡ now.happened) × (new ≡ slice_set old (device - 1) now.device)
 
 -- ---- calls that touch the journal, for the code
 
@@ -536,6 +601,7 @@ touches_journal (Turn change) = true
 touches_journal Crash = true
 touches_journal _ = false
 
+-- the manager crashes
 abbrev pub is_crash : Event → Bool
 is_crash Crash = true
 is_crash _ = false
@@ -572,6 +638,7 @@ module _ {TheContent Config TheEdit Node : Type 0} where
   abbrev pub IsAsBefore : CoreValue TheContent Config TheEdit Node → CoreValue TheContent Config TheEdit Node → Type 0
   IsAsBefore old new = new ≡ record old { failed = new.failed; has_failed = new.has_failed }
 
+  -- what the core's journal holds
   abbrev pub core_journal : CoreValue TheContent Config TheEdit Node → JournalState
   core_journal w = record { entries = w.state.entries; failed = w.failed }
 

@@ -3,7 +3,7 @@
 ghost use Rattle.std.specs.Prelude.{◌≡◌};
 ghost use Rattle.nm_world.specs.World.{sending_of};
 
-use nm_base::DeviceNo;
+use nm_base::{DeviceNo, Label};
 use nm_proto::{Event, Reply, Request, Verdict};
 
 /// What came of an event.
@@ -83,4 +83,15 @@ impl Happened {
 pub struct TraceEntry {
     pub event: Event,
     pub happened: Happened,
+}
+
+/// An event of an operator that a rule denied, so that it didn't happen.
+#[derive(Drop)]
+pub struct Denied {
+    /// Its place in what is told of a run, from 1: elementary events that came before it count, and those that were denied.
+    pub number: usize,
+    /// The name of the rule.
+    pub by: Label,
+    /// The path of the row at which it was denied, and None where the operation was.
+    pub path: Option<Label>,
 }

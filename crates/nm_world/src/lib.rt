@@ -5,6 +5,7 @@
 //! came of each, and on the journal's disk holding the entries so far at each moment.
 #![tactic(auto)]
 
+mod beginning;
 pub mod drain;
 pub mod happened;
 pub mod operator;
@@ -13,12 +14,13 @@ pub mod report;
 mod rest;
 mod search;
 pub mod settled;
-mod steps;
+pub mod setup;
 mod turns;
 pub mod world;
 mod world_core;
 
-pub use happened::{Happened, Sending, TraceEntry};
+pub use happened::{Denied, Happened, Sending, TraceEntry};
 pub use report::{Pair, Report};
 pub use rest::DRAIN_LIMIT;
+pub use setup::Setup;
 pub use world::World;

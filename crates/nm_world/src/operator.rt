@@ -1,3 +1,5 @@
+//! What an operator has: at each device the session that it was given last.
+
 ghost use Rattle.std.specs.Prelude.{◌≡◌, IfOk, replicate, None};
 
 use nm_base::{NoMemory, SessionId};

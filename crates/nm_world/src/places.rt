@@ -1,11 +1,11 @@
-//! Events at one device: with the manager's links to it, or with an operator that asks it.
+//! Events at one device: with the manager's links to it, or with an operator that asks it. Devices and operators are numbered from 1.
 
-ghost use Rattle.std.specs.Prelude.{◌≡◌, ◌≤◌, ◌+◌, ◌&&◌, length, Some, IfOk, OnErr};
+ghost use Rattle.std.specs.Prelude.{◌≡◌, ◌≤◌, ◌+◌, ◌-◌, ◌&&◌, length, option_copied, Some, IfOk, OnErr};
 ghost use Rattle.std.specs.List.{All};
 ghost use Rattle.nm_device.specs.Device.{IsInTime, IsSound};
 ghost use Rattle.nm_device.specs.Table.{is_opening};
 ghost use Rattle.nm_manager.specs.Manager.{wire_in};
-ghost use Rattle.nm_world.specs.World.{is_session_open, is_side_open, delivered_to, lost_from, loses, asks, asks_with, has_on, left_with, later_by, restarted_with, IsMet, IsAsked, IsMoved};
+ghost use Rattle.nm_world.specs.World.{is_session_open, is_side_open, delivered_to, lost_from, loses, asks, asks_with, has_on, left_with, later_by, operator_at, restarted_with, IsMet, IsAsked, IsMoved};
 
 use crate::happened::Happened;
 use crate::operator::Operator;
@@ -13,6 +13,23 @@ use nm_base::{ChangeNo, DeviceNo, NoMemory, SessionId};
 use nm_history::Recorded;
 use nm_manager::Manager;
 use nm_proto::{Content, Request, Tables};
+
+/// The place of a device.
+pub(crate) fn place_of(device: DeviceNo) -> usize
+    ensures { result ≡ device - 1 }
+{
+    usize::from(device.get()) - 1
+}
+
+/// The operator of a number, from 1.
+pub(crate) fn operator_at(operators: &[Operator], number: usize) -> Option<&Operator>
+    ensures { option_copied result ≡ operator_at operators.now number }
+{
+    if number == 0 {
+        return None;
+    }
+    operators.get(number - 1)
+}
 
 /// Whether a session is open at a device, where there is one.
 pub(crate) fn is_session_open<C: Content>(device: &Recorded<C>, session: Option<SessionId>) -> bool

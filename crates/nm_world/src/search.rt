@@ -1,13 +1,14 @@
 //! The next step that brings a world to rest: what is looked for at all devices, operators and change sets.
 
 ghost use Rattle.std.specs.Prelude.{◌≡◌, ◌≤◌, ◌<◌, ◌+◌, ◌-◌, ◌^◌, length, slice_get, option_copied, IfSome};
+ghost use Rattle.nm_world.specs.World.{operator_at, session_by};
 ghost use Rattle.nm_world.specs.declared.drain.Rule.TheVariants as rules;
 ghost use Rattle.nm_world.specs.Drain.{at_pair, at_devices, leave_on, leave_of, leaves, ready_at, first_ready, loses_links, goes_on, goes_on_with, drain_of};
 
 use crate::drain::{Rule, found_by};
 use crate::operator::Operator;
-use crate::steps::{operator_at, place_of};
-use nm_base::{ChangeNo, DeviceNo};
+use crate::places::{operator_at, place_of};
+use nm_base::{ChangeNo, DeviceNo, SessionId};
 use nm_history::Recorded;
 use nm_manager::Manager;
 use nm_proto::{Content, Event};
@@ -36,6 +37,20 @@ pub(crate) fn device_of<C: Content>(
     ensures { option_copied result ≡ slice_get devices.now (number - 1) }
 {
     devices.get(place_of(number))
+}
+
+/// The session that an operator, by its number from 1, has on a device.
+pub(crate) fn session_of<C: Content>(
+    devices: &[Recorded<C>],
+    operators: &[Operator],
+    number: u32,
+    device: DeviceNo,
+) -> Option<SessionId>
+    ensures { result ≡ session_by (device - 1) (operator_at operators.now number) (slice_get devices.now (device - 1)) }
+{
+    let operator = operator_at(operators, number as usize)?;
+    let recorded = device_of(devices, device)?;
+    operator.session(recorded, place_of(device))
 }
 
 // What a rule finds at a device.

@@ -40,10 +40,10 @@ impl<C: Content + Drop> WorldCore<C> {
         ensures devices { self.new.state.devices ≡ self.old.state.devices }
     {
         let action = self.manager.submit(disk, change)?;
-        Ok(happened_of(&action, None))
+        Ok(happened_of(action))
     }
 
-    // One action of the manager for a change set. What it sends is asked for before it is sent.
+    // One action of the manager for a change set.
     pub(crate) fn turn<D: Disk>(
         &mut self,
         disk: &mut D,
@@ -51,7 +51,6 @@ impl<C: Content + Drop> WorldCore<C> {
     ) -> Result<Happened, TurnFault>
         requires given { change ≤ length self.old.setting.plans }
         requires going { self.old.has_failed ≡ false }
-        requires whole { self.old.failed ≡ None }
         requires fits { Fits (core_journal self.old) (D.state disk.old) }
         ensures came { ComesOrFails result self.old self.new (turning self.old.setting.plans self.old.state change) }
         ensures no_memory { result ≡ Err fault.NoMemory → self.new ≡ self.old }
@@ -63,11 +62,8 @@ impl<C: Content + Drop> WorldCore<C> {
             → AnyMoment (D.state disk.old) (D.state disk.new) (MayRead self.old.state.entries (entry_turned (manager_in self.old.state) change)) }
         ensures devices { self.new.state.devices ≡ self.old.state.devices }
     {
-        let Ok(request) = self.manager.request_next(change) else {
-            return Err(TurnFault::NoMemory);
-        };
         let action = self.manager.turn(disk, change)?;
-        Ok(happened_of(&action, request))
+        Ok(happened_of(action))
     }
 }
 

@@ -1,26 +1,28 @@
 //! The world: what stands at a moment, and the trail of what has happened.
 
-ghost use Rattle.std.specs.Prelude.{◌≡◌, ◌≤◌, ◌<◌, ◌*◌, ◌^◌, ◌⊎◌, ℕ, length, [], Err, Some, None, false, IfOk, OnOk, OnErr, IfSome, IsSome};
+ghost use Rattle.std.specs.Prelude.{◌≡◌, ◌≤◌, ◌<◌, ◌*◌, ◌^◌, ◌⊎◌, ℕ, length, is_some, [], Err, Some, None, false, IfOk, OnOk, OnErr, IfSome, IsSome};
+ghost use Rattle.std.specs.Arc.{arc_value};
 ghost use Rattle.std.specs.List.{All};
 ghost use Rattle.nm_base.specs.Count.{Rose};
 ghost use Rattle.nm_disk.specs.Image.{AnyMoment};
 ghost use Rattle.nm_disk.specs.Keeps.{KeepsDisk};
 ghost use Rattle.nm_journal.specs.Fits.{ReadsAs, IsDamagedAt};
 ghost use Rattle.nm_manager.specs.Manager.{IsStrangeAt};
-ghost use Rattle.nm_manager.specs.Requests.{IsWellFormed};
 ghost use Rattle.nm_manager.specs.declared.action.TurnFault.TheVariants as fault;
 ghost use Rattle.nm_world.specs.Runs.{Does, HasTime, IsBetween, IsNumbered, IsReady, Journals, KeepsTime};
 
 use crate::happened::{Sending, TraceEntry};
+use crate::setup::Setup;
 use crate::world_core::WorldCore;
-use nm_base::{ChangeNo, DeviceNo, Label, NoMemory};
+use nm_base::{ChangeNo, DeviceNo, Label, NoMemory, SessionId};
 use nm_disk::Disk;
 use nm_history::Recorded;
 use nm_journal::Journal;
 use nm_manager::TurnFault;
-use nm_proto::{ChangePlan, Content, Entry, Event, Listed, Tables};
+use nm_proto::{ChangePlan, Content, Entry, Event, Tables};
 use std::alloc::Global;
 use std::marker::Model;
+use std::sync::Arc;
 
 /// The devices with their histories, the manager of all change sets with its links and journal, the operators beside it, and what
 /// has happened.
@@ -45,6 +47,7 @@ impl<C: Content + Drop> Model for World<C> {
     ghost view = { λ w. record {
       content = w.core.content;
       setting = w.core.setting;
+      first_configs = w.core.first_configs;
       failed = w.core.failed;
       has_failed = w.core.has_failed;
       state = record {
@@ -59,39 +62,33 @@ impl<C: Content + Drop> Model for World<C> {
 }
 
 impl<C: Content + Drop> World<C> {
-    ghost use Rattle.nm_world.specs.World.{start, AreSound, IsFirst};
+    ghost use Rattle.nm_world.specs.World.{core_of, fresh_world, operator_session, world_anew, AreSound};
 
-    /// The world before anything happened, with an operator of each user and a journal of no entries. The running configurations
-    /// stand in the order of the devices.
-    pub fn new(
-        alloc: Global,
-        content: C,
-        tables: Tables<C>,
-        running: Listed<C::Config>,
-        changes: Listed<ChangePlan>,
-        users: Listed<Label>,
-        journal: Journal,
-    ) -> Result<World<C>, NoMemory>
-        requires running { All (IsFirst (C.meaning content)) running }
-        requires few_devices { length running ≤ 32 }
-        requires edits { All (C.meaning content).edit_belongs tables.edits }
-        requires well_formed { All IsWellFormed changes }
-        requires few { length changes ≤ 64 }
+    /// The world before anything happened, with an operator of each user and a journal of no entries. Each device has its first
+    /// configuration for itself; the rest of the setup is shared.
+    pub fn new(alloc: Global, setup: Arc<Setup<C>>, journal: Journal) -> Result<World<C>, NoMemory>
         requires empty { journal ≡ record { entries = []; failed = None } }
-        ensures begun { IfOk result (λ w. w ≡ record {
-          content = content;
-          setting = record { tables = tables; plans = changes; users = users };
-          failed = None;
-          has_failed = false;
-          state = start (record { tables = tables; plans = changes; users = users }) running;
-        }) }
+        ensures begun { IfOk result (λ w. w ≡ fresh_world (arc_value setup)) }
         ensures in_time { (seconds : ℕ) → seconds ≤ 2 ^ 62 → IfOk result (λ w. HasTime seconds w.state.devices) }
     {
-        let core = WorldCore::new(alloc, content, tables, running, changes, users, journal)?;
+        let core = WorldCore::new(alloc, setup, journal)?;
         Ok(World {
             core,
             trail: Vec::new(alloc),
         })
+    }
+
+    /// Begins again, with an empty journal on a disk from which all is taken. Where the disk fails, this answers as where there is no
+    /// memory, and what stands then is any world.
+    pub fn begin_again<D: Disk>(&mut self, disk: &mut D) -> Result<(), NoMemory>
+        ensures begun { OnOk result (self.new ≡ world_anew self.old) }
+        ensures in_time { (seconds : ℕ) → seconds ≤ 2 ^ 62 → OnOk result (HasTime seconds self.new.state.devices) }
+        ensures ready { OnOk result (IsReady self.new (D.state disk.new)) }
+        ensures tells { OnOk result (is_some (D.state disk.new).contents ≡ is_some (D.state disk.old).contents) }
+    {
+        self.core.begin_again(disk)?;
+        self.trail.clear();
+        Ok(())
     }
 
     /// The content of the devices.
@@ -106,6 +103,13 @@ impl<C: Content + Drop> World<C> {
         ensures { result.now ≡ self.now.setting.tables }
     {
         self.core.tables()
+    }
+
+    /// The users of the operators, that of operator 1 first.
+    pub fn users(&self) -> &[Label]
+        ensures { result.now ≡ self.now.setting.users }
+    {
+        self.core.users()
     }
 
     /// The change sets, the first of them first.
@@ -137,6 +141,13 @@ impl<C: Content + Drop> World<C> {
         ensures { result.now ≡ self.now.state.trail }
     {
         self.trail.as_slice()
+    }
+
+    /// The session that an operator, by its number from 1, has on a device.
+    pub fn operator_session(&self, number: u32, device: DeviceNo) -> Option<SessionId>
+        ensures { result ≡ operator_session (core_of self.now.state) number device }
+    {
+        self.core.operator_session(number, device)
     }
 
     /// Whether the manager has failed: its journal takes no more.
@@ -313,8 +324,8 @@ impl<C: Content + Drop> World<C> {
         Ok(())
     }
 
-    // Does what an event says, a round by its elementary events.
-    fn step<D: Disk>(&mut self, disk: &mut D, event: &Event) -> Result<(), TurnFault>
+    /// Does what an event says, a round by its elementary events.
+    pub fn step<D: Disk>(&mut self, disk: &mut D, event: &Event) -> Result<(), TurnFault>
         requires given { IsNumbered (length self.old.setting.plans) event.now }
         requires ready { IsReady self.old (D.state disk.old) }
         ensures stepped { OnOk result (Does (λ w. event_step (C.meaning self.old.content) self.old.setting w event.now) self.old self.new
@@ -351,6 +362,8 @@ impl<C: Content + Drop> World<C> {
         // Without a crash nothing is read of the journal.
         ensures read { AreCalm events.now → (offset : ℕ) → result ≡ Err (fault.Damaged offset) → ⊥ }
         ensures operators { IfOk result (λ world. length world.state.operators ≡ length self.state.operators) }
+        // Each event takes less than 2^32 seconds.
+        ensures keeps_time { IfOk result (λ world. KeepsTime (2 ^ 32 * length events.now) self.state.devices world.state.devices) }
         ensures ready { IfOk result (λ world. IsReady world (D.state disk.new)) }
         ensures stored { IfOk result (λ world. IfSome (D.state disk.new).contents (ReadsAs world.state.entries)) }
         ensures disk_fault { result ≡ Err fault.DiskFault → Rose (D.state disk.old).faults (D.state disk.new).faults }

@@ -1,30 +1,28 @@
 //! What stands at a moment, and what each elementary event does to it. It is apart from the trail, so that the trail's room
 //! outlasts an event.
 
-ghost use Rattle.std.specs.Prelude.{◌≡◌, ◌≤◌, ◌<◌, ◌+◌, ◌^◌, ◌++◌, ◌∷◌, ℕ, length, map, replicate, [], None, false, IfOk, OnOk};
-ghost use Rattle.std.specs.List.{All};
-ghost use Rattle.nm_manager.specs.Requests.{IsWellFormed};
-ghost use Rattle.nm_history.specs.History.{recorded};
+ghost use Rattle.std.specs.Prelude.{◌≡◌, ◌≤◌, ◌<◌, ◌^◌, length, None, false};
 ghost use Rattle.nm_world.specs.World.{happened_of};
-ghost use Rattle.nm_manager.specs.declared.action.Action.TheVariants as action;
 
 use crate::happened::Happened;
 use crate::operator::Operator;
-use crate::steps::{advance_at, ask_at, deliver_at, leave_at, lose_at, restart_at};
-use nm_base::{ChangeNo, DeviceNo, Label, NoMemory};
+use crate::places::{
+    advance_by, ask_of, deliver_to, leave_from, lose_on, operator_at, place_of, restart_of,
+};
+use crate::search::session_of;
+use crate::setup::Setup;
+use nm_base::{ChangeNo, DeviceNo, Label, NoMemory, SessionId};
 use nm_history::Recorded;
-use nm_journal::Journal;
 use nm_manager::{Action, Manager};
-use nm_proto::{Ask, ChangePlan, Content, Entry, Event, Listed, Request, Tables};
+use nm_proto::{ChangePlan, Content, Entry, Event, Request, Tables};
 use std::alloc::Global;
 use std::marker::Model;
+use std::sync::Arc;
 
 /// The devices, the manager, and the operators beside it.
 pub(crate) struct WorldCore<C: Content + Drop> {
     pub(crate) alloc: Global,
-    pub(crate) content: C,
-    pub(crate) tables: Tables<C>,
-    pub(crate) users: Listed<Label>,
+    pub(crate) setup: Arc<Setup<C>>,
     pub(crate) manager: Manager,
     // Device d stands at place d - 1, operator o at place o - 1.
     pub(crate) devices: Vec<Recorded<C>>,
@@ -37,17 +35,13 @@ impl<C: Content + Drop> Drop for WorldCore<C> {
     fn drop(self) {
         let WorldCore {
             alloc: _,
-            content,
-            tables,
-            users,
+            setup,
             manager,
             devices,
             operators,
             has_diverged: _,
         } = self;
-        drop(content);
-        drop(tables);
-        drop(users);
+        drop(setup);
         drop(manager);
         drop(devices);
         drop(operators);
@@ -56,14 +50,14 @@ impl<C: Content + Drop> Drop for WorldCore<C> {
 
 impl<C: Content + Drop> Model for WorldCore<C> {
     ghost use Rattle.std.specs.Prelude.{◌≤◌, length};
-    ghost use Rattle.std.specs.List.{All};
     ghost use Rattle.nm_world.specs.World.{CoreValue, AreSound};
 
     ghost Value = { CoreValue C C.Config C.Edit C.Node };
 
     ghost view = { λ w. record {
-      content = w.content;
-      setting = record { tables = w.tables; plans = w.manager.plans; users = w.users };
+      content = w.setup.value.content;
+      setting = record { tables = w.setup.value.setting.tables; plans = w.manager.plans; users = w.setup.value.setting.users };
+      first_configs = w.setup.value.first_configs;
       failed = w.manager.failed;
       has_failed = w.manager.has_failed;
       state = record {
@@ -75,63 +69,29 @@ impl<C: Content + Drop> Model for WorldCore<C> {
       };
     } };
 
-    ghost invariant = { λ w. AreSound (C.meaning w.content) w.devices.items × All (C.meaning w.content).edit_belongs w.tables.edits
-        × (length w.devices.items ≤ 32) };
+    ghost invariant = { λ w. AreSound (C.meaning w.setup.value.content) w.devices.items × (length w.devices.items ≤ 32) };
 }
 
 impl<C: Content + Drop> WorldCore<C> {
-    ghost use Rattle.nm_world.specs.World.{CoreValue, begin, AreSound, IsFirst, manager_in, replies_on};
+    ghost use Rattle.nm_world.specs.World.{AreSound, manager_in, operator_session, replies_on};
     ghost use Rattle.nm_manager.specs.Manager.{wire_in};
-
-    // Before anything happened.
-    pub(crate) fn new(
-        alloc: Global,
-        content: C,
-        tables: Tables<C>,
-        running: Listed<C::Config>,
-        changes: Listed<ChangePlan>,
-        users: Listed<Label>,
-        journal: Journal,
-    ) -> Result<WorldCore<C>, NoMemory>
-        requires running { All (IsFirst (C.meaning content)) running }
-        requires few_devices { length running ≤ 32 }
-        requires edits { All (C.meaning content).edit_belongs tables.edits }
-        requires well_formed { All IsWellFormed changes }
-        requires few { length changes ≤ 64 }
-        requires empty { journal ≡ record { entries = []; failed = None } }
-        ensures { IfOk result (λ w. w ≡ record {
-          content = content;
-          setting = record { tables = tables; plans = changes; users = users };
-          failed = None;
-          has_failed = false;
-          state = begin (record { tables = tables; plans = changes; users = users }) running;
-        }) }
-    {
-        let operators = fresh_operators(alloc, users.len(), running.len())?;
-        let devices = fresh_devices(alloc, running)?;
-        let manager = Manager::new(alloc, changes, journal)?;
-        Ok(WorldCore {
-            alloc,
-            content,
-            tables,
-            users,
-            manager,
-            devices,
-            operators,
-            has_diverged: false,
-        })
-    }
 
     pub(crate) fn content(&self) -> &C
         ensures { result.now ≡ self.now.content }
     {
-        &self.content
+        self.setup.content()
     }
 
     pub(crate) fn tables(&self) -> &Tables<C>
         ensures { result.now ≡ self.now.setting.tables }
     {
-        &self.tables
+        self.setup.tables()
+    }
+
+    pub(crate) fn users(&self) -> &[Label]
+        ensures { result.now ≡ self.now.setting.users }
+    {
+        self.setup.users()
     }
 
     pub(crate) fn plans(&self) -> &[ChangePlan]
@@ -168,43 +128,34 @@ impl<C: Content + Drop> WorldCore<C> {
     {
         self.manager.has_failed()
     }
-}
 
-// What an action of the manager is in the world, with the request where it sent one.
-pub(crate) fn happened_of(action: &Action, request: Option<Request>) -> Happened
-    ensures { result ≡ happened_of action.now request }
-{
-    match action {
-        Action::Sent { device, link } => sent(*device, *link, request),
-        _ => unsent(action),
+    // The session that an operator, by its number from 1, has on a device.
+    pub(crate) fn operator_session(&self, number: u32, device: DeviceNo) -> Option<SessionId>
+        ensures { result ≡ operator_session self.now.state number device }
+    {
+        session_of(&self.devices, &self.operators, number, device)
     }
 }
 
-// The request that went out on a link, where there is one.
-fn sent(device: DeviceNo, link: u32, request: Option<Request>) -> Happened
-    ensures { result ≡ happened_of (action.Sent device link) request }
-{
-    match request {
-        Some(request) => Happened::Sent {
-            device,
-            link,
-            request,
-        },
-        None => Happened::Idle,
-    }
-}
-
-// What an action is that sent nothing.
-fn unsent(action: &Action) -> Happened
-    ensures { result ≡ happened_of action.now None }
+// What an action of the manager is in the world.
+pub(crate) fn happened_of(action: Action) -> Happened
+    ensures { result ≡ happened_of action }
 {
     match action {
         Action::Idle => Happened::Idle,
         Action::Started => Happened::Started,
-        Action::Sent { .. } => Happened::Idle,
+        Action::Sent {
+            device,
+            link,
+            request,
+        } => Happened::Sent {
+            device,
+            link,
+            request,
+        },
         Action::Handled => Happened::Handled,
         Action::Broken => Happened::Broken,
-        Action::Decided(verdict) => Happened::Decided(*verdict),
+        Action::Decided(verdict) => Happened::Decided(verdict),
         Action::Ended => Happened::Ended,
         Action::Forgot => Happened::Forgot,
     }
@@ -227,16 +178,20 @@ impl<C: Content + Drop> WorldCore<C> {
         ensures came { Comes result self.old self.new (delivering (C.meaning self.old.content) self.old.setting.tables self.old.state change device link) }
         ensures time { KeepsTime 0 self.old.state.devices self.new.state.devices }
     {
-        let happened = deliver_at(
-            &self.content,
-            &self.tables,
-            &mut self.devices,
+        let place = place_of(device);
+        if place >= self.devices.len() {
+            return Ok(Happened::Idle);
+        }
+        let setup: &Setup<C> = &self.setup;
+        deliver_to(
+            setup.content(),
+            setup.tables(),
+            &mut self.devices[place],
             &mut self.manager,
             change,
             device,
             link,
-        )?;
-        Ok(happened)
+        )
     }
 
     // A device's side of a link ends.
@@ -245,53 +200,68 @@ impl<C: Content + Drop> WorldCore<C> {
         ensures came { Comes result self.old self.new (losing (C.meaning self.old.content) self.old.state change device link) }
         ensures time { KeepsTime 0 self.old.state.devices self.new.state.devices }
     {
-        let happened = lose_at(
-            &self.content,
-            &mut self.devices,
+        let place = place_of(device);
+        if place >= self.devices.len() {
+            return Ok(Happened::Idle);
+        }
+        let setup: &Setup<C> = &self.setup;
+        lose_on(
+            setup.content(),
+            &mut self.devices[place],
             &mut self.manager,
             change,
             device,
             link,
-        )?;
-        Ok(happened)
+        )
     }
 
     // An operator, by its number from 1, asks a device.
     fn ask(
         &mut self,
-        operator: usize,
+        number: usize,
         device: DeviceNo,
         request: &Request,
     ) -> Result<Happened, NoMemory>
         requires in_time { AreInTime self.old.state.devices }
-        ensures came { Comes result self.old self.new (asking (C.meaning self.old.content) self.old.setting.tables self.old.state operator device request.now) }
+        ensures came { Comes result self.old self.new (asking (C.meaning self.old.content) self.old.setting.tables self.old.state number device request.now) }
         ensures time { KeepsTime 0 self.old.state.devices self.new.state.devices }
     {
-        let happened = ask_at(
-            &self.content,
-            &self.tables,
-            &mut self.devices,
-            &mut self.operators,
+        let place = place_of(device);
+        if number == 0 {
+            return Ok(Happened::Idle);
+        }
+        if number > self.operators.len() {
+            return Ok(Happened::Idle);
+        }
+        if place >= self.devices.len() {
+            return Ok(Happened::Idle);
+        }
+        let setup: &Setup<C> = &self.setup;
+        let operator = &mut self.operators[number - 1];
+        ask_of(
+            setup.content(),
+            setup.tables(),
+            &mut self.devices[place],
             operator,
-            device,
+            place,
             request,
-        )?;
-        Ok(happened)
+        )
     }
 
     // The session that an operator, by its number from 1, has on a device is lost.
-    fn leave(&mut self, operator: usize, device: DeviceNo) -> Result<Happened, NoMemory>
-        ensures came { Comes result self.old self.new (leaving (C.meaning self.old.content) self.old.state operator device) }
+    fn leave(&mut self, number: usize, device: DeviceNo) -> Result<Happened, NoMemory>
+        ensures came { Comes result self.old self.new (leaving (C.meaning self.old.content) self.old.state number device) }
         ensures time { KeepsTime 0 self.old.state.devices self.new.state.devices }
     {
-        let happened = leave_at(
-            &self.content,
-            &mut self.devices,
-            &self.operators,
-            operator,
-            device,
-        )?;
-        Ok(happened)
+        let Some(operator) = operator_at(&self.operators, number) else {
+            return Ok(Happened::Idle);
+        };
+        let place = place_of(device);
+        if place >= self.devices.len() {
+            return Ok(Happened::Idle);
+        }
+        let setup: &Setup<C> = &self.setup;
+        leave_from(setup.content(), &mut self.devices[place], operator, place)
     }
 
     // The clock of a device rises by some seconds.
@@ -300,8 +270,12 @@ impl<C: Content + Drop> WorldCore<C> {
         ensures came { Comes result self.old self.new (passing (C.meaning self.old.content) self.old.state device seconds) }
         ensures time { KeepsTime seconds self.old.state.devices self.new.state.devices }
     {
-        let happened = advance_at(&self.content, &mut self.devices, device, seconds)?;
-        Ok(happened)
+        let place = place_of(device);
+        if place >= self.devices.len() {
+            return Ok(Happened::Idle);
+        }
+        let setup: &Setup<C> = &self.setup;
+        advance_by(setup.content(), &mut self.devices[place], seconds)
     }
 
     // A device restarts, and its sides of all links end.
@@ -309,8 +283,17 @@ impl<C: Content + Drop> WorldCore<C> {
         ensures came { Comes result self.old self.new (going_anew (C.meaning self.old.content) self.old.state device) }
         ensures time { KeepsTime 0 self.old.state.devices self.new.state.devices }
     {
-        let happened = restart_at(&self.content, &mut self.devices, &mut self.manager, device)?;
-        Ok(happened)
+        let place = place_of(device);
+        if place >= self.devices.len() {
+            return Ok(Happened::Idle);
+        }
+        let setup: &Setup<C> = &self.setup;
+        restart_of(
+            setup.content(),
+            &mut self.devices[place],
+            &mut self.manager,
+            device,
+        )
     }
 }
 
@@ -325,7 +308,7 @@ impl<C: Content + Drop> WorldCore<C> {
         ensures devices { self.new.state.devices ≡ self.old.state.devices }
     {
         let action = self.manager.receive(change, device, link, number);
-        happened_of(&action, None)
+        happened_of(action)
     }
 
     // The manager's side of the current link to a device ends.
@@ -335,7 +318,7 @@ impl<C: Content + Drop> WorldCore<C> {
         ensures devices { self.new.state.devices ≡ self.old.state.devices }
     {
         let action = self.manager.break_link(change, device);
-        happened_of(&action, None)
+        happened_of(action)
     }
 
     // What the manager knows of a change set is lost.
@@ -345,7 +328,7 @@ impl<C: Content + Drop> WorldCore<C> {
         ensures devices { self.new.state.devices ≡ self.old.state.devices }
     {
         let action = self.manager.forget(change);
-        happened_of(&action, None)
+        happened_of(action)
     }
 
     // The timer of the pending commit of a device is set anew.
@@ -354,9 +337,8 @@ impl<C: Content + Drop> WorldCore<C> {
         ensures came { Comes result self.old self.new (renewing self.old.setting.plans self.old.state change device) }
         ensures devices { self.new.state.devices ≡ self.old.state.devices }
     {
-        let request = self.manager.request_to(change, device, Ask::Renew)?;
         let action = self.manager.renew(change, device)?;
-        Ok(happened_of(&action, request))
+        Ok(happened_of(action))
     }
 }
 
@@ -407,41 +389,4 @@ impl<C: Content + Drop> WorldCore<C> {
             ),
         }
     }
-}
-
-// So many operators, without sessions on so many devices. They are numbered by 32 bits.
-#[tactic(auto, using(crate::proofs::Loops::repeating))]
-fn fresh_operators(alloc: Global, count: usize, devices: usize) -> Result<Vec<Operator>, NoMemory>
-    ensures operators { IfOk result (λ operators. operators.items ≡ replicate count (replicate devices None)) }
-{
-    let mut operators = Vec::new(alloc);
-    for _ in 0..count {
-        operators.push(Operator::new(alloc, devices)?)?;
-    }
-    Ok(operators)
-}
-
-// A fresh device for each running configuration.
-fn fresh_devices<C: Content>(
-    alloc: Global,
-    mut running: Listed<C::Config>,
-) -> Result<Vec<Recorded<C>>, NoMemory>
-    ensures { IfOk result (λ devices. devices.items ≡ map recorded running) }
-{
-    let mut devices = Vec::new(alloc);
-    while let Some(config) = running.take_first() {
-        push_fresh(alloc, &mut devices, config)?;
-    }
-    Ok(devices)
-}
-
-fn push_fresh<C: Content>(
-    alloc: Global,
-    devices: &mut Vec<Recorded<C>>,
-    config: C::Config,
-) -> Result<(), NoMemory>
-    ensures { OnOk result (devices.new.items ≡ devices.old.items ++ (recorded config ∷ [])) }
-{
-    devices.push(Recorded::new(alloc, config))?;
-    Ok(())
 }

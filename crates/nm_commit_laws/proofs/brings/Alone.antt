@@ -1,23 +1,25 @@
 -- A run brings each change set by its own edit, and once at most.
-use Rattle.std.proofs.Common.{◌≡◌, ℕ, zero, suc, ◌+◌, ◌≤◌, ◌<◌, true, false, List, [], ◌∷◌, length, Option, Some, None, IfSome, is_some, slice_get, refl, subst, arith}
+use Rattle.std.proofs.Common.{◌≡◌, ℕ, zero, suc, ◌+◌, ◌≤◌, ◌<◌, true, false, List, [], ◌∷◌, length, Option, Some, None, is_some, slice_get, refl, subst, arith}
 use Rattle.std.proofs.lemmas.Option.{slice_get_within}
 use Rattle.nm_base.specs.Token.{token_of}
 use Rattle.nm_proto.specs.declared.plan.ChangePlan.{ChangePlan}
 use Rattle.nm_proto.specs.declared.plan.Event.{Event}
 use Rattle.nm_proto.specs.Content.{Meaning, Laws}
 use Rattle.nm_proto.specs.Plan.{devices_in}
+use Rattle.nm_device.specs.Device.{fresh_device}
 use Rattle.nm_history.specs.History.{RecordedState}
 use Rattle.nm_device_laws.specs.Token.{commits_done}
 use Rattle.nm_manager.specs.Slot.{SideState, SlotState}
 use Rattle.nm_world.specs.World.{Setting, WorldState, run, core_of, start}
 use Rattle.nm_safety.specs.Safe.{IsProper}
+use Rattle.nm_safety.specs.Along.{IsAlong}
 use Rattle.nm_safety.specs.Support.{IsKept, IsSupported, KeptAt}
 use Rattle.nm_safety.proofs.Devices.{run_keeps}
 use Rattle.nm_safety.proofs.Lists.{some_is}
 use Rattle.nm_safety.proofs.Sound.{first_at}
 use Rattle.nm_safety.proofs.Start.{begin_supported}
-use Rattle.nm_commit_laws.specs.Brings.{BringsAlone}
-use Rattle.nm_commit_laws.specs.BringsSupport.{IsHistory}
+use Rattle.nm_commit_laws.specs.Brings.{BringsAlone, BringsOwn}
+use Rattle.nm_commit_laws.specs.BringsSupport.{OfHistory}
 use Rattle.nm_commit_laws.proofs.brings.Others.{pair_here}
 use Rattle.nm_commit_laws.proofs.brings.Runs.{IsBringing, run_brought}
 use Rattle.nm_commit_laws.proofs.brings.Start.{begin_brought}
@@ -70,15 +72,14 @@ module _ {Config TheEdit Node : Type 0} (m : Meaning Config TheEdit Node) (laws 
   brought : IsBringing m laws setting proper.edits proper.few proper.strangers running ran
   brought =
       run_brought m laws setting proper.edits proper.few proper.strangers running (start setting running) events proper.given
-      (record { supported = begin_supported m setting running proper.first; brought = begin_brought m setting running })
+      (record { before = begin_supported m setting running proper.first; own = begin_brought m setting running })
 
   pub run_brings : BringsAlone m setting running ran
   run_brings = record {
     own_edits = λ place first r begins here.
-        (some_is r (IsHistory m setting ran.entries (suc place) first) (slice_get ran.devices place) here
-        (some_is first (λ one. IfSome (slice_get ran.devices place) (IsHistory m setting ran.entries (suc place) one))
-        (slice_get running place) begins (brought.brought.devices place))).brings;
-    once =
-        λ place plan device r planned here. commits_once m setting ran brought.supported place plan planned device
-        (small_at device r here) r here;
+        (some_is first (λ one. IsAlong m setting.tables (BringsOwn m setting ran.entries (suc place)) (fresh_device one) r)
+        (slice_get running place) begins
+        (some_is r (OfHistory m setting running ran.entries place) (slice_get ran.devices place) here (brought.own.devices place))).along;
+    once = λ place plan device r planned here.
+        commits_once m setting ran brought.before place plan planned device (small_at device r here) r here;
   }

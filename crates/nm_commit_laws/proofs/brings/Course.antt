@@ -9,9 +9,9 @@ use Rattle.nm_proto.specs.declared.journal.Verdict.{Verdict}
 use Rattle.nm_history.specs.History.{RecordedState}
 use Rattle.nm_decider_stage.specs.declared.stage.Stage.{Stage}
 use Rattle.nm_decider_stage.specs.declared.stage.Stage.TheVariants.{Live, Refused, Failed, NeedMark, Resync, Leaving, Settled}
-use Rattle.nm_decider_stage.specs.Stages.{is_acknowledged, learnt, next_ask}
+use Rattle.nm_decider_stage.specs.Stages.{learnt, next_ask}
 use Rattle.nm_decider.specs.declared.seat.Seat.{Seat}
-use Rattle.nm_decider.specs.Course.{asked_next, renewed}
+use Rattle.nm_decider.specs.Course.{renewed}
 use Rattle.nm_resync.specs.declared.resync.ResyncStage.{ResyncStage}
 use Rattle.nm_wire.specs.declared.link.Exchange.{Exchange}
 use Rattle.nm_wire.specs.declared.link.Way.{Way}
@@ -28,8 +28,8 @@ use Rattle.nm_safety.proofs.Asking.{asks_rightly, commit_unsent, decided_rightly
 use Rattle.nm_safety.proofs.Gone.{first_changed, first_gone, first_heard, first_of, first_restarted, held_first}
 use Rattle.nm_safety.proofs.Links.{commits_after, none_asked, none_left, sent_handled_on}
 use Rattle.nm_safety.proofs.Orders.{awaited_is_asked, first_is_current}
-use Rattle.nm_safety.proofs.Pairs.{asked_is, goes_now, may_now, next_goes}
-use Rattle.nm_safety.proofs.Tables.{both, next_awaited, renews_stage}
+use Rattle.nm_safety.proofs.Pairs.{asked_is, may_now}
+use Rattle.nm_safety.proofs.Tables.{next_awaited}
 use Rattle.nm_safety.proofs.Wires.{IsDue, set_there}
 use Rattle.nm_safety.proofs.Own.{first_is}
 use Rattle.nm_commit_laws.specs.Course.{steps_after, steps_by, steps_known, steps_of, steps_past}
@@ -37,7 +37,7 @@ use Rattle.nm_commit_laws.specs.BringsSupport.{IsOnCourse}
 use Rattle.nm_commit_laws.proofs.brings.Words.{known_commit, known_learnt, known_most, known_told, past_asked, past_handled, past_told, steps_handled, steps_sent, steps_told}
 
 -- what is said of the first link: a commit that is asked for, and how far it has come
-abbrev AsksOn : LinkState → Type 0
+abbrev pub AsksOn : LinkState → Type 0
 AsksOn link = asked_ask link ≡ Some ask.CommitConfirmed → 3 ≤ steps_of link
 
 abbrev KnowsOf : Stage → LinkState → Type 0
@@ -49,6 +49,15 @@ LeastOf stage link = commits_sent link ≡ 0 → steps_past link ≤ steps_known
 
 none_of : {A : Type 0} (x : A) → Some x ≡ None → ⊥
 none_of x e = absurd (let g : Some x ≡ None = e in cc)
+
+-- once it is decided
+once_decided : (decided : Option Verdict) (seat : Seat) (wire : WireState) → (decided ≡ None → ⊥) → AsksOn (first_link wire)
+    → IsOnCourse decided seat wire
+once_decided decided seat wire some asked = record {
+  asked = asked;
+  known = λ none. absurd (some none);
+  most = λ none. absurd (some none);
+}
 
 first_less : (a b : ℕ) → a + b ≡ 0 → a ≡ 0
 first_less a b h = omega (arith, h)
@@ -104,24 +113,20 @@ module _ {Config Node : Type 0} (change : ℕ) (seat : Seat) (side : SideState) 
       ∙ decided_rightly v seat.stage side.resync what before.resyncs next in cc)
 
   pub turned_course : (what : Ask) (request : Request) (decided : Option Verdict) → GoesWith decided seat side → seat.awaited ≡ None
-      → next_ask decided seat.stage ≡ Some what
-      → ask_of request ≡ asked_in_fact side.resync what → PairHolds change decided seat side.wire r → IsOnCourse decided seat side.wire
-      → IsOnCourse decided (asked_next decided seat) (gone (opens (asked_in_fact side.resync what)) side.wire request)
-  turned_course what request decided before quiet next is pair c =
-      course_sent (opens (asked_in_fact side.resync what)) side.wire request
-      (next_goes decided seat side before what quiet next) decided seat (asked_next decided seat) refl
+      → next_ask decided seat.stage ≡ Some what → ask_of request ≡ asked_in_fact side.resync what
+      → may_go (opens (asked_in_fact side.resync what)) side.wire ≡ true → PairHolds change decided seat side.wire r
+      → IsOnCourse decided seat side.wire → (now : Seat) → now.stage ≡ seat.stage
+      → IsOnCourse decided now (gone (opens (asked_in_fact side.resync what)) side.wire request)
+  turned_course what request decided before quiet next is goes pair c now same =
+      course_sent (opens (asked_in_fact side.resync what)) side.wire request goes decided seat now same
       (commit_goes what request decided before quiet next is pair c) c
 
-  -- a timer is set anew
-  pub renewed_course : (request : Request) → GoesWith None seat side → seat.awaited ≡ None → is_acknowledged seat.stage ≡ true
-      → ask_of request ≡ ask.Renew → IsOnCourse None seat side.wire
-      → IsOnCourse None (renewed seat) (gone false side.wire request)
-  renewed_course request before quiet acked is c =
-      course_sent false side.wire request
-      (goes_now None seat side before quiet
-      (λ resync. (both (may_await None seat.stage ask.Renew) _ (renews_stage None seat.stage resync refl acked)).1)) None seat
-      (renewed seat) refl
-      (λ e. absurd (let g : ask.Renew ≡ ask.CommitConfirmed = sym is ∙ e in cc)) c
+-- a timer is set anew
+pub renewed_course : (decided : Option Verdict) (seat : Seat) (wire : WireState) (request : Request) → ask_of request ≡ ask.Renew
+    → may_go false wire ≡ true → IsOnCourse decided seat wire → IsOnCourse decided (renewed seat) (gone false wire request)
+renewed_course decided seat wire request is goes c =
+    course_sent false wire request goes decided seat (renewed seat) refl
+    (λ e. absurd (let g : ask.Renew ≡ ask.CommitConfirmed = sym is ∙ e in cc)) c
 
 -- ---- a reply is handled
 
@@ -147,8 +152,7 @@ record IsAsFar (before after : LinkState) : Type 0 where
   steps : steps_of after ≡ steps_of before
   commits : commits_sent after ≡ commits_sent before
 
-module _ {Config Node : Type 0} (change : ℕ) (seat : Seat) (side : SideState) (r : RecordedState Config Node) (link : ℕ)
-    (exchange : Exchange) (due_now : IsDue side.wire link exchange) where
+module _ (side : SideState) (link : ℕ) (exchange : Exchange) (due_now : IsDue side.wire link exchange) where
   abbrev after : WireState
   after = handled_at side.wire link (Some exchange)
 
@@ -180,86 +184,80 @@ module _ {Config Node : Type 0} (change : ℕ) (seat : Seat) (side : SideState) 
       })
       (record { steps = refl; commits = refl })
 
-  module _ (what : Ask) (awaited : seat.awaited ≡ Some what) where
-    heard_knows : GoesWith None seat side → PairHolds change None seat side.wire r → IsOnCourse None seat side.wire
-        → KnowsOf (learnt None seat.stage what exchange.reply) (first_link after)
-    heard_knows before pair c z =
-        let may : may_await None seat.stage what ≡ true = may_now None seat side before link exchange due_now what awaited in
-        let asked : ask_of exchange.request ≡ what = sym (asked_is None seat side before link exchange due_now what awaited)
-        ∙ undecided_plain seat.stage side.resync what may in
-        let on_first : first_link side.wire ≡ due_now.held = held_first side.wire link exchange due_now
-        ((pair.undecided refl).only link due_now.current) in
-        let unsent : commits_sent (first_link side.wire) ≡ 0 = sym heard_far.commits ∙ z in
-        let steps : steps_of (first_link side.wire) ≡ steps_by (fold steps_after 0 due_now.held.past) what exchange.reply =
-        ap steps_of on_first ∙ told_steps due_now.held exchange due_now.way
-        ∙ ap (λ a. steps_by (fold steps_after 0 due_now.held.past) a exchange.reply) asked in
-        let low : steps_known seat.stage ≤ steps_by (fold steps_after 0 due_now.held.past) what exchange.reply = subst
-        (λ n. steps_known seat.stage ≤ n) steps (c.known refl unsent) in
-        let other : what ≡ ask.CommitConfirmed → ⊥ =
-        (λ e. not_commit (ask_of exchange.request) (commits_sent due_now.held) (told_commits due_now.held exchange due_now.way)
-        (ap commits_sent (sym on_first) ∙ unsent) (asked ∙ e)) in
-        subst (λ n. steps_known (learnt None seat.stage what exchange.reply) ≤ n) (sym (heard_far.steps ∙ steps))
-        (known_learnt seat.stage what exchange.reply (fold steps_after 0 due_now.held.past) may other low)
+  pub resynced_course : (decided : Option Verdict) (seat now : Seat) → (decided ≡ None → ⊥) → IsOnCourse decided seat side.wire
+      → IsOnCourse decided now after
+  resynced_course decided seat now some c = once_decided decided now after some (heard_asks c.asked)
 
-    heard_most : GoesWith None seat side → PairHolds change None seat side.wire r → IsOnCourse None seat side.wire
-        → is_live (learnt None seat.stage what exchange.reply) ≡ true
-        → LeastOf (learnt None seat.stage what exchange.reply) (first_link after)
-    heard_most before pair c live z =
-        let may : may_await None seat.stage what ≡ true = may_now None seat side before link exchange due_now what awaited in
-        let asked : ask_of exchange.request ≡ what = sym (asked_is None seat side before link exchange due_now what awaited)
-        ∙ undecided_plain seat.stage side.resync what may in
-        let on_first : first_link side.wire ≡ due_now.held = held_first side.wire link exchange due_now
-        ((pair.undecided refl).only link due_now.current) in
-        let unsent : commits_sent (first_link side.wire) ≡ 0 = sym heard_far.commits ∙ z in
-        let steps : steps_past (first_link after) ≡ steps_by (steps_past due_now.held) what exchange.reply =
-        heard_past ((pair.undecided refl).only link due_now.current) ∙ told_steps due_now.held exchange due_now.way
-        ∙ ap (λ a. steps_by (steps_past due_now.held) a exchange.reply) asked in
-        let other : what ≡ ask.CommitConfirmed → ⊥ =
-        (λ e. not_commit (ask_of exchange.request) (commits_sent due_now.held) (told_commits due_now.held exchange due_now.way)
-        (ap commits_sent (sym on_first) ∙ unsent) (asked ∙ e)) in
-        subst (λ n. n ≤ steps_known (learnt None seat.stage what exchange.reply)) (sym steps)
-        (known_most seat.stage what exchange.reply (steps_past due_now.held) may other
-        (λ l. subst (λ k. steps_past k ≤ steps_known seat.stage) on_first (c.most refl l unsent)) live)
+  module _ {Config Node : Type 0} (change : ℕ) (seat : Seat) (r : RecordedState Config Node) (what : Ask) (awaited : seat.awaited ≡ Some what) where
+    -- before the verdict, where no commit was sent
+    module _ (before : GoesWith None seat side) (pair : PairHolds change None seat side.wire r) (c : IsOnCourse None seat side.wire)
+        (none_sent : commits_sent (first_link after) ≡ 0) where
+      may_hear : may_await None seat.stage what ≡ true
+      may_hear = may_now None seat side before link exchange due_now what awaited
 
-    pub handled_course : (decided : Option Verdict) → GoesWith decided seat side → PairHolds change decided seat side.wire r
-        → IsOnCourse decided seat side.wire
-        → IsOnCourse decided (record seat { stage = learnt decided seat.stage what exchange.reply; awaited = None }) after
-    handled_course None before pair c = record {
+      hears_it : ask_of exchange.request ≡ what
+      hears_it =
+          sym (asked_is None seat side before link exchange due_now what awaited) ∙ undecided_plain seat.stage side.resync what may_hear
+
+      on_one : link ≡ 1
+      on_one = (pair.undecided refl).only link due_now.current
+
+      on_first : first_link side.wire ≡ due_now.held
+      on_first = held_first side.wire link exchange due_now on_one
+
+      unsent : commits_sent (first_link side.wire) ≡ 0
+      unsent = sym heard_far.commits ∙ none_sent
+
+      plain : what ≡ ask.CommitConfirmed → ⊥
+      plain e =
+          not_commit (ask_of exchange.request) (commits_sent due_now.held) (told_commits due_now.held exchange due_now.way)
+          (ap commits_sent (sym on_first) ∙ unsent) (hears_it ∙ e)
+
+      held_steps : steps_of due_now.held ≡ steps_by (steps_past due_now.held) what exchange.reply
+      held_steps =
+          told_steps due_now.held exchange due_now.way ∙ ap (λ a. steps_by (steps_past due_now.held) a exchange.reply) hears_it
+
+      heard_knows : steps_known (learnt None seat.stage what exchange.reply) ≤ steps_of (first_link after)
+      heard_knows =
+          let steps : steps_of (first_link side.wire) ≡ steps_by (steps_past due_now.held) what exchange.reply =
+          ap steps_of on_first ∙ held_steps in
+          subst (λ n. steps_known (learnt None seat.stage what exchange.reply) ≤ n) (sym (heard_far.steps ∙ steps))
+          (known_learnt seat.stage what exchange.reply (steps_past due_now.held) may_hear plain
+          (subst (λ n. steps_known seat.stage ≤ n) steps (c.known refl unsent)))
+
+      heard_most : is_live (learnt None seat.stage what exchange.reply) ≡ true
+          → steps_past (first_link after) ≤ steps_known (learnt None seat.stage what exchange.reply)
+      heard_most live =
+          subst (λ n. n ≤ steps_known (learnt None seat.stage what exchange.reply)) (sym (heard_past on_one ∙ held_steps))
+          (known_most seat.stage what exchange.reply (steps_past due_now.held) may_hear plain
+          (λ l. subst (λ k. steps_past k ≤ steps_known seat.stage) on_first (c.most refl l unsent)) live)
+
+    -- the course has no verdict where the journal has none
+    pub handled_course : (decided of_course : Option Verdict) → (decided ≡ None → of_course ≡ None) → GoesWith of_course seat side
+        → PairHolds change decided seat side.wire r → IsOnCourse decided seat side.wire
+        → IsOnCourse decided (record seat { stage = learnt of_course seat.stage what exchange.reply; awaited = None }) after
+    handled_course (Some v) of_course none_now before pair c =
+        once_decided (Some v) (record seat { stage = learnt of_course seat.stage what exchange.reply; awaited = None }) after (none_of v)
+        (heard_asks c.asked)
+    handled_course None (Some v) none_now before pair c = absurd (none_of v (none_now refl))
+    handled_course None None none_now before pair c = record {
       asked = heard_asks c.asked;
       known = λ none. heard_knows before pair c;
-      most = λ
-          none. heard_most before pair c;
+      most = λ none live z. heard_most before pair c z live;
     }
-    handled_course (Some v) before pair c = record {
-      asked = heard_asks c.asked;
-      known = λ none. absurd
-          (none_of v none);
-      most = λ none. absurd (none_of v none);
-    }
-
-  pub resynced_course : (v : Verdict) (now : Seat) → IsOnCourse (Some v) seat side.wire → IsOnCourse (Some v) now after
-  resynced_course v now c = record {
-    asked = heard_asks c.asked;
-    known = λ none. absurd (none_of v none);
-    most = λ none. absurd
-        (none_of v none);
-  }
 
 -- ---- a verdict falls, links break, and sides of links end
 
-pub decided_course : (v : Verdict) (seat now : Seat) (wire : WireState) → IsOnCourse None seat wire → IsOnCourse (Some v) now wire
-decided_course v seat now wire c = record {
-  asked = c.asked;
-  known = λ none. absurd (none_of v none);
-  most = λ none. absurd
-      (none_of v none);
-}
+pub decided_course : (decided : Option Verdict) (v : Verdict) (seat now : Seat) (wire : WireState) → IsOnCourse decided seat wire
+    → IsOnCourse (Some v) now wire
+decided_course decided v seat now wire c = once_decided (Some v) now wire (none_of v) c.asked
 
-pub broken_course : (decided : Option Verdict) (seat now : Seat) (wire : WireState) → steps_known now.stage ≡ 0
-    → (decided ≡ None → is_live now.stage ≡ true → steps_past (first_link wire) ≡ 0) → IsOnCourse decided seat wire
+-- no link is current
+pub broken_course : (decided : Option Verdict) (now : Seat) (wire : WireState) → steps_known now.stage ≡ 0
+    → (decided ≡ None → is_live now.stage ≡ true → steps_past (first_link wire) ≡ 0) → AsksOn (first_link wire)
     → IsOnCourse decided now (broken wire)
-broken_course decided seat now wire zero none_past c = record {
-  asked = c.asked;
+broken_course decided now wire zero none_past asked = record {
+  asked = asked;
   known = λ none h. least (steps_known now.stage) (steps_of (first_link wire)) zero;
   most = λ none live h. least (steps_past (first_link wire)) (steps_known now.stage) (none_past none live);
 }

@@ -25,7 +25,7 @@ use Rattle.nm_wire.specs.declared.link.Way.TheVariants.{Quiet, Asked, Told}
 use Rattle.nm_wire.specs.Asks.{same_ask}
 use Rattle.nm_wire.specs.Link.{LinkState, asked_on, closed_link, fresh_link, handled_by, handled_on, is_quiet_way, sent_on, session_of}
 use Rattle.nm_manager.specs.Requests.{edit_for, edit_request, request_for}
-use Rattle.nm_manager.specs.Slot.{SideState, SlotState, asked_in_fact, gone, may_go, opens, renews, renews_if, renews_on, sends, sends_if, sends_on, sends_request, with_pair, with_wire}
+use Rattle.nm_manager.specs.Slot.{SideState, SlotState, asked_in_fact, gone, may_go, opens, renews, renews_if, sends, sends_if, sends_request, with_pair, with_wire, on_side, sends_pair, renews_pair}
 use Rattle.nm_safety.proofs.Gone.{each_gone}
 use Rattle.nm_safety.proofs.Links.{did_handled, did_sent_on}
 use Rattle.nm_safety.proofs.Places.{set_same}
@@ -169,17 +169,12 @@ module _ {Config TheEdit Node : Type 0} (m : Meaning Config TheEdit Node) (setti
   Own r place link = IsOwnLink m setting entries change device r place link
 
   -- it has come as far, on the same session
-  prepared_as : (before after : LinkState) (r : RecordedState Config Node) → session_of after ≡ session_of before
-      → steps_of after ≡ steps_of before → IsPreparedOn m setting entries change device before r
-      → IsPreparedOn m setting entries change device after r
-  prepared_as before after r same steps p session at opened =
-      subst (λ n. IsPrepared m setting entries change device n session r.device) (sym steps) (p session (sym same ∙ at) opened)
-
-  some_prepared : (before after : LinkState) (r : Option (RecordedState Config Node)) → session_of after ≡ session_of before
+  prepared_as : (before after : LinkState) (r : Option (RecordedState Config Node)) → session_of after ≡ session_of before
       → steps_of after ≡ steps_of before → IfSome r (IsPreparedOn m setting entries change device before)
       → IfSome r (IsPreparedOn m setting entries change device after)
-  some_prepared before after None same steps p = tt
-  some_prepared before after (Some r) same steps p = prepared_as before after r same steps p
+  prepared_as before after None same steps p = tt
+  prepared_as before after (Some r) same steps p = λ session at opened.
+      subst (λ n. IsPrepared m setting entries change device n session r.device) (sym steps) (p session (sym same ∙ at) opened)
 
   pub fresh_own : (r : Option (RecordedState Config Node)) (place : ℕ) → Own r place fresh_link
   fresh_own r place = record {
@@ -195,7 +190,7 @@ module _ {Config TheEdit Node : Type 0} (m : Meaning Config TheEdit Node) (setti
   sent_own r place request link edits quiet own = record {
     asked = edits;
     prepared =
-        λ first. some_prepared link (sent_on request link) r (did_sent_on request link quiet).session (steps_sent request link quiet)
+        λ first. prepared_as link (sent_on request link) r (did_sent_on request link quiet).session (steps_sent request link quiet)
         (own.prepared first);
   }
 
@@ -210,14 +205,14 @@ module _ {Config TheEdit Node : Type 0} (m : Meaning Config TheEdit Node) (setti
       → Own r place (handled_on link)
   handled_own r place link own = record {
     asked = handled_asked link.past link.way link.is_open own.asked;
-    prepared = λ first. some_prepared link (handled_on link) r (did_handled link).session (steps_handled link) (own.prepared first);
+    prepared = λ first. prepared_as link (handled_on link) r (did_handled link).session (steps_handled link) (own.prepared first);
   }
 
   pub closed_own : (r : Option (RecordedState Config Node)) (place : ℕ) (link : LinkState) → Own r place link
       → Own r place (closed_link link)
   closed_own r place link own = record {
     asked = own.asked;
-    prepared = λ first. some_prepared link (closed_link link) r refl refl
+    prepared = λ first. prepared_as link (closed_link link) r refl refl
         (own.prepared first);
   }
 
@@ -239,7 +234,7 @@ module _ {Config TheEdit Node : Type 0} (m : Meaning Config TheEdit Node) (setti
 
     out_if : (before now : CourseState) (new : Bool) (request : Request) → EditsOwn setting.plans entries change device request → (b : Bool)
         → may_go new side.wire ≡ b
-        → AllLinks P (with_pair slot device (sends_if b device before now side (gone new side.wire request))).slot.sides
+        → AllLinks P (with_pair slot device (sends_if b new device before now side request)).slot.sides
     out_if before now new request edits false e = same_links all (device - 1) side there
     out_if before now new request edits true e =
         set_links P slot all (device - 1) side (with_wire side (gone new side.wire request)) there
@@ -273,7 +268,7 @@ module _ {Config TheEdit Node : Type 0} (m : Meaning Config TheEdit Node) (setti
         → same_ask (asked_in_fact side.resync what) ask.Edit ≡ true → verdict_in change entries ≡ None
 
     sent_on_own : (what : Ask) → EditsBefore what → (found : Option SideState) → slice_get slot.sides (device - 1) ≡ found
-        → AllLinks P (sends_on plan entries slot device what found).slot.sides
+        → AllLinks P (on_side (sends_pair plan entries device what) slot device found).slot.sides
     sent_on_own what before None there = all
     sent_on_own what before (Some side) there =
         out_by all device numbered side there slot.course (course.with_sent slot.course device) (opens (asked_in_fact side.resync what))
@@ -284,7 +279,7 @@ module _ {Config TheEdit Node : Type 0} (m : Meaning Config TheEdit Node) (setti
     sent_all what before = sent_on_own what before (slice_get slot.sides (device - 1)) refl
 
     renewed_on_own : (found : Option SideState) → slice_get slot.sides (device - 1) ≡ found
-        → AllLinks P (renews_on plan entries slot device found).slot.sides
+        → AllLinks P (on_side (renews_pair plan entries device) slot device found).slot.sides
     renewed_on_own None there = all
     renewed_on_own (Some side) there =
         renewed_if all device numbered side there plan (edits ask.Renew (λ e. absurd (let g : false ≡ true = e in cc)))

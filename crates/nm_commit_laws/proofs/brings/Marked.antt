@@ -14,7 +14,7 @@ use Rattle.nm_journal.specs.Entries.{ends, has_record, may_follow}
 use Rattle.nm_recovery.specs.Recovery.{ended_on, is_ended_in, started_on, with_change, with_ended, with_if}
 use Rattle.nm_safety.proofs.Basics.{either}
 use Rattle.nm_safety.proofs.Tables.{both}
-use Rattle.nm_safety.proofs.Entries.{nat_itself, nat_same}
+use Rattle.nm_safety.proofs.Entries.{false_or, nat_itself, nat_same}
 
 change_bounds : (c : ℕ) → is_change c ≡ true → (1 ≤ c) × (c ≤ 64)
 change_bounds c e = (low c e, high c e)
@@ -67,10 +67,6 @@ ended_by on n one (Ended c kept ∷ entries) mask all h =
 none_first : (n : ℕ) → mask_contains 0 n ≡ false
 unfolding mask_contains
 none_first n = ap (λ b. b == 1) (bit_at-zero (n - 1))
-
-false_or : (a b : Bool) → a ≡ false → (a || b) ≡ true → b ≡ true
-false_or false b e h = h
-false_or true b e h = absurd (let g : true ≡ false = e in cc)
 
 pub only_ended : (device n : ℕ) (entries : List Entry) → ((c : ℕ) → is_ended_in c entries ≡ true → is_change c ≡ true) → 1 ≤ n
     → mask_contains (ended_on device entries) n ≡ true → is_ended_in n entries ≡ true

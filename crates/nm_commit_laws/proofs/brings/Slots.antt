@@ -1,358 +1,192 @@
--- All pairs of a change set hold and stay on the course, at each step of the manager.
-use Rattle.std.proofs.Common.{◌≡◌, ◌<◌, map, ◌∙◌, ℕ, ◌+◌, ◌-◌, Bool, true, false, ◌&&◌, List, [], Option, Some, None, IfSome, is_some, is_none, slice_get, slice_set, option_map, refl, sym, ap, subst, arith}
-use Rattle.std.proofs.lemmas.Option.{slice_get-map, slice_get_within}
-use Rattle.nm_base.specs.Mask.{mask_contains}
-use Rattle.nm_decider_stage.specs.declared.stage.Stage.TheVariants.{Live, Resync}
-use Rattle.nm_recovery.specs.Recovery.{is_started, is_ended_in, verdict_in}
-use Rattle.nm_manager.specs.Manager.{starts_anew}
-use Rattle.nm_safety.proofs.Basics.{never}
-use Rattle.std.proofs.Common.{if◌then◌else◌, not}
+-- All devices of a change set stay on the course, at each step of the manager.
+use Rattle.std.proofs.Common.{◌≡◌, ◌∙◌, ℕ, ◌-◌, Bool, true, false, not, ◌&&◌, List, map, Option, Some, None, is_some, slice_get, slice_set, refl, sym, ap, subst, if◌then◌else◌}
 use Rattle.nm_proto.specs.declared.ask.Ask.{Ask}
-use Rattle.nm_proto.specs.declared.ask.Ask.TheVariants as ask
 use Rattle.nm_proto.specs.declared.message.Request.{Request}
-use Rattle.nm_proto.specs.declared.journal.Verdict.{Verdict}
 use Rattle.nm_proto.specs.declared.journal.Entry.{Entry}
+use Rattle.nm_proto.specs.declared.journal.Verdict.{Verdict}
 use Rattle.nm_proto.specs.declared.plan.ChangePlan.{ChangePlan}
 use Rattle.nm_history.specs.History.{RecordedState}
-use Rattle.nm_decider_stage.specs.declared.stage.Stage.{Stage}
-use Rattle.nm_decider_stage.specs.Stages.{next_ask, learnt, is_acknowledged, broken_stage}
+use Rattle.nm_recovery.specs.Recovery.{is_started, is_ended_in, verdict_in}
+use Rattle.nm_decider_stage.specs.declared.stage.Stage.TheVariants.{Live, Resync}
+use Rattle.nm_decider_stage.specs.Stages.{broken_stage, learnt, next_ask}
 use Rattle.nm_decider.specs.declared.course.NextAction.TheVariants.{Send}
 use Rattle.nm_decider.specs.declared.seat.Seat.{Seat}
 use Rattle.nm_decider.specs.Course as course
-use Rattle.nm_decider.specs.Course.{CourseState, asked_next, renewed, next_action, may_renew_seat, seat_of, seats_from, seat_count, decided_seat}
+use Rattle.nm_decider.specs.Course.{asked_next, decided_seat, next_action}
 use Rattle.nm_decider.specs.Rightly.{IsAsked}
-use Rattle.nm_decider.proofs.Actions.{asked}
+use Rattle.nm_resync.specs.Resync.{settled_in, resync_learnt}
 use Rattle.nm_wire.specs.Asks.{ask_of}
-use Rattle.nm_wire.specs.declared.link.Exchange.{Exchange}
-use Rattle.nm_wire.specs.Wire.{broken, handled_at, due}
-use Rattle.nm_resync.specs.Resync.{ResyncState, settled_in, resync_learnt}
-use Rattle.nm_resync.specs.Resync as resync
-use Rattle.nm_manager.specs.Requests.{request_for}
-use Rattle.nm_manager.specs.Slot.{SideState, SlotState, with_pair, with_wire, asked_in_fact, opens, may_go, gone, sends_if, sends_request, sends_on, sends, renews_if, renews_on, renews, breaks_current, breaks_on, breaks, cut_off, to_commit, is_commit, anew, decided, lost_memory, is_resync, awaits_resync, settled_by, hears, receives_due, receives_on, receives}
-use Rattle.nm_manager.proofs.Kept.{asks_fit}
-use Rattle.nm_safety.specs.Step.{GoesWith, IsSeated, IsInStep}
-use Rattle.nm_safety.proofs.Places.{both_set, set_same, seat_from}
-use Rattle.nm_safety.proofs.Wires.{IsDue, due_is}
-use Rattle.nm_safety.proofs.Tables.{both, found_stage}
-use Rattle.nm_safety.proofs.Pairs.{has_verdict, at_resync, told_ask}
-use Rattle.nm_safety.proofs.PairSteps.{pair_at, found_course, resync_alone}
-use Rattle.nm_commit_laws.proofs.brings.Both.{AllBoth, BothAt, IsBoth, anew_both, broken_both, decided_both, handled_both, lost_both, renewed_both, resynced_both, turned_both}
+use Rattle.nm_wire.specs.Wire.{handled_at, restarted}
+use Rattle.nm_manager.specs.Manager.{starts_anew}
+use Rattle.nm_manager.specs.Slot.{SideState, SlotState, asked_in_fact, breaks, cut_off, decided, gone, lost_memory, lost_wire, may_go, opens, receives, renews, sends, to_commit, with_wire, wires_on}
+use Rattle.nm_safety.specs.Pair.{PairHolds, first_link, is_live}
+use Rattle.nm_safety.specs.Pairs.{IsPair}
+use Rattle.nm_safety.specs.Slots.{HoldsAt}
+use Rattle.nm_safety.specs.Step.{GoesWith}
+use Rattle.nm_safety.specs.Support.{IsKept, IsOrdered, Owners}
+use Rattle.nm_safety.proofs.Anew.{none_made}
+use Rattle.nm_safety.proofs.EachPair.{begun_pairs, broken_pairs, decided_pairs, forgotten_pairs, known_at, pairs_map, received_pairs, renewed_pairs, sent_pairs, wires_pairs}
+use Rattle.nm_safety.proofs.Gone.{first_of}
+use Rattle.nm_safety.proofs.Pairs.{has_verdict}
+use Rattle.nm_safety.proofs.PairSteps.{pair_at}
+use Rattle.nm_safety.proofs.Tables.{found_stage}
+use Rattle.nm_safety.proofs.Wires.{at_set}
+use Rattle.nm_commit_laws.specs.Course.{steps_known, steps_past}
+use Rattle.nm_commit_laws.specs.BringsSupport.{AllOnCourse, CoursePair, IsOnCourse}
+use Rattle.nm_commit_laws.proofs.brings.Course.{AsksOn, broken_course, closed_course, decided_course, handled_course, renewed_course, restarted_course, resynced_course, turned_course}
+use Rattle.nm_commit_laws.proofs.brings.Words.{known_broken, not_live}
 
-module _ {Config Node : Type 0} (change : ℕ) (decided : Option Verdict) (devices : List (RecordedState Config Node)) (slot : SlotState)
-    (all : AllBoth change decided slot devices) where
-  at_device : (seat new_seat : Seat) (side new_side : SideState) (r : Option (RecordedState Config Node))
-      → ((r : RecordedState Config Node) → IsBoth change decided seat side.wire r → IsBoth change decided new_seat new_side.wire r)
-      → BothAt change decided (Some seat) (Some side) r → BothAt change decided (Some new_seat) (Some new_side) r
-  at_device seat new_seat side new_side None step holds = tt
-  at_device seat new_seat side new_side (Some r) step holds = step r holds
+-- where somebody is, it is somebody
+some_there : {A : Type 0} (T : Type 0) (found : Option A) → is_some found ≡ true → ((x : A) → found ≡ Some x → T) → T
+some_there T None some step = absurd (let g : false ≡ true = some in cc)
+some_there T (Some x) some step = step x refl
 
-  -- one seat and its side have changed
-  pub stepped_holds : (now : CourseState) (place : ℕ) (seat new_seat : Seat) (side new_side : SideState)
-      → slice_get slot.course.seats place ≡ Some seat → slice_get slot.sides place ≡ Some side
-      → now.seats ≡ slice_set slot.course.seats place new_seat
-      → ((r : RecordedState Config Node) → IsBoth change decided seat side.wire r → IsBoth change decided new_seat new_side.wire r)
-      → AllBoth change decided (record { course = now; sides = slice_set slot.sides place new_side }) devices
-  stepped_holds now place seat new_seat side new_side here there seats step j =
-      subst (λ s. BothAt change decided (slice_get s j) (slice_get (slice_set slot.sides place new_side) j) (slice_get devices j))
-      (sym seats)
-      (both_set (λ k one other. BothAt change decided one other
-      (slice_get devices k)) slot.course.seats slot.sides place seat new_seat side new_side here there all
-      (at_device seat new_seat side new_side (slice_get devices place) step
-      (subst (λ s. BothAt change decided (Some seat) s (slice_get devices place)) there
-      (subst (λ s. BothAt change decided s (slice_get slot.sides place) (slice_get devices place)) here (all place)))) j)
+module _ {Config Node : Type 0} (change members : ℕ) (entries : List Entry) (owners : ℕ → Owners) (devices : List (RecordedState Config Node))
+    (slot : SlotState) (k : IsKept change members entries owners devices slot) where
+  abbrev found : Option Verdict
+  found = verdict_in change entries
 
-  -- nothing has changed
-  pub unmoved_holds : (place : ℕ) (side : SideState) → slice_get slot.sides place ≡ Some side
-      → AllBoth change decided (record { course = slot.course; sides = slice_set slot.sides place side }) devices
-  unmoved_holds place side there =
-      subst (λ sides. AllBoth change decided (record { course = slot.course; sides = sides }) devices)
-      (sym (set_same slot.sides place side there)) all
+  -- what holds of a seat and its side
+  pub holds_at : (place : ℕ) (seat : Seat) (side : SideState) (r : RecordedState Config Node) → slice_get slot.course.seats place ≡ Some seat
+      → slice_get slot.sides place ≡ Some side → slice_get devices place ≡ Some r → PairHolds change found seat side.wire r
+  holds_at place seat side r here there is =
+      subst (λ o. HoldsAt change found (Some seat) (Some side) o) is
+      (subst (λ o. HoldsAt change found (Some seat) o (slice_get devices place)) there
+      (subst (λ o. HoldsAt change found o (slice_get slot.sides place) (slice_get devices place)) here (k.holds place)))
 
-  module _ (members : ℕ) (entries : List Entry) (in_step : IsInStep change members entries slot)
-      (of_journal : slot.course.verdict ≡ decided) where
-    goes_at : (place : ℕ) (seat : Seat) (side : SideState) → slice_get slot.course.seats place ≡ Some seat
-        → slice_get slot.sides place ≡ Some side → GoesWith decided seat side
-    goes_at place seat side here there =
-        subst (λ v. GoesWith v seat side) of_journal
-        (pair_at change members entries slot in_step place (Some seat) (Some side) here there).1
+  on_device : (T : Type 0) (place : ℕ) (seat : Seat) (side : SideState) → IsPair members slot place seat side
+      → is_some (slice_get devices place) ≡ true → ((r : RecordedState Config Node) → PairHolds change found seat side.wire r → T) → T
+  on_device T place seat side pair some step =
+      some_there T (slice_get devices place) some (λ r is. step r (holds_at place seat side r pair.here pair.there is))
 
-    -- ---- the next request goes out
+  -- before the verdict the course has none
+  pub none_now : IsOrdered change entries → found ≡ None → slot.course.verdict ≡ None
+  none_now ordered none = by_end (is_ended_in change entries) refl
+    where
+      by_end : (ended : Bool) → is_ended_in change entries ≡ ended → slot.course.verdict ≡ None
+      by_end false e = k.in_step.decided e ∙ none
+      by_end true e = absurd (let g : false ≡ true = sym (ap is_some none) ∙ ordered.ended e in cc)
 
-    module _ (plan : ChangePlan) (device : ℕ) (what : Ask) (a : IsAsked slot.course device what) (side : SideState)
-        (there : slice_get slot.sides (device - 1) ≡ Some side) where
-      sent_if : (request : Request) → ask_of request ≡ asked_in_fact side.resync what → (b : Bool)
-          → AllBoth change decided (with_pair slot device
-          (sends_if b device slot.course (course.with_sent slot.course device) side
-          (gone (opens (asked_in_fact side.resync what)) side.wire request))).slot devices
-      sent_if request is false = unmoved_holds (device - 1) side there
-      sent_if request is true =
-          stepped_holds (course.with_sent slot.course device) (device - 1) a.seat (asked_next slot.course.verdict a.seat) side
-          (with_wire side (gone (opens (asked_in_fact side.resync what)) side.wire request)) a.here there
-          (ap (λ o. (course.with_sent_at slot.course device o).seats) a.here)
-          (λ r pair.
-          subst (λ v. IsBoth change decided (asked_next v a.seat) (gone (opens (asked_in_fact side.resync what)) side.wire request) r)
-          (sym of_journal)
-          (turned_both change a.seat side r what request decided (goes_at (device - 1) a.seat side a.here there) a.quiet
-          (ap (λ v. next_ask v a.seat.stage) (sym of_journal) ∙ a.next) is pair))
+  module _ (all : AllOnCourse found devices slot) where
+    abbrev v : Option Verdict
+    v = slot.course.verdict
 
-      sent_request : (found : Option Request) → IfSome found (λ request. ask_of request ≡ asked_in_fact side.resync what)
-          → AllBoth change decided (with_pair slot device
-          (sends_request (opens (asked_in_fact side.resync what)) device slot.course
-          (course.with_sent slot.course device) side found)).slot devices
-      sent_request None is = unmoved_holds (device - 1) side there
-      sent_request (Some request) is = sent_if request is (may_go (opens (asked_in_fact side.resync what)) side.wire)
+    -- a request goes out
 
-    sent_on_holds : (plan : ChangePlan) (device : ℕ) (what : Ask) → IsAsked slot.course device what → (found : Option SideState)
-        → slice_get slot.sides (device - 1) ≡ found
-        → AllBoth change decided (sends_on plan entries slot device what found).slot devices
-    sent_on_holds plan device what a None there = all
-    sent_on_holds plan device what a (Some side) there =
-        sent_request plan device what a side there (request_for plan entries slot.course.change device (asked_in_fact side.resync what))
-        (asks_fit plan entries slot.course.change device (asked_in_fact side.resync what))
+    next_goes : (device : ℕ) (what : Ask) → is_ended_in change entries ≡ false → (a : IsAsked slot.course device what) (side : SideState)
+        → IsPair members slot (device - 1) a.seat side → (request : Request) → ask_of request ≡ asked_in_fact side.resync what
+        → may_go (opens (asked_in_fact side.resync what)) side.wire ≡ true → CoursePair found devices (device - 1) v a.seat side
+        → CoursePair found devices (device - 1) v (asked_next v a.seat)
+        (with_wire side (gone (opens (asked_in_fact side.resync what)) side.wire request))
+    next_goes device what open_now a side pair request is goes known some =
+        let same : v ≡ found = k.in_step.decided open_now in
+        on_device (IsOnCourse found (asked_next v a.seat) (gone (opens (asked_in_fact side.resync what)) side.wire request))
+        (device - 1) a.seat side pair some
+        (λ r holds.
+        turned_course change a.seat side r what request found (subst (λ d. GoesWith d a.seat side) same pair.goes) a.quiet
+        (ap (λ d. next_ask d a.seat.stage) (sym same) ∙ a.next) is goes holds (known some) (asked_next v a.seat) refl)
 
-    pub sent_holds : (plan : ChangePlan) (device : ℕ) (what : Ask) → next_action slot.course ≡ Send device what
-        → AllBoth change decided (sends plan entries slot device what).slot devices
-    sent_holds plan device what h =
-        sent_on_holds plan device what (asked slot.course device what h) (slice_get slot.sides (device - 1)) refl
+    pub sent_on_course : (plan : ChangePlan) (device : ℕ) (what : Ask) → is_ended_in change entries ≡ false
+        → next_action slot.course ≡ Send device what → AllOnCourse found devices (sends plan entries slot device what).slot
+    sent_on_course plan device what open_now acts =
+        sent_pairs (CoursePair found devices) change members entries slot k.in_step all device what (next_goes device what open_now) plan acts
 
-    some_seat : (place : ℕ) (side : SideState) (seat : Option Seat) → slice_get slot.course.seats place ≡ seat
-        → slice_get slot.sides place ≡ Some side → is_some seat ≡ true
-    some_seat place side None here there = absurd (pair_at change members entries slot in_step place None (Some side) here there)
-    some_seat place side (Some seat) here there = refl
+    pub renewed_on_course : (plan : ChangePlan) (device : ℕ) → AllOnCourse found devices (renews plan entries slot device).slot
+    renewed_on_course plan device =
+        renewed_pairs (CoursePair found devices) change members entries slot k.in_step all device
+        (λ seat side pair request is goes known some. renewed_course found seat side.wire request is goes (known some)) plan
 
-    -- ---- a timer is set anew
+    -- a reply is handled, a link breaks
 
-    renewed_if : (device : ℕ) (seat : Seat) (side : SideState) → decided ≡ None → slice_get slot.course.seats (device - 1) ≡ Some seat
-        → slice_get slot.sides (device - 1) ≡ Some side → seat.awaited ≡ None
-        → is_acknowledged seat.stage ≡ true → (found : Option Request) → IfSome found (λ request. ask_of request ≡ ask.Renew)
-        → AllBoth change decided (with_pair slot device
-        (sends_request false device slot.course (course.with_renewed slot.course device) side found)).slot devices
-    renewed_if device seat side none here there quiet acked None is = unmoved_holds (device - 1) side there
-    renewed_if device seat side none here there quiet acked (Some request) is = by_going (may_go false side.wire)
-      where
-        by_going : (b : Bool) → AllBoth change decided
-            (with_pair slot device (sends_if b device slot.course (course.with_renewed slot.course device) side
-            (gone false side.wire request))).slot devices
-        by_going false = unmoved_holds (device - 1) side there
-        by_going true =
-            stepped_holds (course.with_renewed slot.course device) (device - 1) seat (renewed seat) side
-            (with_wire side (gone false side.wire request)) here there
-            (ap (λ o. (course.with_renewed_at slot.course device o).seats) here)
-            (λ r pair.
-            subst (λ v. IsBoth change v (renewed seat) (gone false side.wire request) r) (sym none)
-            (renewed_both change seat side r request
-            (subst (λ v. GoesWith v seat side) none (goes_at (device - 1) seat side here there)) quiet acked is
-            (subst (λ v. IsBoth change v seat side.wire r) none pair)))
+    pub received_on_course : IsOrdered change entries → (device link number : ℕ)
+        → AllOnCourse found devices (receives slot device link number).slot
+    received_on_course ordered device link number =
+        received_pairs (CoursePair found devices) change members entries slot k.in_step all device link number
+        (λ seat side pair exchange due what awaited plain known some.
+        on_device (IsOnCourse found (record seat { stage = learnt v seat.stage what exchange.reply; awaited = None })
+        (handled_at side.wire link (Some exchange))) (device - 1) seat side pair some
+        (λ r holds. handled_course side link exchange due change seat r what awaited found v (none_now ordered) pair.goes holds (known some)))
+        (λ seat side pair exchange due awaited known some.
+        resynced_course side link exchange due found seat
+        (record seat { stage = found_stage (settled_in (resync_learnt side.resync.commit side.resync.stage exchange.reply)); awaited = None })
+        (λ none.
+        absurd (let g : false ≡ true = sym (ap is_some (none_now ordered none)) ∙ has_verdict v seat side pair.goes link exchange due awaited in cc))
+        (known some))
 
-    -- ---- a link breaks
-
-    breaks_here : (device : ℕ) (side : SideState) (seat : Option Seat) → slice_get slot.course.seats (device - 1) ≡ seat
-        → slice_get slot.sides (device - 1) ≡ Some side → (current : Option ℕ)
-        → AllBoth change decided (with_pair slot device (breaks_current slot.course side device current)).slot devices
-    breaks_here device side seat here there None = unmoved_holds (device - 1) side there
-    breaks_here device side None here there (Some number) =
-        absurd (let g : false ≡ true = some_seat (device - 1) side None here there in cc)
-    breaks_here device side (Some seat) here there (Some number) =
-        stepped_holds (course.with_break slot.course device) (device - 1) seat
-        (record seat { stage = broken_stage seat.stage; awaited = None }) side (cut_off (to_commit slot.course.verdict) side) here there
-        (ap (λ o. (course.with_break_at slot.course device o).seats) here) (λ r pair. broken_both change seat side.wire r decided pair)
-
-    broken_on : (device : ℕ) (found : Option SideState) → slice_get slot.sides (device - 1) ≡ found
-        → AllBoth change decided (breaks_on slot device found).slot devices
-    broken_on device None there = all
-    broken_on device (Some side) there = breaks_here device side (slice_get slot.course.seats (device - 1)) refl there side.wire.current
-
-    pub broken_holds : (device : ℕ) → AllBoth change decided (breaks slot device).slot devices
-    broken_holds device = broken_on device (slice_get slot.sides (device - 1)) refl
-
-    -- ---- a reply is handled
-
-    module _ (device : ℕ) (side : SideState) (seat : Seat) (here : slice_get slot.course.seats (device - 1) ≡ Some seat)
-        (there : slice_get slot.sides (device - 1) ≡ Some side) (link : ℕ) (exchange : Exchange)
-        (due_now : IsDue side.wire link exchange) where
-      before : GoesWith decided seat side
-      before = goes_at (device - 1) seat side here there
-
-      plain_holds : (what : Ask) → seat.awaited ≡ Some what → is_resync (Some what) ≡ false
-          → AllBoth change decided (record {
-            course = course.with_reply slot.course device exchange.reply;
-            sides = slice_set slot.sides
-                (device - 1) (record { wire = handled_at side.wire link (Some exchange); resync = side.resync });
-          }) devices
-      plain_holds what awaited plain =
-          stepped_holds (course.with_reply slot.course device exchange.reply) (device - 1) seat
-          (record seat { stage = learnt slot.course.verdict seat.stage what exchange.reply; awaited = None }) side
-          (record { wire = handled_at side.wire link (Some exchange); resync = side.resync }) here there
-          (ap (λ c. c.seats) (ap (course.with_reply_at slot.course device exchange.reply) here
-          ∙ ap (course.with_answer slot.course device exchange.reply seat) awaited))
-          (λ r pair.
-          subst (λ v. IsBoth change decided (record seat { stage = learnt v seat.stage what exchange.reply; awaited = None })
-          (handled_at side.wire link (Some exchange)) r) (sym of_journal)
-          (handled_both change seat side r link exchange due_now what awaited decided before plain pair))
-
-      found_holds : seat.awaited ≡ Some ask.Resync → (v : Option Verdict) → decided ≡ v → (known : Option Bool) (next : ResyncState)
-          → AllBoth change decided (record {
-            course = settled_by (course.with_reply slot.course device exchange.reply) device known;
-            sides = slice_set slot.sides (device - 1) (record { wire = handled_at side.wire link (Some exchange); resync = next });
-          }) devices
-      found_holds awaited None e known next =
-          absurd (let some : is_some decided ≡ true = has_verdict decided seat side before link exchange due_now awaited in let g : false ≡
-          true = sym (ap is_some e) ∙ some in cc)
-      found_holds awaited (Some v) e known next =
-          stepped_holds (settled_by (course.with_reply slot.course device exchange.reply) device known) (device - 1) seat
-          (record seat { stage = found_stage known; awaited = None }) side
-          (record { wire = handled_at side.wire link (Some exchange); resync = next }) here there
-          (ap (λ c. c.seats) (found_course slot.course device exchange.reply seat here awaited
-          (at_resync decided seat side before link exchange due_now awaited) known))
-          (λ r pair.
-          subst (λ d. IsBoth change d (record seat { stage = found_stage known; awaited = None })
-          (handled_at side.wire link (Some exchange)) r) (sym e)
-          (resynced_both change seat side r link exchange due_now v (found_stage known)
-          (subst (λ d. IsBoth change d seat side.wire r) e pair)))
-
-      hears_holds : (awaited : Option Ask) → seat.awaited ≡ awaited → (b : Bool) → is_resync awaited ≡ b
-          → AllBoth change decided (with_pair slot device
-          (hears b slot.course side device (handled_at side.wire link (Some exchange)) exchange.reply)).slot devices
-      hears_holds None e b n =
-          absurd (let g : None ≡ Some (ask_of exchange.request) = sym (ap (option_map (asked_in_fact side.resync)) e) ∙ before.asked
-          ∙ told_ask decided seat side before link exchange due_now in cc)
-      hears_holds (Some what) e true n =
-          found_holds (e ∙ ap Some (resync_alone what n)) decided refl
-          (settled_in (resync_learnt side.resync.commit side.resync.stage exchange.reply)) (resync.with_reply side.resync exchange.reply)
-      hears_holds (Some what) e false n = plain_holds what e n
-
-    due_holds : (device link number : ℕ) (side : SideState) (found : Option Seat) → slice_get slot.course.seats (device - 1) ≡ found
-        → slice_get slot.sides (device - 1) ≡ Some side → (told : Option Exchange)
-        → due side.wire link number ≡ told
-        → AllBoth change decided (with_pair slot device
-        (receives_due (awaits_resync found) slot.course side device (handled_at side.wire link told) told)).slot devices
-    due_holds device link number side found here there None e = unmoved_holds (device - 1) side there
-    due_holds device link number side None here there (Some exchange) e =
-        absurd (let g : false ≡ true = some_seat (device - 1) side None here there in cc)
-    due_holds device link number side (Some seat) here there (Some exchange) e =
-        hears_holds device side seat here there link exchange (due_is side.wire link number exchange e) seat.awaited refl
-        (is_resync seat.awaited) refl
-
-    received_on : (device link number : ℕ) (found : Option SideState) → slice_get slot.sides (device - 1) ≡ found
-        → AllBoth change decided (receives_on slot device link number found).slot devices
-    received_on device link number None there = all
-    received_on device link number (Some side) there =
-        due_holds device link number side (slice_get slot.course.seats (device - 1)) refl there (due side.wire link number) refl
-
-    pub received_holds : (device link number : ℕ) → AllBoth change decided (receives slot device link number).slot devices
-    received_holds device link number = received_on device link number (slice_get slot.sides (device - 1)) refl
+    pub broken_on_course : (device : ℕ) → AllOnCourse found devices (breaks slot device).slot
+    broken_on_course device =
+        broken_pairs (CoursePair found devices) change members entries slot k.in_step all device
+        (λ seat side pair known some.
+        broken_course found (record seat { stage = broken_stage seat.stage; awaited = None }) side.wire (known_broken seat.stage)
+        (λ none live. absurd (let g : false ≡ true = sym (not_live seat.stage) ∙ live in cc)) (known some).asked)
 
     -- ---- memory is lost
 
-    begun_at : (first : Stage) (commit : Bool) (j : ℕ) (old : Option Seat) (side : Option SideState)
-        (r : Option (RecordedState Config Node)) → slice_get slot.course.seats j ≡ old → slice_get slot.sides j ≡ side
-        → ((seat : Seat) (one : SideState) (r : RecordedState Config Node) → side ≡ Some one
-        → (mask_contains members (1 + j) ≡ true → seat.is_member ≡ true) → IsBoth change decided seat one.wire r
-        → IsBoth change decided (seat_of members first (1 + j)) (broken one.wire) r)
-        → BothAt change decided old side r
-        → BothAt change decided (slice_get (seats_from members first 1 seat_count) j) (option_map (cut_off commit) side) r
-    begun_at first commit j old side None here there step holds = tt
-    begun_at first commit j old None (Some r) here there step holds = none_side (slice_get (seats_from members first 1 seat_count) j)
+    -- what is asked on the first link
+    asked_at : (place : ℕ) (side : SideState) → slice_get slot.sides place ≡ Some side → is_some (slice_get devices place) ≡ true
+        → AsksOn (first_link side.wire)
+    asked_at place side there some = by_seat (slice_get slot.course.seats place) refl
       where
-        none_side : (seat : Option Seat) → BothAt change decided seat None (Some r)
-        none_side None = tt
-        none_side (Some seat) = tt
-    begun_at first commit j None (Some side) (Some r) here there step holds =
-        absurd (let g : false ≡ true = some_seat j side None here there in cc)
-    begun_at first commit j (Some seat) (Some side) (Some r) here there step holds =
-        let within : j < seat_count = subst (λ n. j < n) in_step.sides (slice_get_within slot.sides j side there) in
-        let seated : IsSeated members (j + 1) seat = (pair_at change members entries slot in_step j (Some seat) (Some side) here there).0 in
-        let same : 1 + j ≡ j + 1 = omega arith in
-        subst (λ s. BothAt change decided s (Some (cut_off commit side)) (Some r)) (sym (seat_from members first 1 seat_count j within))
-        (step seat side r refl (λ m. seated.member ∙ subst (λ d. mask_contains members d ≡ true) same m) holds)
+        by_seat : (seat : Option Seat) → slice_get slot.course.seats place ≡ seat → AsksOn (first_link side.wire)
+        by_seat None here = absurd (pair_at change members entries slot k.in_step place None (Some side) here there)
+        by_seat (Some seat) here =
+            (known_at (CoursePair found devices) change members entries slot k.in_step all place seat side here there some).asked
 
-    begun_hold : (first : Stage) (commit : Bool) (now : CourseState) → now.seats ≡ seats_from members first 1 seat_count
-        → ((j : ℕ) (seat : Seat) (one : SideState) (r : RecordedState Config Node) → slice_get slot.sides j ≡ Some one
-        → (mask_contains members (1 + j) ≡ true → seat.is_member ≡ true) → IsBoth change decided seat one.wire r
-        → IsBoth change decided (seat_of members first (1 + j)) (broken one.wire) r)
-        → AllBoth change decided (record { course = now; sides = map (cut_off commit) slot.sides }) devices
-    begun_hold first commit now seats step j =
-        subst (λ s. BothAt change decided (slice_get s j) (slice_get (map (cut_off commit) slot.sides) j) (slice_get devices j)) (sym seats)
-        (subst (λ s. BothAt change decided (slice_get (seats_from members first 1 seat_count) j) s (slice_get devices j))
-        (sym (slice_get-map (cut_off commit) slot.sides j))
-        (begun_at first commit j (slice_get slot.course.seats j) (slice_get slot.sides j) (slice_get devices j) refl refl (step j) (all j)))
+    lost_goes : (of_course : Option Verdict) (place : ℕ) (seat : Seat) (side : SideState) → seat.stage ≡ Resync
+        → slice_get slot.sides place ≡ Some side → CoursePair found devices place of_course seat (cut_off (to_commit found) side)
+    lost_goes of_course place seat side stage there some =
+        broken_course found seat side.wire (ap steps_known stage)
+        (λ none live. absurd (let g : false ≡ true = sym (ap is_live stage) ∙ live in cc)) (asked_at place side there some)
 
-    pub forgotten_holds : (found : Option Verdict) → AllBoth change decided (lost_memory slot members found) devices
-    forgotten_holds found =
-        begun_hold Resync (to_commit found) (course.recovered_course slot.course.change members found) refl
-        (λ j seat one r there m pair. lost_both change seat one.wire r decided members (1 + j) m pair)
+    pub forgotten_on_course : AllOnCourse found devices (lost_memory slot members found)
+    forgotten_on_course = forgotten_pairs (CoursePair found devices) slot members found (lost_goes found)
 
-    -- a manager that starts anew
-    anew_by : (v : Option Verdict) (goes_on : Bool)
-        → ((place : ℕ) (side : SideState) → slice_get slot.sides place ≡ Some side → goes_on ≡ false → decided ≡ None
-        → side.wire.links ≡ [])
-        → AllBoth change decided (record {
-          course = if goes_on then course.recovered_course change members v else course.new_course change members;
-          sides = map (cut_off (to_commit v)) slot.sides;
-        }) devices
-    anew_by v true none =
-        begun_hold Resync (to_commit v) (course.recovered_course change members v) refl
-        (λ j seat one r there m pair. lost_both change seat one.wire r decided members (1 + j) m pair)
-    anew_by v false none =
-        begun_hold (Live 0) (to_commit v) (course.new_course change members) refl
-        (λ j seat one r there m pair. anew_both change seat one.wire r decided members (1 + j) m (none j one there refl) pair)
+    -- the manager starts anew, with what wasn't submitted from its beginning
+    pub anew_on_course : IsOrdered change entries → AllOnCourse found devices (starts_anew entries change members slot)
+    anew_on_course ordered = by_going (is_started change entries && not (is_ended_in change entries)) refl
+      where
+        by_going : (goes_on : Bool) → (is_started change entries && not (is_ended_in change entries)) ≡ goes_on → AllOnCourse found devices (record {
+          course = if goes_on then course.recovered_course change members found else course.new_course change members;
+          sides = map (cut_off (to_commit found)) slot.sides;
+        })
+        by_going true goes =
+            begun_pairs (CoursePair found devices) members slot.sides (to_commit found) Resync found (lost_goes found)
+            (course.recovered_course change members found) refl refl
+        by_going false goes =
+            begun_pairs (CoursePair found devices) members slot.sides (to_commit found) (Live 0) None
+            (λ place seat side stage there some.
+            broken_course found seat side.wire (ap steps_known stage)
+            (λ none live.
+            ap (λ links. steps_past (first_of links)) (none_made change members owners devices entries ordered slot k place side there goes none))
+            (asked_at place side there some))
+            (course.new_course change members) refl refl
 
-    pub anew_holds : ((place : ℕ) (side : SideState) → slice_get slot.sides place ≡ Some side
-        → (is_started change entries && not (is_ended_in change entries)) ≡ false → decided ≡ None → side.wire.links ≡ [])
-        → AllBoth change decided (starts_anew entries change members slot) devices
-    anew_holds none = anew_by (verdict_in change entries) (is_started change entries && not (is_ended_in change entries)) none
+-- ---- sides of links end, a verdict falls, a device changes
 
-    -- ---- a timer is set anew, where it may be
+module _ {Config Node : Type 0} (found : Option Verdict) (devices : List (RecordedState Config Node)) (slot : SlotState)
+    (all : AllOnCourse found devices slot) where
+  pub lost_on_course : (device link : ℕ) → AllOnCourse found devices (wires_on (lost_wire link) slot device (slice_get slot.sides (device - 1)))
+  lost_on_course device link =
+      wires_pairs (CoursePair found devices) slot all (lost_wire link) device
+      (λ seat side known some. closed_course found seat side.wire link (known some))
 
-    none_is : (v : Option Verdict) → is_none v ≡ true → v ≡ None
-    none_is None h = refl
-    none_is (Some v) h = never h
+  pub restarted_on_course : (device : ℕ) → AllOnCourse found devices (wires_on restarted slot device (slice_get slot.sides (device - 1)))
+  restarted_on_course device =
+      wires_pairs (CoursePair found devices) slot all restarted device (λ seat side known some. restarted_course found seat side.wire (known some))
 
-    no_ask : (awaited : Option Ask) → is_none awaited ≡ true → awaited ≡ None
-    no_ask None h = refl
-    no_ask (Some what) h = never h
+  pub decided_on_course : (v : Verdict) → AllOnCourse (Some v) devices (decided slot v)
+  decided_on_course v =
+      decided_pairs (CoursePair (Some v) devices) slot v slot.course.verdict
+      (λ place seat side here there known some. decided_course (Some v) v seat (decided_seat v seat) side.wire (known some))
+      (pairs_map (CoursePair found devices) (CoursePair (Some v) devices) slot.course.verdict slot.course.verdict slot
+      (λ place seat side here there known some. decided_course found v seat seat side.wire (known some)) all)
 
-    renewed_by : (plan : ChangePlan) (device : ℕ) (seat : Option Seat) (side : SideState) → slice_get slot.course.seats (device - 1) ≡ seat
-        → slice_get slot.sides (device - 1) ≡ Some side → (b : Bool)
-        → (is_none slot.course.verdict && (is_none slot.course.trouble && may_renew_seat seat)) ≡ b
-        → AllBoth change decided (with_pair slot device (renews_if b plan entries slot.course side device)).slot devices
-    renewed_by plan device seat side here there false may = unmoved_holds (device - 1) side there
-    renewed_by plan device None side here there true may = absurd (let g : false ≡ true = some_seat (device - 1) side None here there in cc)
-    renewed_by plan device (Some seat) side here there true may =
-        let undecided = both (is_none slot.course.verdict) _ may in
-        let calm = both (is_none slot.course.trouble) _ undecided.1 in
-        let member = both seat.is_member _ calm.1 in
-        let quiet = both (is_none seat.awaited) (is_acknowledged seat.stage) member.1 in
-        renewed_if device seat side (sym of_journal ∙ none_is slot.course.verdict undecided.0) here there
-        (no_ask seat.awaited quiet.0) quiet.1
-        (request_for plan entries slot.course.change device ask.Renew) (asks_fit plan entries slot.course.change device ask.Renew)
-
-    renewed_on : (plan : ChangePlan) (device : ℕ) (found : Option SideState) → slice_get slot.sides (device - 1) ≡ found
-        → AllBoth change decided (renews_on plan entries slot device found).slot devices
-    renewed_on plan device None there = all
-    renewed_on plan device (Some side) there =
-        renewed_by plan device (slice_get slot.course.seats (device - 1)) side refl there (course.may_renew slot.course device) refl
-
-    pub renewed_holds : (plan : ChangePlan) (device : ℕ) → AllBoth change decided (renews plan entries slot device).slot devices
-    renewed_holds plan device = renewed_on plan device (slice_get slot.sides (device - 1)) refl
-
--- ---- the verdict falls
-
-module _ {Config Node : Type 0} (change : ℕ) (devices : List (RecordedState Config Node)) (slot : SlotState) (v : Verdict) where
-  decided_at : (seat : Option Seat) (side : Option SideState) (r : Option (RecordedState Config Node))
-      → ((one : Seat) → seat ≡ Some one → to_commit (Some v) ≡ true → one.is_member ≡ true → is_acknowledged one.stage ≡ true)
-      → BothAt change None seat side r → BothAt change (Some v) (option_map (decided_seat v) seat) (option_map (anew (is_commit v)) side) r
-  decided_at seat side None acked holds = tt
-  decided_at None side (Some r) acked holds = tt
-  decided_at (Some seat) None (Some r) acked holds = tt
-  decided_at (Some seat) (Some side) (Some r) acked holds = decided_both change seat side.wire r v (acked seat refl) holds
-
-  pub decided_holds : ((place : ℕ) (seat : Seat) → slice_get slot.course.seats place ≡ Some seat → to_commit (Some v) ≡ true
-      → seat.is_member ≡ true → is_acknowledged seat.stage ≡ true)
-      → AllBoth change None slot devices → AllBoth change (Some v) (decided slot v) devices
-  decided_holds acked all j =
-      subst (λ s. BothAt change (Some v) s (slice_get (map (anew (is_commit v)) slot.sides) j) (slice_get devices j))
-      (sym (slice_get-map (decided_seat v) slot.course.seats j))
-      (subst (λ s. BothAt change (Some v) (option_map (decided_seat v) (slice_get slot.course.seats j)) s (slice_get devices j))
-      (sym (slice_get-map (anew (is_commit v)) slot.sides j))
-      (decided_at (slice_get slot.course.seats j) (slice_get slot.sides j) (slice_get devices j) (acked j) (all j)))
+  -- there are as many devices
+  pub same_on_course : (d : ℕ) (r after : RecordedState Config Node) → slice_get devices d ≡ Some r
+      → AllOnCourse found (slice_set devices d after) slot
+  same_on_course d r after is =
+      pairs_map (CoursePair found devices) (CoursePair found (slice_set devices d after)) slot.course.verdict slot.course.verdict slot
+      (λ place seat side here there known some.
+      let still : is_some (slice_get (slice_set devices d after) place) ≡ is_some (slice_get devices place) =
+      at_set (λ one other. is_some other ≡ is_some one) (λ o. refl) devices d place r after is refl in
+      known (sym still ∙ some)) all

@@ -1,182 +1,157 @@
--- What every world keeps where a link is told of what it asked for.
-use Rattle.std.proofs.Common.{◌≡◌, ◌∙◌, ℕ, suc, ◌-◌, ◌≤◌, ◌==◌, Bool, true, false, List, Option, Some, None, IfSome, is_some, slice_get, slice_set, refl, sym, ap, subst, arith}
-use Rattle.nm_proto.specs.declared.message.Request.{Request}
-use Rattle.nm_proto.specs.declared.message.Reply.{Reply}
+-- What is kept of a change set where a device does what one of its links asks, or something else happens there.
+use Rattle.std.proofs.Common.{ℕ, ◌≡◌, ◌∙◌, suc, ◌-◌, ◌≤◌, true, List, Option, Some, None, IfSome, is_some, slice_get, slice_set, refl, sym, ap, subst, arith}
+use Rattle.std.proofs.lemmas.Option.{same_Some}
+use Rattle.nm_proto.specs.declared.message.Request.TheVariants.{OpenSession}
 use Rattle.nm_proto.specs.declared.journal.Verdict.{Verdict}
-use Rattle.nm_proto.specs.declared.plan.ChangePlan.{ChangePlan}
-use Rattle.nm_proto.specs.Content.{Meaning}
+use Rattle.nm_proto.specs.Content.{Meaning, Laws}
 use Rattle.nm_proto.specs.Plan.{devices_in}
+use Rattle.nm_sessions.specs.Sessions.{is_open}
 use Rattle.nm_history.specs.declared.event.DeviceEvent.{DeviceEvent}
+use Rattle.nm_history.specs.declared.event.DeviceEvent.TheVariants.{Entered, Asked}
 use Rattle.nm_history.specs.History.{Happened, RecordedState, recorded_with}
-use Rattle.nm_recovery.specs.Recovery.{is_ended_in, verdict_in}
+use Rattle.nm_recovery.specs.Recovery.{verdict_in}
 use Rattle.nm_device_laws.specs.Moment.{Happens}
-use Rattle.nm_device_laws.specs.Keeps.{KeepsFor}
+use Rattle.nm_device_laws.proofs.Events.{is_asked}
 use Rattle.nm_decider.specs.declared.seat.Seat.{Seat}
-use Rattle.nm_wire.specs.Link.{LinkState, session_of, told_on}
-use Rattle.nm_wire.specs.Wire as wire
-use Rattle.nm_wire.specs.Wire.{link_at, outstanding_at, told}
-use Rattle.nm_manager.specs.Slot.{SideState, SlotState, with_wire}
-use Rattle.nm_safety.specs.Slots.{HoldsAt}
+use Rattle.nm_wire.specs.Asks.{ask_of}
+use Rattle.nm_wire.specs.Link.{asked_on, first_session, session_of, told_on}
+use Rattle.nm_wire.specs.Wire.{told}
+use Rattle.nm_manager.specs.Slot.{SideState, with_wire}
+use Rattle.nm_safety.specs.Keeping.{Delivery, IsDone, IsOthers, Site, device_then, devices_then, slot_then}
+use Rattle.nm_safety.specs.Pair.{HoldsRunning, first_link}
+use Rattle.nm_safety.specs.Pairs.{PairAt}
 use Rattle.nm_safety.specs.Step.{GoesWith}
-use Rattle.nm_safety.proofs.Gone.{not_zero}
+use Rattle.nm_safety.specs.Support.{IsDevice, IsOrdered}
+use Rattle.nm_safety.proofs.Answered.{told_link}
+use Rattle.nm_safety.proofs.EachLink.{links_aside_there, links_told_there}
+use Rattle.nm_safety.proofs.EachPair.{known_at}
+use Rattle.nm_safety.proofs.Lists.{some_is}
+use Rattle.nm_safety.proofs.Managed.{others_stay}
 use Rattle.nm_safety.proofs.PairSteps.{pair_at}
-use Rattle.nm_safety.proofs.Wires.{set_there}
-use Rattle.nm_safety.specs.Support.{IsKept, IsSupported}
-use Rattle.nm_safety.proofs.Keeps.{of_journal}
-use Rattle.nm_safety.proofs.Lists.{set_other, some_is, to_some}
-use Rattle.nm_safety.proofs.Managed.{kept_here, others_stay}
-use Rattle.nm_safety.proofs.Others.{IsOthers}
 use Rattle.nm_safety.proofs.SlotLinks.{links_at}
-use Rattle.nm_world.specs.World.{Setting, CoreState}
-use Rattle.nm_commit_laws.specs.BringsSupport.{AreBrought, IsBrought, IsOwnLink, IsPreparedOn, OnCourseAt}
+use Rattle.nm_world.specs.World.{Setting, WorldState}
+use Rattle.nm_commit_laws.specs.Course.{steps_by, steps_of}
+use Rattle.nm_commit_laws.specs.BringsSupport.{CoursePair, EditsOwn, IsBrought, IsOwnLink, IsPrepared, IsPreparedOn}
 use Rattle.nm_commit_laws.proofs.brings.Course.{told_course}
-use Rattle.nm_commit_laws.proofs.brings.Histories.{NewBrings}
-use Rattle.nm_commit_laws.proofs.brings.Managed.{brought_at}
-use Rattle.nm_commit_laws.proofs.brings.Others.{device_here, first_found, histories_after, prepared_there, slot_others}
+use Rattle.nm_commit_laws.proofs.brings.Others.{OwnAt, first_found, first_same, own_stays, running_held}
+use Rattle.nm_commit_laws.proofs.brings.Own.{few_prepared, told_prepared}
+use Rattle.nm_commit_laws.proofs.brings.Slots.{holds_at, none_now, same_on_course}
+use Rattle.nm_commit_laws.proofs.brings.Words.{steps_told}
 
-module _ {Config TheEdit Node : Type 0} (m : Meaning Config TheEdit Node) (setting : Setting TheEdit) (running : List Config)
-    (w : CoreState Config Node) (s : IsSupported m setting w) (b : AreBrought m setting running w.entries w.slots w.devices)
-    (change device link : ℕ) (numbered : 1 ≤ change) (plan : ChangePlan) (planned : slice_get setting.plans (change - 1) ≡ Some plan)
-    (slot : SlotState) (there : slice_get w.slots (change - 1) ≡ Some slot)
-    (side : SideState) (at_side : slice_get slot.sides (device - 1) ≡ Some side) (l : LinkState) (at_link : link_at side.wire link ≡ Some l)
-    (r : RecordedState Config Node) (here : slice_get w.devices (device - 1) ≡ Some r) where
-  abbrev pub d : ℕ
-  d = device - 1
+module _ {Config TheEdit Node : Type 0} (m : Meaning Config TheEdit Node) (setting : Setting TheEdit) (B : WorldState Config Node → Type 0) where
+  -- something else happens
+  pub aside_brought : (x : Site m setting B) (d : ℕ) (r : RecordedState Config Node) → slice_get x.w.devices d ≡ Some r → IsDevice m (x.owners d) r
+      → (event : DeviceEvent) (h : Happened Config Node) → Happens m setting.tables r.device event h → IsOthers x.change (x.owners d) r event
+      → IsBrought m setting x.change x.w.entries x.w.devices x.slot
+      → IsBrought m setting x.change x.w.entries (slice_set x.w.devices d (recorded_with r event h)) x.slot
+  aside_brought x d r here known event h happens others b = record {
+    numbered = b.numbered;
+    course = same_on_course (verdict_in x.change x.w.entries) x.w.devices x.slot b.course d r (recorded_with r event h) here;
+    links = links_aside_there m setting B (OwnAt m setting x.w.entries x.change) x d r here known event h happens others
+        (own_stays m setting x.w.entries x.change B (devices_in x.plan.edits) x.owners x.w.devices x.slot x.kept d r here event h) b.links;
+  }
 
-  abbrev pub v : Option Verdict
-  v = verdict_in change w.entries
+  module _ (x : Delivery m setting B) (b : IsBrought m setting x.change x.w.entries x.w.devices x.slot) where
+    abbrev d : ℕ
+    d = x.device - 1
 
-  pub k : IsKept change (devices_in plan.edits) w.entries s.owners w.devices slot
-  k = kept_here m setting w s change numbered plan slot planned there
+    abbrev members : ℕ
+    members = devices_in x.plan.edits
 
-  pub same_number : suc (change - 1) ≡ change
-  same_number = omega (arith, numbered)
+    abbrev found : Option Verdict
+    found = verdict_in x.change x.w.entries
 
-  pub slot_here : IsBrought m setting change w.entries w.devices slot
-  slot_here =
-      subst (λ c. IsBrought m setting c w.entries w.devices slot) same_number (brought_at m setting running w s b (change - 1) slot there)
+    -- the link as it was
+    own_link : IsOwnLink m setting x.w.entries x.change (suc d) (slice_get x.w.devices d) (x.link - 1) x.one
+    own_link =
+        some_is x.one (OwnAt m setting x.w.entries x.change d (slice_get x.w.devices d) (x.link - 1)) (slice_get x.side.wire.links (x.link - 1))
+        x.at_place (links_at (λ j. OwnAt m setting x.w.entries x.change j (slice_get x.w.devices j)) x.slot b.links d x.side x.at_side (x.link - 1))
 
-  pub at_l : ((link == 0) ≡ false) × (slice_get side.wire.links (link - 1) ≡ Some l)
-  at_l = not_zero (link == 0) (slice_get side.wire.links (link - 1)) l at_link
+    edits_own : EditsOwn setting.plans x.w.entries x.change (suc d) x.request
+    edits_own = subst (λ asks. IfSome asks (EditsOwn setting.plans x.w.entries x.change (suc d))) (ap asked_on x.way) own_link.asked
 
-  abbrev P : ℕ → ℕ → LinkState → Type 0
-  P j = IsOwnLink m setting w.entries change (suc j) (slice_get w.devices j)
+    pub is_first : x.link - 1 ≡ 0 → first_link x.side.wire ≡ x.one
+    is_first first = first_same x.side x.one (first_found x.side.wire.links (x.link - 1) x.one x.at_place first)
 
-  pub own_at : (place : ℕ) (one : LinkState) → slice_get side.wire.links place ≡ Some one
-      → IsOwnLink m setting w.entries change (suc d) (slice_get w.devices d) place one
-  own_at place one found =
-      some_is one (P d place) (slice_get side.wire.links place) found (links_at P slot slot_here.links d side at_side place)
+    -- the link is told
+    module _ (ordered : IsOrdered x.change x.w.entries) {event : DeviceEvent} (done : IsDone m setting B x event) where
+      abbrev told_side : SideState
+      told_side = with_wire x.side (told x.side.wire x.link done.reply)
 
-  -- before the verdict the course has none
-  none_now : v ≡ None → slot.course.verdict ≡ None
-  none_now none = by_end (is_ended_in change w.entries) refl
-    where
-      by_end : (ended : Bool) → is_ended_in change w.entries ≡ ended → slot.course.verdict ≡ None
-      by_end false e = of_journal change (devices_in plan.edits) s.owners w.devices w.entries slot k e ∙ none
-      by_end true e = absurd (let g : false ≡ true = sym (ap is_some none) ∙ (s.entries change).ended e in cc)
+      course_here : (seat : Option Seat) → slice_get x.slot.course.seats d ≡ seat
+          → PairAt (CoursePair found (devices_then m setting B x done)) d x.slot.course.verdict seat (Some told_side)
+      course_here None seated = tt
+      course_here (Some seat) seated = λ some.
+          told_course x.change seat x.side x.r x.link x.request done.reply x.out found
+          (λ none.
+          subst (λ v. GoesWith v seat x.side) (none_now x.change members x.w.entries x.owners x.w.devices x.slot x.kept ordered none)
+          (pair_at x.change members x.w.entries x.slot x.kept.in_step d (Some seat) (Some x.side) seated x.at_side).1)
+          (holds_at x.change members x.w.entries x.owners x.w.devices x.slot x.kept d seat x.side x.r seated x.at_side x.here)
+          (known_at (CoursePair found x.w.devices) x.change members x.w.entries x.slot x.kept.in_step b.course d seat x.side seated x.at_side
+          (ap is_some x.here))
 
-  goes_now : (seat : Seat) → slice_get slot.course.seats d ≡ Some seat → v ≡ None → GoesWith None seat side
-  goes_now seat seated none =
-      subst (λ verdict. GoesWith verdict seat side) (none_now none)
-      (pair_at change (devices_in plan.edits) w.entries slot k.in_step d (Some seat) (Some side) seated at_side).1
+      none_asked : IfSome (asked_on (told_on done.reply x.one).way) (EditsOwn setting.plans x.w.entries x.change (suc d))
+      none_asked =
+          subst (λ asks. IfSome asks (EditsOwn setting.plans x.w.entries x.change (suc d)))
+          (sym (told_link x.one x.request done.reply x.way).none) tt
 
-  module _ (request : Request) (reply : Reply) (out : outstanding_at side.wire link ≡ Some request) (event : DeviceEvent)
-      (h : Happened Config Node) (happens : Happens m setting.tables r.device event h) where
-    abbrev after : RecordedState Config Node
-    after = recorded_with r event h
-
-    abbrev new_devices : List (RecordedState Config Node)
-    new_devices = slice_set w.devices d after
-
-    abbrev told_side : SideState
-    told_side = with_wire side (told side.wire link reply)
-
-    abbrev new_slot : SlotState
-    new_slot = record { course = slot.course; sides = slice_set slot.sides d told_side }
-
-    abbrev pub ToldNow : Type 0
-    ToldNow = AreBrought m setting running w.entries (slice_set w.slots (change - 1) new_slot) new_devices
-
-    new_device_is : slice_get new_devices d ≡ Some after
-    new_device_is = set_there w.devices d r after here
-
-    -- ---- the course
-
-    course_here : (seat : Option Seat) → slice_get slot.course.seats d ≡ seat → OnCourseAt v seat (Some told_side) (Some after)
-    course_here None seated = tt
-    course_here (Some seat) seated =
-        told_course change seat side r link request reply out v (goes_now seat seated)
-        (subst (λ o. HoldsAt change v (Some seat) (Some side) o) here
-        (subst (λ o. HoldsAt change v (Some seat) o (slice_get w.devices d)) at_side
-        (subst (λ o. HoldsAt change v o (slice_get slot.sides d) (slice_get w.devices d)) seated (k.holds d))))
-        (subst (λ o. OnCourseAt v (Some seat) (Some side) o) here
-        (subst (λ o. OnCourseAt v (Some seat) o (slice_get w.devices d)) at_side
-        (subst (λ o. OnCourseAt v o (slice_get slot.sides d) (slice_get w.devices d)) seated (slot_here.course d))))
-
-    -- ---- the links
-
-    abbrev Q : ℕ → ℕ → LinkState → Type 0
-    Q j = IsOwnLink m setting w.entries change (suc j) (slice_get new_devices j)
-
-    module _ (keeps : (place : ℕ) (one : LinkState) → slice_get side.wire.links place ≡ Some one → (place ≡ link - 1 → ⊥) → (session : ℕ)
-        → session_of one ≡ Some session → KeepsFor session r.device h.after)
-        (new_link : IsOwnLink m setting w.entries change (suc d) (Some after) (link - 1) (told_on reply l))
-        (others : (place : ℕ) (other : ChangePlan) → slice_get setting.plans place ≡ Some other → (suc place ≡ change → ⊥)
-        → IsOthers (suc place) (s.owners d) r event)
-        (new : NewBrings m setting (suc d) w.entries r.device event h) where
-      other_link : (place : ℕ) → (place ≡ link - 1 → ⊥) → (one : LinkState) → slice_get side.wire.links place ≡ Some one
-          → IsOwnLink m setting w.entries change (suc d) (Some after) place one
-      other_link place ne one found = record {
-        asked = (own_at place one found).asked;
-        prepared = λ first.
-            prepared_there m setting change
-            (devices_in plan.edits) w.entries s.owners w.devices slot k d r here side at_side event h happens
-            (device_here m setting running w s b d r here event h happens) one
-            (first_found side.wire.links place one found first) (keeps place one found ne)
-            (some_is r (IsPreparedOn m setting w.entries change (suc d) one) (slice_get w.devices d) here
-            ((own_at place one found).prepared first));
-      }
-
-      told_links : (place : ℕ) → IfSome (slice_get (told side.wire link reply).links place) (Q d place)
-      told_links place =
-          subst (λ o. IfSome (slice_get (told side.wire link reply).links place) (IsOwnLink m setting w.entries change (suc d) o place))
-          (sym new_device_is)
-          (subst (λ found. IfSome (slice_get (wire.changed (told_on reply) side.wire link found).links place)
-          (IsOwnLink m setting w.entries change (suc d) (Some after) place)) (sym at_link)
-          (others_stay (λ j o. IfSome o (IsOwnLink m setting w.entries change (suc d) (Some after) j)) side.wire.links (link - 1) l
-          (told_on reply l) at_l.1 new_link
-          (λ j ne. to_some (IsOwnLink m setting w.entries change (suc d) (Some after) j) (slice_get side.wire.links j)
-          (λ one found. other_link j ne one found)) place))
-
-      own_slot : IsBrought m setting change w.entries new_devices new_slot
-      own_slot = record {
-        course =
-            others_stay (λ j o. OnCourseAt v (slice_get slot.course.seats j) o
-            (slice_get new_devices j)) slot.sides d side told_side at_side
-            (subst (λ o. OnCourseAt v (slice_get slot.course.seats d) (Some told_side) o) (sym new_device_is)
-            (course_here (slice_get slot.course.seats d) refl))
-            (λ j ne. subst (λ o. OnCourseAt v (slice_get slot.course.seats j) (slice_get slot.sides j) o)
-            (sym (set_other w.devices d j after ne)) (slot_here.course j));
-        links =
-            others_stay (λ j o. IfSome o (λ one. (place : ℕ)
-            → IfSome (slice_get one.wire.links place) (Q j place))) slot.sides d side told_side at_side told_links
-            (λ j ne.
-            subst (λ o. IfSome (slice_get slot.sides j)
-            (λ one. (place : ℕ) → IfSome (slice_get one.wire.links place) (IsOwnLink m setting w.entries change (suc j) o place)))
-            (sym (set_other w.devices d j after ne)) (slot_here.links j));
-      }
-
-      pub told_all : ToldNow
-      told_all = record {
+      told_brought : (x.link - 1 ≡ 0
+          → IsPreparedOn m setting x.w.entries x.change (suc d) (told_on done.reply x.one) (device_then m setting B x done))
+          → IsBrought m setting x.change x.w.entries (devices_then m setting B x done) (slot_then m setting B x done)
+      told_brought prepared = record {
         numbered = b.numbered;
-        slots =
-            others_stay (λ j found. IfSome found (IsBrought m setting (suc j) w.entries new_devices)) w.slots
-            (change - 1) slot new_slot there
-            (subst (λ c. IsBrought m setting c w.entries new_devices new_slot) (sym same_number) own_slot)
-            (λ j ne. slot_others m setting running w s b d r here event h happens j
-            (λ other found. others j other found (λ e. ne (before j e))));
-        devices = histories_after m setting running w s b d r here event h happens new;
+        course =
+            others_stay (λ j o. PairAt (CoursePair found (devices_then m setting B x done)) j x.slot.course.verdict (slice_get x.slot.course.seats j) o)
+            x.slot.sides d x.side told_side x.at_side (course_here (slice_get x.slot.course.seats d) refl)
+            (λ j ne. same_on_course found x.w.devices x.slot b.course d x.r (device_then m setting B x done) x.here j);
+        links = links_told_there m setting B (OwnAt m setting x.w.entries x.change) x done
+            (own_stays m setting x.w.entries x.change B members x.owners x.w.devices x.slot x.kept d x.r x.here event done.h)
+            (record { asked = none_asked; prepared = prepared }) b.links;
       }
-        where
-          before : (j : ℕ) → suc j ≡ change → j ≡ change - 1
-          before j e = omega (arith, e)
+
+    -- ---- a session asks
+
+    module _ (u : ℕ) (session : session_of x.one ≡ Some u) (done : IsDone m setting B x (Asked u x.request)) where
+      asker_open : is_open x.r.device.sessions u ≡ true
+      asker_open = (is_asked m setting.tables x.r.device u x.request done.h done.happens).asker
+
+      pub prepared_before : x.link - 1 ≡ 0 → IsPrepared m setting x.w.entries x.change (suc d) (steps_of x.one) u x.r.device
+      prepared_before first =
+          some_is x.r (IsPreparedOn m setting x.w.entries x.change (suc d) x.one) (slice_get x.w.devices d) x.here (own_link.prepared first) u
+          session asker_open
+
+      held_before : x.link - 1 ≡ 0 → 1 ≤ steps_of x.one → HoldsRunning u x.r.device
+      held_before first =
+          running_held m setting x.change members x.w.entries x.owners x.w.devices x.slot x.kept d x.r x.here x.side x.at_side x.one
+          (is_first first) u session asker_open
+
+      told_session : session_of (told_on done.reply x.one) ≡ Some u
+      told_session =
+          (told_link x.one x.request done.reply x.way).session ∙ ap (λ o. first_session o (record { request = x.request; reply = done.reply })) session
+
+      new_prepared : Laws m → x.link - 1 ≡ 0
+          → IsPreparedOn m setting x.w.entries x.change (suc d) (told_on done.reply x.one) (device_then m setting B x done)
+      new_prepared laws first t at opened =
+          let same : u ≡ t = same_Some u t (sym told_session ∙ at) in
+          subst (λ q. IsPrepared m setting x.w.entries x.change (suc d) (steps_of (told_on done.reply x.one)) q done.h.after) same
+          (subst (λ n. IsPrepared m setting x.w.entries x.change (suc d) n u done.h.after) (sym (steps_told x.one x.request done.reply x.way))
+          (told_prepared m laws setting x.w.entries x.change (suc d) x.r.device u done.h (steps_of x.one) (held_before first)
+          (prepared_before first) x.request edits_own done.happens done.reply done.replies done.answer))
+
+      pub asked_brought : Laws m → IsOrdered x.change x.w.entries
+          → IsBrought m setting x.change x.w.entries (devices_then m setting B x done) (slot_then m setting B x done)
+      asked_brought laws ordered = told_brought ordered done (new_prepared laws)
+
+    -- ---- a session is asked for
+
+    module _ (user : List ℕ) (opening : x.request ≡ OpenSession user) (done : IsDone m setting B x (Entered user)) where
+      zero_now : steps_of (told_on done.reply x.one) ≡ 0
+      zero_now = steps_told x.one x.request done.reply x.way ∙ ap (λ q. steps_by (steps_of x.one) (ask_of q) done.reply) opening
+
+      pub opened_brought : Laws m → IsOrdered x.change x.w.entries
+          → IsBrought m setting x.change x.w.entries (devices_then m setting B x done) (slot_then m setting B x done)
+      opened_brought laws ordered =
+          told_brought ordered done
+          (λ first t at opened.
+          subst (λ n. IsPrepared m setting x.w.entries x.change (suc d) n t done.h.after) (sym zero_now)
+          (few_prepared m laws setting x.w.entries x.change (suc d) 0 t done.h.after (omega arith)))

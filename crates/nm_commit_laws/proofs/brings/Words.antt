@@ -143,7 +143,7 @@ live_told done ask.Discard reply n m other k l = grind (arith, nat_tests)
 live_told done ask.CloseSession reply n m other k l = grind (arith, nat_tests)
 live_told done ask.Resync reply n m other k l = grind (arith, nat_tests)
 
-zero_below : (n : ℕ) → 0 ≤ n
+pub zero_below : (n : ℕ) → 0 ≤ n
 zero_below n = omega arith
 
 -- a reply to what may be awaited takes no step back

@@ -22,7 +22,7 @@ use Rattle.nm_wire.specs.Asks.{ask_of}
 use Rattle.nm_wire.specs.Link.{LinkState, asked_on, closed_link, fresh_link, handled_by, handled_on, is_quiet_way, sent_on, session_of}
 use Rattle.nm_wire.specs.Wire.{WireState, current_link, link_at, sent}
 use Rattle.nm_manager.specs.Requests.{request_for}
-use Rattle.nm_manager.specs.Slot.{SideState, SlotState, asked_in_fact, gone, may_go, opens, renews, renews_if, renews_on, sends, sends_if, sends_on, sends_request, with_pair, with_wire}
+use Rattle.nm_manager.specs.Slot.{SideState, SlotState, asked_in_fact, gone, may_go, opens, renews, renews_if, sends, sends_if, sends_request, with_pair, with_wire, on_side, sends_pair, renews_pair}
 use Rattle.nm_manager.proofs.Kept.{asks_fit}
 use Rattle.nm_safety.specs.Step.{IsInStep}
 use Rattle.nm_safety.proofs.Gone.{GoesOnOne, each_gone, sent_one}
@@ -135,7 +135,7 @@ module _ {Config Node : Type 0} (devices : List (RecordedState Config Node)) (sl
 
     out_if : (before now : CourseState) (new : Bool) → (new ≡ true → is_other (ask_of request) ≡ false)
         → (is_other (ask_of request) ≡ true → Stands 2 (current_link side.wire)) → (b : Bool) → may_go new side.wire ≡ b
-        → AllLinks P (with_pair slot device (sends_if b device before now side (gone new side.wire request))).slot.sides
+        → AllLinks P (with_pair slot device (sends_if b new device before now side request)).slot.sides
     out_if before now new none clean false e = same_links all (device - 1) side there
     out_if before now new none clean true e =
         set_links P slot all (device - 1) side (with_wire side (gone new side.wire request)) there (gone_holds new e none clean)
@@ -159,7 +159,7 @@ module _ {Config Node : Type 0} (devices : List (RecordedState Config Node)) (sl
         some_is request (λ one. ask_of one ≡ what) (made what) is (asks_fit plan entries slot.course.change device what)
 
     sent_on_holds : (what : Ask) → IsAsked slot.course device what → (found : Option SideState)
-        → slice_get slot.sides (device - 1) ≡ found → AllLinks P (sends_on plan entries slot device what found).slot.sides
+        → slice_get slot.sides (device - 1) ≡ found → AllLinks P (on_side (sends_pair plan entries device what) slot device found).slot.sides
     sent_on_holds what a None there = all
     sent_on_holds what a (Some side) there =
         let in_fact : Ask = asked_in_fact side.resync what in
@@ -200,7 +200,7 @@ module _ {Config Node : Type 0} (devices : List (RecordedState Config Node)) (sl
         (λ request is other. renewed_seat side there (slice_get slot.course.seats (device - 1)) refl calm.1))
 
     renewed_on_holds : (found : Option SideState) → slice_get slot.sides (device - 1) ≡ found
-        → AllLinks P (renews_on plan entries slot device found).slot.sides
+        → AllLinks P (on_side (renews_pair plan entries device) slot device found).slot.sides
     renewed_on_holds None there = all
     renewed_on_holds (Some side) there = renewed_if side there (course.may_renew slot.course device) refl
 

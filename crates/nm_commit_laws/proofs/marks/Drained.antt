@@ -1,19 +1,16 @@
 -- A world that is brought to rest is one after a longer run, so it is as every run's.
-use Rattle.std.proofs.Common.{ℕ, List, subst}
+use Rattle.std.proofs.Common.{ℕ, List}
 use Rattle.nm_proto.specs.declared.plan.Event.{Event}
 use Rattle.nm_proto.specs.Content.{Meaning, Laws}
 use Rattle.nm_world.specs.World.{Setting, run, start}
 use Rattle.nm_world.specs.Drain.{drained}
 use Rattle.nm_safety.specs.Safe.{IsProper}
-use Rattle.nm_safety.proofs.Drained.{all_events, all_proper, drained_is}
+use Rattle.nm_safety.proofs.Drained.{drained_too}
 use Rattle.nm_commit_laws.specs.Marks.{ArePlain, AreUnmarked, MarksTell}
 use Rattle.nm_commit_laws.proofs.marks.Alone.{run_tells}
 
-module _ {Config TheEdit Node : Type 0} (m : Meaning Config TheEdit Node) (laws : Laws m) (setting : Setting TheEdit)
-    (running : List Config) (events : List Event) (steps : ℕ) where
-  pub drained_tells : IsProper {Node = Node} m setting running events → ArePlain m setting → AreUnmarked m running
-      → MarksTell {Node = Node} m (drained m setting steps (run m setting (start setting running) events))
-  drained_tells proper plain unmarked =
-      subst (MarksTell m) (drained_is m laws setting running events steps)
-      (run_tells m laws setting running (all_events m laws setting running events steps)
-      (all_proper m laws setting running events steps proper) plain unmarked)
+pub drained_tells : {Config TheEdit Node : Type 0} (m : Meaning Config TheEdit Node) (laws : Laws m) (setting : Setting TheEdit)
+    (running : List Config) (events : List Event) (steps : ℕ) → IsProper {Node = Node} m setting running events → ArePlain m setting
+    → AreUnmarked m running → MarksTell {Node = Node} m (drained m setting steps (run m setting (start setting running) events))
+drained_tells m laws setting running events steps proper plain unmarked =
+    drained_too m laws setting running (MarksTell m) (λ more given. run_tells m laws setting running more given plain unmarked) events steps proper

@@ -1,7 +1,6 @@
 -- Change sets whose commit may come to a device are ready or ended, and of two with a device in common one is ended.
-use Rattle.std.proofs.Common.{◌≡◌, ◌∙◌, ◌⊎◌, inl, inr, ℕ, ◌+◌, ◌-◌, ◌==◌, Bool, true, false, nat_eq, List, [], ◌∷◌, ◌++◌, Some, IfSome, slice_get, refl, sym, ap}
+use Rattle.std.proofs.Common.{◌≡◌, ◌∙◌, ◌⊎◌, inl, inr, ℕ, ◌+◌, ◌-◌, ◌==◌, Bool, true, false, nat_eq, ◌||◌, List, [], ◌∷◌, ◌++◌, Some, slice_get, refl, sym, ap, arith}
 use Rattle.std.proofs.lemmas.Bool.Decides.{nat_tests}
-use Rattle.std.proofs.Common.{arith, ◌||◌}
 use Rattle.std.specs.List.{list_any}
 use Rattle.nm_base.specs.Mask.{mask_contains}
 use Rattle.nm_order.specs.declared.ticket.Ticket.{Ticket}
@@ -13,8 +12,8 @@ use Rattle.nm_recovery.specs.Recovery.{is_ended_in}
 use Rattle.nm_manager.specs.Queues.{is_ready_in, tickets_in}
 use Rattle.nm_safety.proofs.Entries.{any_later, nat_same, ready_is_open}
 use Rattle.nm_safety.proofs.Lists.{some_is, to_some}
-use Rattle.nm_rest_laws.proofs.rest.Moves.{IsPlanTicket}
-use Rattle.nm_rest_laws.proofs.rest.Ready.{HasDevice, one_ready, ready_next}
+use Rattle.nm_safety.proofs.Tickets.{AreTickets, IsPlanTicket}
+use Rattle.nm_safety.proofs.Ready.{HasDevice, one_ready, ready_next}
 
 pub same_nat : (a b : ℕ) → (a == b) ≡ true → a ≡ b
 same_nat a b e = grind (arith, nat_tests)
@@ -36,9 +35,6 @@ pub record IsKnown (plans : List ChangePlan) (entries : List Entry) (n d : ℕ) 
   pub plan : ChangePlan
   pub planned : slice_get plans (n - 1) ≡ Some plan
   pub member : mask_contains (devices_in plan.edits) (d + 1) ≡ true
-
-abbrev pub AreTickets : List ChangePlan → List Entry → Type 0
-AreTickets plans entries = (i : ℕ) → IfSome (slice_get (tickets_in entries) i) (IsPlanTicket plans)
 
 module _ (plans : List ChangePlan) (entries : List Entry) where
   pub ended_later : (n : ℕ) (entry : Entry) → is_ended_in n entries ≡ true → is_ended_in n (entries ++ entry ∷ []) ≡ true
@@ -78,16 +74,3 @@ module _ (plans : List ChangePlan) (entries : List Entry) where
       by_begun (inl also) =
           absurd (not_itself n c other
           (one_ready entries (d + 1) n c (has_device tickets n d kn) (has_device tickets c d kc) also ready))
-
--- ---- entries come
-
--- what is known stays so, and what is ended
-pub record IsLater (plans : List ChangePlan) (entries now : List Entry) : Type 0 where
-  pub ended : (n : ℕ) → is_ended_in n entries ≡ true → is_ended_in n now ≡ true
-  pub known : (n d : ℕ) → IsKnown plans entries n d → IsKnown plans now n d
-
-pub same_entries : (plans : List ChangePlan) (entries : List Entry) → IsLater plans entries entries
-same_entries plans entries = record { ended = λ n is. is; known = λ n d k. k }
-
-pub entry_comes : (plans : List ChangePlan) (entries : List Entry) (entry : Entry) → IsLater plans entries (entries ++ entry ∷ [])
-entry_comes plans entries entry = record { ended = λ n. ended_later plans entries n entry; known = λ n d. known_later plans entries entry n d }

@@ -1,16 +1,13 @@
 -- Along a history on which change sets come to a device one after another, the mark of one that isn't ended is there where the change set is.
-use Rattle.std.proofs.Common.{◌≡◌, ◌∙◌, ◌⊎◌, inl, inr, ℕ, ◌<◌, ◌^◌, ◌==◌, Bool, true, false, ◌&&◌, List, [], ◌∷◌, ◌++◌, Option, Some, None, slice_get, unwrap_or, refl, sym, ap, subst, arith, if◌then◌else◌}
+use Rattle.std.proofs.Common.{◌≡◌, ◌∙◌, ◌⊎◌, inl, inr, ℕ, ◌<◌, ◌^◌, ◌==◌, Bool, true, false, ◌&&◌, List, [], ◌∷◌, ◌++◌, Option, Some, None, unwrap_or, refl, sym, ap, subst, arith, if◌then◌else◌}
 use Rattle.std.specs.List.{All}
 use Rattle.std.proofs.lemmas.Bool.Decides.{nat_tests}
-use Rattle.std.proofs.lemmas.List.{append-nil, append_assoc}
-use Rattle.std.proofs.lemmas.Option.{get_or_from_slice_get, none-some, same_Some, slice_get_within}
+use Rattle.std.proofs.lemmas.Option.{none-some, same_Some}
 use Rattle.nm_base.specs.Token.{token_of}
 use Rattle.nm_proto.specs.declared.message.Request.TheVariants.{Commit}
 use Rattle.nm_proto.specs.declared.journal.Entry.{Entry}
 use Rattle.nm_proto.specs.Content.{Meaning, Laws, adds_mark}
-use Rattle.nm_sessions.specs.Sessions.{user_of}
-use Rattle.nm_stores.specs.Stores.{candidate_of}
-use Rattle.nm_device.specs.Device.{AllBelong, DeviceState, is_manager}
+use Rattle.nm_device.specs.Device.{AllBelong, fresh_device}
 use Rattle.nm_history.specs.declared.event.DeviceEvent.{DeviceEvent}
 use Rattle.nm_history.specs.declared.event.DeviceEvent.TheVariants.{Asked}
 use Rattle.nm_history.specs.declared.event.Noted.{Noted}
@@ -20,22 +17,24 @@ use Rattle.nm_history.specs.Effect.{Effect, effect_of_event, is_done_reply, note
 use Rattle.nm_history.specs.Effect.Effect.{Begins, Ends, Undoes, Neither}
 use Rattle.nm_history.specs.Outcome.{Standing, is_token, outcome_of, standing_after}
 use Rattle.nm_history.specs.Whole.{Becomes, began_after, began_of}
-use Rattle.nm_history.specs.History.{Fits, Happened, IsLegal, RecordedState, after_or, device_event, noted, recorded_with, replay, replayed}
+use Rattle.nm_history.specs.History.{Happened, IsLegal, RecordedState, noted, recorded, recorded_with, replay}
 use Rattle.nm_history.proofs.Keeping.{Moved, event_keeps}
 use Rattle.nm_recovery.specs.Recovery.{is_ended_in}
 use Rattle.nm_device_laws.specs.Moment.{Happens}
 use Rattle.nm_device_laws.specs.Token.{commits_in, is_commit_done}
 use Rattle.nm_device_laws.specs.Telling.{standing_of}
-use Rattle.nm_device_laws.proofs.Owns as owns
 use Rattle.nm_device_laws.proofs.Readings.{begins_token, standing_push}
 use Rattle.nm_safety.specs.Pair.{is_confirmed}
 use Rattle.nm_safety.proofs.Alone.{event_belongs}
+use Rattle.nm_safety.proofs.Seats.{listed}
 use Rattle.nm_world.specs.World.{Setting}
-use Rattle.nm_commit_laws.specs.Brings.{Brings, EachBrings}
-use Rattle.nm_commit_laws.specs.Leaves.{EachLeaves, IsOtherCommit, LeavesRunning}
+use Rattle.nm_commit_laws.specs.Brings.{EachBrings}
+use Rattle.nm_commit_laws.specs.Leaves.{EachLeaves}
 use Rattle.nm_commit_laws.specs.Marks.{is_there}
 use Rattle.nm_commit_laws.specs.Stays.{EachFindsEnded, FindsEnded}
-use Rattle.nm_commit_laws.proofs.marks.Outcomes.{IsBelow, IsCommit, below_or_none, commits, event_commits, undoes}
+use Rattle.nm_commit_laws.proofs.marks.Along.{CommitsRightly, entries_keep}
+use Rattle.nm_commit_laws.proofs.marks.Steps.{same_marks}
+use Rattle.nm_commit_laws.proofs.marks.Outcomes.{IsBelow, IsCommit, below_or_none, commits, confirmed_there, event_commits, undoes}
 
 -- ---- outcomes
 
@@ -103,12 +102,6 @@ confirmed_was token Pending other Neither none e = e
 confirmed_was token Confirmed other effect none e = refl
 confirmed_was token (Undone by) other effect none e = e
 
-confirmed_is_there : (outcome : Outcome) → is_confirmed outcome ≡ true → is_there outcome ≡ true
-confirmed_is_there Never e = absurd (let g : false ≡ true = e in cc)
-confirmed_is_there Pending e = refl
-confirmed_is_there Confirmed e = refl
-confirmed_is_there (Undone by) e = absurd (let g : false ≡ true = e in cc)
-
 -- ---- what begins under a token is a commit that gives it
 
 not_begun : (token : List ℕ) (effect : Effect) → commits effect ≡ false → begins_token token effect ≡ false
@@ -145,15 +138,38 @@ begins_none token event done undone none = by_test (commits (effect_of_event eve
 same_number : (n : ℕ) → (n == n) ≡ true
 same_number n = grind (arith, nat_tests)
 
--- what is there where no commit of it is done was there
+-- what is there where nothing of it begins was there
+there_unbegun : {Config Node : Type 0} (r : RecordedState Config Node) (event : DeviceEvent) (h : Happened Config Node) (n : ℕ)
+    → begins_token (token_of n) (noted_effect (noted event h)) ≡ false → is_there (outcome_of (token_of n) (recorded_with r event h).history) ≡ true
+    → is_there (outcome_of (token_of n) r.history) ≡ true
+there_unbegun r event h n none is =
+    let effect : Effect = noted_effect (noted event h) in
+    there_was (token_of n) (outcome_of (token_of n) r.history) (standing_of (token_of n) r.history).other effect none
+    (sym (ap (λ (one : Standing). is_there one.outcome) (standing_push (token_of n) r.history (noted event h) effect refl)) ∙ is)
+
+-- so where no commit of it is done
 pub there_before : {Config Node : Type 0} (r : RecordedState Config Node) (event : DeviceEvent) (h : Happened Config Node) (n : ℕ)
     → is_commit_done (token_of n) (noted event h) ≡ false → is_there (outcome_of (token_of n) (recorded_with r event h).history) ≡ true
     → is_there (outcome_of (token_of n) r.history) ≡ true
-there_before r event h n none is =
+there_before r event h n none is = there_unbegun r event h n (begins_none (token_of n) event (is_done_reply h.reply) h.undone none) is
+
+-- nothing begins where nothing is pending then
+none_begins : {Config : Type 0} (token : List ℕ) (running : Config) (began : Option Config) (effect : Effect)
+    → began_after running began effect ≡ None → begins_token token effect ≡ false
+none_begins token running began (Begins persist) e = absurd (none-some (unwrap_or began running) (sym e))
+none_begins token running began Ends e = refl
+none_begins token running began (Undoes by) e = refl
+none_begins token running began Neither e = refl
+
+pub there_free : {Config TheEdit Node : Type 0} (m : Meaning Config TheEdit Node) (laws : Laws m) (setting : Setting TheEdit)
+    (r : RecordedState Config Node) (event : DeviceEvent) (h : Happened Config Node) → Happens m setting.tables r.device event h
+    → h.after.pending ≡ None → (n : ℕ) → is_there (outcome_of (token_of n) (recorded_with r event h).history) ≡ true
+    → is_there (outcome_of (token_of n) r.history) ≡ true
+there_free m laws setting r event h happens free n is =
     let effect : Effect = noted_effect (noted event h) in
-    there_was (token_of n) (outcome_of (token_of n) r.history) (standing_of (token_of n) r.history).other effect
-    (begins_none (token_of n) event (is_done_reply h.reply) h.undone none)
-    (sym (ap (λ (one : Standing). is_there one.outcome) (standing_push (token_of n) r.history (noted event h) effect refl)) ∙ is)
+    let moved : Moved m r.device effect h.after = (event_keeps m laws setting.tables r.device event h happens).moved in
+    there_unbegun r event h n
+    (none_begins (token_of n) r.device.stores.running (began_of r.device.pending) effect (sym moved.began ∙ ap began_of free)) is
 
 -- ---- a device
 
@@ -196,56 +212,21 @@ module _ {Config TheEdit Node : Type 0} (m : Meaning Config TheEdit Node) (laws 
     abbrev Has : Type 0
     Has = m.has_mark h.after.stores.running n ≡ true
 
-    module _ (brings : (change : ℕ) → change < 2 ^ 32 → is_commit_done (token_of change) entry ≡ true
-        → Brings m setting entries change device r.device.stores.running h.after.stores.running)
-        (leaves : (one : IsOtherCommit r.device entry) → LeavesRunning r.device h.after one.persist one.persist_id)
-        (finds : FindsEnded entries n r.history entry) where
-      edit_belongs : (place : ℕ) (edit : TheEdit) → slice_get setting.tables.edits place ≡ Some edit → m.edit_belongs edit
-      edit_belongs place edit there =
-          subst m.edit_belongs (get_or_from_slice_get setting.tables.edits place edit edit there)
-          (edits place edit (slice_get_within setting.tables.edits place edit there))
-
+    module _ (rightly : CommitsRightly m setting entries device r.device entry h.after) (finds : FindsEnded entries n r.history entry) where
       -- it comes itself, and its mark with it
       own_mark : is_commit_done (token_of n) entry ≡ true → Has
       own_mark done =
-          let b = brings n small done in
+          let b = rightly.brings n small done in
           laws.added r.device.stores.running b.edit b.operation b.marks h.after.stores.running k.belong.stores_belong.running
-          (edit_belongs b.number.0 b.edit b.found) b.makes n (ap (λ marks. adds_mark marks n) b.own.marks_are ∙ same_number n)
-
-      -- a commit that brings no change set
-      module _ (c : IsCommit event (is_done_reply h.reply))
-          (none : (change : ℕ) → change < 2 ^ 32 → is_commit_done (token_of change) entry ≡ false)
-          (had : m.has_mark r.device.stores.running n ≡ true) where
-        other_by : (managed : Bool) → is_manager (user_of r.device.sessions c.session) ≡ managed → Has
-        other_by true e =
-            let left = leaves (record {
-              session = c.session;
-              confirmed = c.confirmed;
-              timeout = c.timeout;
-              persist = c.persist;
-              persist_id = c.persist_id;
-              asked = c.asked;
-              managed = e;
-              done = c.is_done;
-              brings_none = none;
-            }) in
-            subst (λ config. m.has_mark config n ≡ true) (sym left.running) had
-        other_by false e =
-            let made = owns.commits m laws setting.tables r.device c.session c.confirmed c.timeout c.persist c.persist_id h
-            (record { happens = subst (λ one. Happens m setting.tables r.device one h) c.asked happens; done = c.is_done }) in
-            let becomes : h.after.stores.running ≡ candidate_of r.device.stores = ap (λ x. x.stores.running) made.after in
-            ap (λ config. m.has_mark config n) becomes
-            ∙ sym ((laws.same_numbers r.device.stores.running (candidate_of r.device.stores)).0 (made.marks e) n) ∙ had
-
-        other_stays : Has
-        other_stays = other_by (is_manager (user_of r.device.sessions c.session)) refl
+          (listed m.edit_belongs setting.tables.edits edits b.number.0 b.edit b.found) b.makes n (ap (λ marks. adds_mark marks n) b.own.marks_are ∙ same_number n)
 
       committed_by : commits effect ≡ true → is_commit_done (token_of n) entry ≡ false → is_there was ≡ true
           → IsBelow (λ change. is_commit_done (token_of change) entry) (2 ^ 32)
           ⊎ ((change : ℕ) → change < 2 ^ 32 → is_commit_done (token_of change) entry ≡ false) → Has
       committed_by e none there (inl one) =
           absurd (let g : false ≡ true = sym unended ∙ finds one.number one.small one.passes none there in cc)
-      committed_by e none there (inr nobody) = other_stays (event_commits event (is_done_reply h.reply) h.undone e) nobody (k.stays there)
+      committed_by e none there (inr nobody) =
+          same_marks m laws setting r event h happens rightly.leaves (event_commits event (is_done_reply h.reply) h.undone e) nobody n ∙ k.stays there
 
       committed : commits effect ≡ true → is_there now ≡ true → (done : Bool) → is_commit_done (token_of n) entry ≡ done → Has
       committed e there true done = own_mark done
@@ -268,7 +249,7 @@ module _ {Config TheEdit Node : Type 0} (m : Meaning Config TheEdit Node) (laws 
 
       begun_before : (began : Option Config) → began_of r.device.pending ≡ began → (config : Config)
           → unwrap_or began r.device.stores.running ≡ config → is_confirmed was ≡ true → m.has_mark config n ≡ true
-      begun_before None b config e is = subst (λ one. m.has_mark one n ≡ true) e (k.stays (confirmed_is_there was is))
+      begun_before None b config e is = subst (λ one. m.has_mark one n ≡ true) e (k.stays (confirmed_there was is))
       begun_before (Some one) b config e is = k.before config (b ∙ ap Some e) is
 
       before_by : (e : Effect) → effect ≡ e → (config : Config)
@@ -290,38 +271,10 @@ module _ {Config TheEdit Node : Type 0} (m : Meaning Config TheEdit Node) (laws 
 
   -- ---- a history
 
-  abbrev with_entry : RecordedState Config Node → DeviceState Config Node → Noted → RecordedState Config Node
-  with_entry r s one = record { device = s; history = r.history ++ one ∷ [] }
-
-  module _ (r : RecordedState Config Node) (one : Noted) (k : IsStaying m n r) (finds : FindsEnded entries n r.history one)
-      (brings : (change : ℕ) → change < 2 ^ 32 → is_commit_done (token_of change) one ≡ true
-      → Brings m setting entries change device r.device.stores.running (replayed m setting.tables r.device one).stores.running)
-      (leaves : (other : IsOtherCommit r.device one)
-      → LeavesRunning r.device (replayed m setting.tables r.device one) other.persist other.persist_id) where
-    next_by : (done : Option (Happened Config Node)) → device_event m setting.tables r.device one.event ≡ done → Fits one done
-        → IsStaying m n (with_entry r (replayed m setting.tables r.device one) one)
-    next_by None e fits = absurd fits
-    next_by (Some h) e fits =
-        let after : replayed m setting.tables r.device one ≡ h.after = ap (after_or r.device) e in
-        subst (λ s. IsStaying m n (with_entry r s one)) (sym after)
-        (subst (λ entry. IsStaying m n (with_entry r h.after entry)) (sym fits)
-        (staying_next r one.event h e k
-        (λ change small done.
-        subst (λ (s : DeviceState Config Node). Brings m setting entries change device r.device.stores.running s.stores.running) after
-        (brings change small (subst (λ entry. is_commit_done (token_of change) entry ≡ true) (sym fits) done)))
-        (subst (λ entry. (other : IsOtherCommit r.device entry) → LeavesRunning r.device h.after other.persist other.persist_id) fits
-        (subst (λ s. (other : IsOtherCommit r.device one) → LeavesRunning r.device s other.persist other.persist_id) after leaves))
-        (subst (FindsEnded entries n r.history) fits finds)))
-
-  pub staying_along : (r : RecordedState Config Node) (history : List Noted) → IsLegal m setting.tables r.device history
-      → EachBrings m setting entries device r.device history → EachLeaves m setting r.device history
-      → EachFindsEnded entries n r.history history → IsStaying m n r
-      → IsStaying m n (record { device = replay m setting.tables r.device history; history = r.history ++ history })
-  staying_along r [] legal brings leaves finds k =
-      subst (λ history. IsStaying m n (record { device = r.device; history = history })) (sym (append-nil r.history)) k
-  staying_along r (one ∷ history) legal brings leaves finds k =
-      let s = replayed m setting.tables r.device one in
-      subst (λ all. IsStaying m n (record { device = replay m setting.tables s history; history = all }))
-      (append_assoc r.history (one ∷ []) history)
-      (staying_along (with_entry r s one) history legal.1 brings.1 leaves.1 finds.1
-      (next_by r one k finds.0 brings.0 leaves.0 (device_event m setting.tables r.device one.event) refl legal.0))
+  pub staying_along : (first : Config) (history : List Noted) → IsLegal m setting.tables (fresh_device first) history
+      → EachBrings m setting entries device (fresh_device first) history → EachLeaves m setting (fresh_device first) history
+      → EachFindsEnded entries n [] history → IsStaying m n (recorded first)
+      → IsStaying m n (record { device = replay m setting.tables (fresh_device first) history; history = history })
+  staying_along first history legal brings leaves finds k =
+      entries_keep m setting entries device (FindsEnded entries n) (IsStaying m n)
+      (λ r event h happens rightly more k. staying_next r event h happens k rightly more) (recorded first) history legal brings leaves finds k

@@ -2,7 +2,7 @@
 use Rattle.std.proofs.Common.{◌≡◌, ◌∙◌, ◌⊎◌, inl, inr, ℕ, ◌-◌, ◌<◌, ◌^◌, ◌==◌, Bool, true, false, List, [], ◌∷◌, ◌++◌, Option, Some, None, IfSome, is_some, slice_get, unwrap_or, refl, sym, ap, subst, arith}
 use Rattle.std.specs.List.{All}
 use Rattle.std.proofs.lemmas.Bool.Decides.{nat_tests}
-use Rattle.std.proofs.lemmas.Option.{get_or_from_slice_get, none-some, same_Some, slice_get_within}
+use Rattle.std.proofs.lemmas.Option.{none-some, same_Some}
 use Rattle.nm_base.specs.Token.{token_of}
 use Rattle.nm_proto.specs.declared.journal.Entry.{Entry}
 use Rattle.nm_proto.specs.declared.plan.PlannedEdit.{PlannedEdit}
@@ -10,7 +10,7 @@ use Rattle.nm_proto.specs.Content.{Meaning, Laws, adds_mark}
 use Rattle.nm_sessions.specs.Sessions.{user_of}
 use Rattle.nm_stores.specs.Stores.{candidate_of}
 use Rattle.nm_pending.specs.Pending.{PendingState}
-use Rattle.nm_device.specs.Device.{AllBelong, is_manager}
+use Rattle.nm_device.specs.Device.{AllBelong, fresh_device, is_manager}
 use Rattle.nm_history.specs.declared.event.DeviceEvent.{DeviceEvent}
 use Rattle.nm_history.specs.declared.event.Noted.{Noted}
 use Rattle.nm_history.specs.declared.outcome.Outcome.{Outcome}
@@ -19,23 +19,25 @@ use Rattle.nm_history.specs.Effect.{Effect, is_done_reply, noted_effect}
 use Rattle.nm_history.specs.Effect.Effect.{Begins, Ends, Undoes, Neither}
 use Rattle.nm_history.specs.Outcome.{Standing, outcome_of, standing_after}
 use Rattle.nm_history.specs.Whole.{Becomes, began_after, began_of}
-use Rattle.nm_history.specs.History.{Happened, RecordedState, noted, recorded_with}
+use Rattle.nm_history.specs.History.{Happened, IsLegal, RecordedState, noted, recorded, recorded_with, replay}
 use Rattle.nm_history.proofs.Keeping.{Moved, event_keeps}
 use Rattle.nm_device_laws.specs.Moment.{Happens}
 use Rattle.nm_device_laws.specs.Token.{is_commit_done}
 use Rattle.nm_device_laws.specs.Telling.{TellsPending, standing_of}
 use Rattle.nm_device_laws.proofs.Owns as owns
 use Rattle.nm_device_laws.proofs.Readings.{standing_push}
-use Rattle.nm_device_laws.proofs.Tells.{pending_told}
+use Rattle.nm_device_laws.proofs.Tells.{pending_told, pending_told_first}
 use Rattle.nm_manager.specs.Requests.{is_of_device}
 use Rattle.nm_safety.specs.Pair.{is_confirmed}
 use Rattle.nm_safety.proofs.Alone.{event_belongs}
 use Rattle.nm_safety.proofs.Lists.{some_is, to_some}
-use Rattle.nm_world.specs.World.{Setting}
-use Rattle.nm_commit_laws.specs.Brings.{Brings}
-use Rattle.nm_commit_laws.specs.Leaves.{IsOtherCommit, LeavesRunning}
+use Rattle.nm_safety.proofs.Seats.{listed}
+use Rattle.nm_world.specs.World.{IsFirst, Setting}
+use Rattle.nm_commit_laws.specs.Brings.{Brings, EachBrings}
+use Rattle.nm_commit_laws.specs.Leaves.{EachLeaves, IsOtherCommit, LeavesRunning}
 use Rattle.nm_commit_laws.specs.Marks.{ArePlain, TellsMarks, is_there}
-use Rattle.nm_commit_laws.specs.Waits.{Waits}
+use Rattle.nm_commit_laws.specs.Waits.{EachWaits, Waits}
+use Rattle.nm_commit_laws.proofs.marks.Along.{CommitsRightly, entries_keep}
 use Rattle.nm_commit_laws.proofs.marks.Outcomes.{IsBelow, IsCommit, below_or_none, commit_stays, commits, confirmed_is, confirmed_next, confirmed_there, event_commits, found_has, there_confirmed, there_next, undoes}
 
 same_nat : (a b : ℕ) → (a == b) ≡ true → a ≡ b
@@ -44,6 +46,37 @@ same_nat a b e = grind (arith, nat_tests)
 none_began : {Config : Type 0} (pending : Option (PendingState Config)) → began_of pending ≡ None → is_some pending ≡ false
 none_began None e = refl
 none_began (Some p) e = absurd (none-some p.before (sym e))
+
+-- a commit of the manager's that brings no change set leaves running, and one of another changes no mark
+module _ {Config TheEdit Node : Type 0} (m : Meaning Config TheEdit Node) (laws : Laws m) (setting : Setting TheEdit)
+    (r : RecordedState Config Node) (event : DeviceEvent) (h : Happened Config Node) (happens : Happens m setting.tables r.device event h)
+    (leaves : (other : IsOtherCommit r.device (noted event h)) → LeavesRunning r.device h.after other.persist other.persist_id)
+    (c : IsCommit event (is_done_reply h.reply))
+    (none : (change : ℕ) → change < 2 ^ 32 → is_commit_done (token_of change) (noted event h) ≡ false) (n : ℕ) where
+  same_by : (managed : Bool) → is_manager (user_of r.device.sessions c.session) ≡ managed
+      → m.has_mark h.after.stores.running n ≡ m.has_mark r.device.stores.running n
+  same_by true e =
+      let left = leaves (record {
+        session = c.session;
+        confirmed = c.confirmed;
+        timeout = c.timeout;
+        persist = c.persist;
+        persist_id = c.persist_id;
+        asked = c.asked;
+        managed = e;
+        done = c.is_done;
+        brings_none = none;
+      }) in
+      ap (λ config. m.has_mark config n) left.running
+  same_by false e =
+      let made = owns.commits m laws setting.tables r.device c.session c.confirmed c.timeout c.persist c.persist_id h
+      (record { happens = subst (λ one. Happens m setting.tables r.device one h) c.asked happens; done = c.is_done }) in
+      let becomes : h.after.stores.running ≡ candidate_of r.device.stores = ap (λ x. x.stores.running) made.after in
+      ap (λ config. m.has_mark config n) becomes
+      ∙ sym ((laws.same_numbers r.device.stores.running (candidate_of r.device.stores)).0 (made.marks e) n)
+
+  pub same_marks : m.has_mark h.after.stores.running n ≡ m.has_mark r.device.stores.running n
+  same_marks = same_by (is_manager (user_of r.device.sessions c.session)) refl
 
 -- what marks tell of a device with its history, and of running before what is pending there
 pub record IsMarked {Config TheEdit Node : Type 0} (m : Meaning Config TheEdit Node) (r : RecordedState Config Node) : Type 0 where
@@ -97,15 +130,7 @@ module _ {Config TheEdit Node : Type 0} (m : Meaning Config TheEdit Node) (laws 
 
   -- ---- a commit
 
-  module _ (waits : Waits r.history entry)
-      (brings : (change : ℕ) → change < 2 ^ 32 → is_commit_done (token_of change) entry ≡ true
-      → Brings m setting entries change device r.device.stores.running h.after.stores.running)
-      (leaves : (other : IsOtherCommit r.device entry) → LeavesRunning r.device h.after other.persist other.persist_id) where
-    edit_belongs : (place : ℕ) (edit : TheEdit) → slice_get setting.tables.edits place ≡ Some edit → m.edit_belongs edit
-    edit_belongs place edit there =
-        subst m.edit_belongs (get_or_from_slice_get setting.tables.edits place edit edit there)
-        (edits place edit (slice_get_within setting.tables.edits place edit there))
-
+  module _ (rightly : CommitsRightly m setting entries device r.device entry h.after) (waits : Waits r.history entry) where
     abbrev Has : ℕ → Type 0
     Has n = m.has_mark h.after.stores.running n ≡ true
 
@@ -131,46 +156,20 @@ module _ {Config TheEdit Node : Type 0} (m : Meaning Config TheEdit Node) (laws 
       brought_by n has false e =
           old_there n stays
           (laws.only_old r.device.stores.running b.edit b.operation b.marks h.after.stores.running k.belong.stores_belong.running
-          (edit_belongs b.number.0 b.edit b.found) own_plain b.makes n (adds n ∙ e) has).0
+          (listed m.edit_belongs setting.tables.edits edits b.number.0 b.edit b.found) own_plain b.makes n (adds n ∙ e) has).0
 
       brought : (n : ℕ) → Has n → is_there (now n) ≡ true
       brought n has = brought_by n has (n == change) refl
-
-    -- another commit brings no mark
-    module _ (stays : undoes effect ≡ false) (c : IsCommit event (is_done_reply h.reply))
-        (none : (change : ℕ) → change < 2 ^ 32 → is_commit_done (token_of change) entry ≡ false) where
-      other_by : (n : ℕ) → Has n → (managed : Bool) → is_manager (user_of r.device.sessions c.session) ≡ managed → is_there (now n) ≡ true
-      other_by n has true e =
-          let left = leaves (record {
-            session = c.session;
-            confirmed = c.confirmed;
-            timeout = c.timeout;
-            persist = c.persist;
-            persist_id = c.persist_id;
-            asked = c.asked;
-            managed = e;
-            done = c.is_done;
-            brings_none = none;
-          }) in
-          old_there n stays (subst (λ config. m.has_mark config n ≡ true) left.running has)
-      other_by n has false e =
-          let made = owns.commits m laws setting.tables r.device c.session c.confirmed c.timeout c.persist c.persist_id h
-          (record { happens = subst (λ one. Happens m setting.tables r.device one h) c.asked happens; done = c.is_done }) in
-          let becomes : h.after.stores.running ≡ candidate_of r.device.stores = ap (λ x. x.stores.running) made.after in
-          old_there n stays
-          ((laws.same_numbers r.device.stores.running (candidate_of r.device.stores)).0 (made.marks e) n
-          ∙ ap (λ config. m.has_mark config n) (sym becomes) ∙ has)
-
-      other : (n : ℕ) → Has n → is_there (now n) ≡ true
-      other n has = other_by n has (is_manager (user_of r.device.sessions c.session)) refl
 
     committed_by : commits effect ≡ true
         → IsBelow (λ change. is_commit_done (token_of change) entry) (2 ^ 32)
         ⊎ ((change : ℕ) → change < 2 ^ 32 → is_commit_done (token_of change) entry ≡ false)
         → (n : ℕ) → Has n → is_there (now n) ≡ true
     committed_by e (inl one) n has =
-        brought (commit_stays effect e) one.number one.small one.passes (brings one.number one.small one.passes) n has
-    committed_by e (inr none) n has = other (commit_stays effect e) (event_commits event (is_done_reply h.reply) h.undone e) none n has
+        brought (commit_stays effect e) one.number one.small one.passes (rightly.brings one.number one.small one.passes) n has
+    committed_by e (inr none) n has =
+        old_there n (commit_stays effect e)
+        (sym (same_marks m laws setting r event h happens rightly.leaves (event_commits event (is_done_reply h.reply) h.undone e) none n) ∙ has)
 
     committed : commits effect ≡ true → (n : ℕ) → Has n → is_there (now n) ≡ true
     committed e = committed_by e (below_or_none (λ change. is_commit_done (token_of change) entry) (2 ^ 32))
@@ -214,3 +213,25 @@ module _ {Config TheEdit Node : Type 0} (m : Meaning Config TheEdit Node) (laws 
       marks = marks_by effect refl moved.moves;
       before = λ config b. before_by effect config (sym moved.began ∙ b);
     }
+
+-- ---- a whole history
+
+module _ {Config TheEdit Node : Type 0} (m : Meaning Config TheEdit Node) (laws : Laws m) (setting : Setting TheEdit)
+    (edits : All m.edit_belongs setting.tables.edits) (plain : ArePlain m setting) (entries : List Entry) (device : ℕ) where
+  first_marked : (first : Config) → IsFirst m first → ((n : ℕ) → m.has_mark first n ≡ false) → IsMarked {Node = Node} m (recorded first)
+  first_marked first is unmarked = record {
+    belong = record { stores_belong = record { running = is.belongs; candidate = tt }; before_belongs = tt };
+    tells = λ token. pending_told_first token (recorded first) first refl;
+    marks = λ n has. absurd (let g : false ≡ true = sym (unmarked n) ∙ has in cc);
+    before = λ config e. absurd (none-some config e);
+  }
+
+  pub marks_along : (first : Config) (history : List Noted) → IsFirst m first → ((n : ℕ) → m.has_mark first n ≡ false)
+      → IsLegal m setting.tables (fresh_device first) history → EachBrings m setting entries device (fresh_device first) history
+      → EachLeaves m setting (fresh_device first) history → EachWaits [] history
+      → TellsMarks m (record { device = replay m setting.tables (fresh_device first) history; history = history })
+  marks_along first history is unmarked legal brings leaves waits =
+      marks_told m (record { device = replay m setting.tables (fresh_device first) history; history = history })
+      (entries_keep m setting entries device Waits (IsMarked m)
+      (λ r event h happens rightly more k. marked_next m laws setting edits plain entries device r event h happens k rightly more) (recorded first) history
+      legal brings leaves waits (first_marked first is unmarked))

@@ -22,9 +22,10 @@ use Rattle.nm_wire.specs.Link.{LinkState, asked_on, closed_link, fresh_link, han
 use Rattle.nm_wire.specs.Words.{commit_count, commits_sent, owns}
 use Rattle.nm_wire.specs.Wire.{WireState, current_link, link_at, sent}
 use Rattle.nm_manager.specs.Requests.{edit_for, edit_request, request_for}
-use Rattle.nm_manager.specs.Slot.{SideState, SlotState, asked_in_fact, gone, may_go, opens, renews, renews_if, renews_on, sends, sends_if, sends_on, sends_request, with_pair, with_wire}
+use Rattle.nm_manager.specs.Slot.{SideState, SlotState, asked_in_fact, gone, may_go, opens, renews, renews_if, sends, sends_if, sends_request, with_pair, with_wire, on_side, sends_pair, renews_pair}
 use Rattle.nm_manager.proofs.Kept.{asks_fit}
 use Rattle.nm_safety.specs.Step.{IsInStep}
+use Rattle.nm_safety.proofs.EachPair as each_pair
 use Rattle.nm_safety.proofs.Gone.{GoesOnOne, each_gone, sent_one}
 use Rattle.nm_safety.proofs.Links.{commits_after, did_handled, did_sent_on, sent_handled_on}
 use Rattle.nm_safety.proofs.Places.{set_same}
@@ -35,9 +36,8 @@ use Rattle.nm_safety.proofs.SlotLinks.{links_at, set_links}
 use Rattle.nm_commit_laws.specs.Standing.{stands_at, standing}
 use Rattle.nm_commit_laws.proofs.leaves.Course.{Stands}
 use Rattle.nm_commit_laws.proofs.leaves.Slots.{Known, known_at}
-use Rattle.nm_commit_laws.specs.RefusesSupport.{AllFirst, AsksFitly, IsFit, IsTimely, OwnsOn, is_at_first}
+use Rattle.nm_commit_laws.specs.RefusesSupport.{AllFirst, AsksFitly, FirstPair, IsFit, IsTimely, OwnsOn, is_at_first}
 use Rattle.nm_commit_laws.proofs.refuses.First.{cancels_stand, commits_stand}
-use Rattle.nm_commit_laws.proofs.refuses.Slots.{first_at}
 use Rattle.nm_commit_laws.proofs.refuses.Words.{owns_handled, owns_sent, standing_owns}
 
 -- ---- one link
@@ -238,7 +238,7 @@ module _ {Config Node : Type 0} (plan : ChangePlan) (devices : List (RecordedSta
 
     out_if : (request : Request) (before now : CourseState) (new : Bool) → GoesFitly device new side.wire request → (b : Bool)
         → may_go new side.wire ≡ b
-        → AllLinks P (with_pair slot device (sends_if b device before now side (gone new side.wire request))).slot.sides
+        → AllLinks P (with_pair slot device (sends_if b new device before now side request)).slot.sides
     out_if request before now new fitly false e = same_links all (device - 1) side there
     out_if request before now new fitly true e =
         set_links P slot all (device - 1) side (with_wire side (gone new side.wire request)) there (gone_fit request new fitly e)
@@ -249,7 +249,7 @@ module _ {Config Node : Type 0} (plan : ChangePlan) (devices : List (RecordedSta
     out_by before now new (Some request) fitly = out_if request before now new fitly (may_go new side.wire) refl
 
   module _ (change members : ℕ) (entries : List Entry) (in_step : IsInStep change members entries slot) (known : Known slot)
-      (first : AllFirst (λ d. is_some (slice_get devices d)) slot) (all : AllLinks P slot.sides) (device : ℕ) where
+      (first : AllFirst devices slot) (all : AllLinks P slot.sides) (device : ℕ) where
     abbrev made : Ask → Option Request
     made what = request_for plan entries slot.course.change device what
 
@@ -287,14 +287,14 @@ module _ {Config Node : Type 0} (plan : ChangePlan) (devices : List (RecordedSta
             → Stands (stands_at a.seat.stage side.resync.stage) (current_link side.wire) → (b : Bool) → is_at_first a.seat.stage ≡ b
             → ((number : ℕ) → side.wire.current ≡ Some number → number ≡ 1) ⊎ Stands 1 (current_link side.wire)
         by_stage a side there has cancel low true e =
-            inl (λ number current. first_at slot (λ d. is_some (slice_get devices d)) first (device - 1) a.seat side a.here there has e number
-            current)
+            inl (λ number current.
+            each_pair.known_at (FirstPair devices) change members entries slot in_step first (device - 1) a.seat side a.here there has e number current)
         by_stage a side there has cancel low false e =
             inr (stands_more (stands_at a.seat.stage side.resync.stage) 1 (current_link side.wire)
             (cancels_stand slot.course.verdict a.seat.stage side.resync what a.next cancel e) low)
 
     sent_on_fit : (what : Ask) → IsAsked slot.course device what → (found : Option SideState)
-        → slice_get slot.sides (device - 1) ≡ found → AllLinks P (sends_on plan entries slot device what found).slot.sides
+        → slice_get slot.sides (device - 1) ≡ found → AllLinks P (on_side (sends_pair plan entries device what) slot device found).slot.sides
     sent_on_fit what a None there = all
     sent_on_fit what a (Some side) there =
         let in_fact : Ask = asked_in_fact side.resync what in
@@ -324,7 +324,7 @@ module _ {Config Node : Type 0} (plan : ChangePlan) (devices : List (RecordedSta
         (to_some (GoesFitly device false side.wire) (made ask.Renew) (λ request is. renew_fitly side request is))
 
     renewed_on_fit : (found : Option SideState) → slice_get slot.sides (device - 1) ≡ found
-        → AllLinks P (renews_on plan entries slot device found).slot.sides
+        → AllLinks P (on_side (renews_pair plan entries device) slot device found).slot.sides
     renewed_on_fit None there = all
     renewed_on_fit (Some side) there = renewed_if side there (course.may_renew slot.course device)
 

@@ -1,10 +1,9 @@
--- What is kept of all change sets that are to be aborted, where something happens at a device that doesn't name their tokens.
-use Rattle.std.proofs.Common.{◌≡◌, ◌∙◌, ℕ, suc, ◌≤◌, ◌==◌, Bool, true, false, List, Some, IfSome, is_some, slice_get, slice_set, refl, sym, ap, subst, arith}
+-- What is kept of a change set that is to be aborted, where something happens at a device that it doesn't ask for.
+use Rattle.std.proofs.Common.{◌≡◌, ◌∙◌, ℕ, ◌≤◌, ◌==◌, Bool, true, false, List, Some, is_some, slice_get, slice_set, refl, sym, ap, subst, arith}
 use Rattle.std.proofs.lemmas.Bool.Decides.{nat_tests}
 use Rattle.std.proofs.lemmas.Option.{none-some}
 use Rattle.nm_base.specs.Token.{token_of}
 use Rattle.nm_proto.specs.declared.journal.Entry.{Entry}
-use Rattle.nm_proto.specs.declared.plan.ChangePlan.{ChangePlan}
 use Rattle.nm_proto.specs.Content.{Meaning, TablesState}
 use Rattle.nm_proto.specs.Plan.{devices_in}
 use Rattle.nm_sessions.specs.Sessions.{is_open}
@@ -23,13 +22,14 @@ use Rattle.nm_device_laws.proofs.Tokens.{token_kept}
 use Rattle.nm_wire.specs.Link.{session_of}
 use Rattle.nm_manager.specs.Slot.{SideState, SlotState}
 use Rattle.nm_safety.specs.Pair.{first_link}
-use Rattle.nm_safety.specs.Support.{IsDevice, IsKept, IsSupported, KeptAt, Owners}
-use Rattle.nm_safety.proofs.Lists.{some_is, to_some}
+use Rattle.nm_safety.specs.Support.{IsDevice, IsKept, Owners}
+use Rattle.nm_safety.proofs.Lists.{to_some}
 use Rattle.nm_safety.proofs.Others.{first_is_owned}
-use Rattle.nm_world.specs.World.{Setting, CoreState}
+use Rattle.nm_world.specs.World.{Setting, WorldState}
+use Rattle.nm_safety.specs.Keeping.{IsOthers, Site}
 use Rattle.nm_safety.proofs.EachLink.{owned_at}
-use Rattle.nm_outcome_laws.specs.AbortsSupport.{AllAborted, AreAborted, IsGone, is_over}
-use Rattle.nm_outcome_laws.proofs.aborts.Keeping.{moved_aborts}
+use Rattle.nm_outcome_laws.specs.AbortsSupport.{IsGone, OfAborted, is_over}
+use Rattle.nm_outcome_laws.proofs.aborts.Slots.{moved_aborts}
 
 pub same_nat : (a b : ℕ) → (a == b) ≡ true → a ≡ b
 same_nat a b e = grind (arith, nat_tests)
@@ -91,39 +91,16 @@ module _ {Config TheEdit Node : Type 0} (m : Meaning Config TheEdit Node) (setti
               stays_closed m setting.tables r.device device.numbered t (first_opened t at) (gone.shut t some at) event h happens;
         }
 
--- ---- the world
+-- ---- all devices of it
 
-module _ {Config TheEdit Node : Type 0} (m : Meaning Config TheEdit Node) (setting : Setting TheEdit)
-    (w : CoreState Config Node) (s : IsSupported m setting w) (c : AreAborted setting.plans w.entries w.slots w.devices)
-    (d : ℕ) (r : RecordedState Config Node) (here : slice_get w.devices d ≡ Some r) (event : DeviceEvent) (h : Happened Config Node)
-    (happens : Happens m setting.tables r.device event h) where
-  device_here : IsDevice m (s.owners d) r
-  device_here = some_is r (IsDevice m (s.owners d)) (slice_get w.devices d) here (s.devices d)
-
-  kept_at : (place : ℕ) (plan : ChangePlan) (slot : SlotState) → slice_get setting.plans place ≡ Some plan
-      → slice_get w.slots place ≡ Some slot
-      → IsKept (suc place) (devices_in plan.edits) w.entries s.owners w.devices slot
-  kept_at place plan slot planned there =
-      subst (λ o. KeptAt (suc place) w.entries s.owners w.devices (Some plan) o) there
-      (subst (λ o. KeptAt (suc place) w.entries s.owners w.devices o (slice_get w.slots place)) planned (s.slots place))
-
-  abbrev Aborted : ℕ → ChangePlan → List (RecordedState Config Node) → SlotState → Type 0
-  Aborted number plan devices slot = AllAborted (devices_in plan.edits) (is_over number w.entries) (token_of number) devices slot
-
-  pub slot_others : (place : ℕ) → leaves_token (token_of (suc place)) r.device event ≡ true → (plan : ChangePlan)
-      → slice_get setting.plans place ≡ Some plan
-      → IfSome (slice_get w.slots place) (Aborted (suc place) plan (slice_set w.devices d (recorded_with r event h)))
-  slot_others place leaves plan planned =
-      to_some (Aborted (suc place) plan (slice_set w.devices d (recorded_with r event h))) (slice_get w.slots place)
-      (λ slot there.
-      moved_aborts (devices_in plan.edits) (is_over (suc place) w.entries) (token_of (suc place)) w.devices slot
-      (some_is slot (Aborted (suc place) plan w.devices) (slice_get w.slots place) there (c place plan planned)) d r
-      (recorded_with r event h) here
-      (λ side at_side.
-      gone_other m setting (suc place) (devices_in plan.edits) w.entries s.owners w.devices slot (kept_at place plan slot planned there) d r
-      here device_here side at_side event h happens leaves))
-
-  -- something happens at a device that names no change set's token
-  pub all_others : ((change : ℕ) → leaves_token (token_of change) r.device event ≡ true)
-      → AreAborted setting.plans w.entries w.slots (slice_set w.devices d (recorded_with r event h))
-  all_others leaves place plan planned = slot_others place (leaves (suc place)) plan planned
+-- something happens at a device that the change set doesn't ask for
+pub aside_aborts : {Config TheEdit Node : Type 0} (m : Meaning Config TheEdit Node) (setting : Setting TheEdit) (B : WorldState Config Node → Type 0)
+    (x : Site m setting B) (d : ℕ) (r : RecordedState Config Node) → slice_get x.w.devices d ≡ Some r → IsDevice m (x.owners d) r
+    → (event : DeviceEvent) (h : Happened Config Node) → Happens m setting.tables r.device event h → IsOthers x.change (x.owners d) r event
+    → OfAborted x.change x.plan x.w.entries x.w.devices x.slot
+    → OfAborted x.change x.plan x.w.entries (slice_set x.w.devices d (recorded_with r event h)) x.slot
+aside_aborts m setting B x d r here known event h happens others a =
+    moved_aborts (devices_in x.plan.edits) (is_over x.change x.w.entries) (token_of x.change) x.w.devices x.slot a d r (recorded_with r event h) here
+    (λ side at_side.
+    gone_other m setting x.change (devices_in x.plan.edits) x.w.entries x.owners x.w.devices x.slot x.kept d r here known side at_side event h happens
+    others.token)

@@ -21,8 +21,8 @@ use Rattle.nm_resync.specs.Resync.{ResyncState, settled_in}
 use Rattle.nm_wire.specs.declared.link.Exchange.{Exchange}
 use Rattle.nm_wire.specs.Wire.{WireState, due, handled}
 use Rattle.nm_manager.specs.Requests.{request_for}
-use Rattle.nm_manager.specs.Slot.{SideState, SlotState, PairStep, with_pair, with_wire, asked_in_fact, opens, may_go, gone, sends_if, sends_request}
-use Rattle.nm_manager.specs.Slot.{sends_on, sends, renews_if, renews_on, renews, settled_by, learns, receives_due, receives_on, receives}
+use Rattle.nm_manager.specs.Slot.{SideState, SlotState, PairStep, with_pair, with_wire, asked_in_fact, opens, may_go, sends_if, sends_request, on_side, sends_pair, renews_pair, receives_pair}
+use Rattle.nm_manager.specs.Slot.{sends, renews_if, renews, settled_by, learns, receives_due, receives}
 use Rattle.nm_manager.specs.Slot.{awaits_resync, breaks_current, anew, is_commit, to_commit, decided, cut_off, lost_memory, wires_on, wire_of_side}
 use Rattle.nm_manager.specs.Manager.{wire_of, course_after, start_anew}
 use Rattle.nm_safety.proofs.Wires.{at_set, at_map}
@@ -54,7 +54,7 @@ sides_map slot now change told device = at_map SameSide same_side change told sl
 
 module _ (device : ℕ) (before now : CourseState) (side : SideState) where
   if_told : (new : Bool) (request : Request) (b : Bool) → may_go new side.wire ≡ b
-      → SameTold side.wire (sends_if b device before now side (gone new side.wire request)).side.wire
+      → SameTold side.wire (sends_if b new device before now side request).side.wire
   if_told new request false e = same_told side.wire
   if_told new request true e = gone_as new side.wire request e
 
@@ -71,7 +71,7 @@ module _ (slot : SlotState) (device : ℕ) where
   pair_told step side there told = side_set slot step.course d side step.side there told
 
   sent_by : (plan : ChangePlan) (entries : List Entry) (what : Ask) (found : Option SideState) → slice_get slot.sides d ≡ found
-      → SameSlot (Some slot) (Some (sends_on plan entries slot device what found).slot)
+      → SameSlot (Some slot) (Some (on_side (sends_pair plan entries device what) slot device found).slot)
   sent_by plan entries what None there = same_slot (Some slot)
   sent_by plan entries what (Some side) there =
       pair_told
@@ -92,7 +92,7 @@ module _ (slot : SlotState) (device : ℕ) where
       (request_told device slot.course (course.with_renewed slot.course device) side false (request_for plan entries slot.course.change device ask.Renew))
 
   renewed_by : (plan : ChangePlan) (entries : List Entry) (found : Option SideState) → slice_get slot.sides d ≡ found
-      → SameSlot (Some slot) (Some (renews_on plan entries slot device found).slot)
+      → SameSlot (Some slot) (Some (on_side (renews_pair plan entries device) slot device found).slot)
   renewed_by plan entries None there = same_slot (Some slot)
   renewed_by plan entries (Some side) there = renewed_if plan entries side there (course.may_renew slot.course device)
 
@@ -107,7 +107,7 @@ module _ (slot : SlotState) (device : ℕ) where
       pair_told (receives_due resyncs slot.course side device (handled side.wire link number) (Some exchange)) side there (handled_told side.wire link number)
 
   received_by : (link number : ℕ) (found : Option SideState) → slice_get slot.sides d ≡ found
-      → SameSlot (Some slot) (Some (receives_on slot device link number found).slot)
+      → SameSlot (Some slot) (Some (on_side (receives_pair device link number) slot device found).slot)
   received_by link number None there = same_slot (Some slot)
   received_by link number (Some side) there = due_told_by link number side there (awaits_resync (slice_get slot.course.seats d)) (due side.wire link number)
 
@@ -151,18 +151,18 @@ module _ (slot : SlotState) (device : ℕ) where
   renewed_at_same None = refl
   renewed_at_same (Some seat) = refl
 
-  if_same : (now : CourseState) (side : SideState) (links : WireState) → now.trouble ≡ slot.course.trouble → (b : Bool)
-      → (sends_if b device slot.course now side links).course.trouble ≡ slot.course.trouble
-  if_same now side links same true = same
-  if_same now side links same false = refl
+  if_same : (now : CourseState) (side : SideState) (new : Bool) (request : Request) → now.trouble ≡ slot.course.trouble → (b : Bool)
+      → (sends_if b new device slot.course now side request).course.trouble ≡ slot.course.trouble
+  if_same now side new request same true = same
+  if_same now side new request same false = refl
 
   request_same : (now : CourseState) (side : SideState) (new : Bool) → now.trouble ≡ slot.course.trouble → (found : Option Request)
       → (sends_request new device slot.course now side found).course.trouble ≡ slot.course.trouble
   request_same now side new same None = refl
-  request_same now side new same (Some request) = if_same now side (gone new side.wire request) same (may_go new side.wire)
+  request_same now side new same (Some request) = if_same now side new request same (may_go new side.wire)
 
   sent_on_same : (plan : ChangePlan) (entries : List Entry) (what : Ask) (found : Option SideState)
-      → (sends_on plan entries slot device what found).slot.course.trouble ≡ slot.course.trouble
+      → (on_side (sends_pair plan entries device what) slot device found).slot.course.trouble ≡ slot.course.trouble
   sent_on_same plan entries what None = refl
   sent_on_same plan entries what (Some side) =
       request_same (course.with_sent slot.course device) side (opens (asked_in_fact side.resync what)) (sent_at_same (slice_get slot.course.seats (device - 1)))
@@ -179,7 +179,7 @@ module _ (slot : SlotState) (device : ℕ) where
       (request_for plan entries slot.course.change device ask.Renew)
 
   renewed_on_same : (plan : ChangePlan) (entries : List Entry) (found : Option SideState)
-      → (renews_on plan entries slot device found).slot.course.trouble ≡ slot.course.trouble
+      → (on_side (renews_pair plan entries device) slot device found).slot.course.trouble ≡ slot.course.trouble
   renewed_on_same plan entries None = refl
   renewed_on_same plan entries (Some side) = renewed_if_same plan entries side (course.may_renew slot.course device)
 

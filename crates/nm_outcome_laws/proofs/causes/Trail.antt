@@ -7,6 +7,7 @@ use Rattle.std.proofs.lemmas.List.Folds.{list_any-append}
 use Rattle.nm_proto.specs.declared.journal.Entry.{Entry}
 use Rattle.nm_proto.specs.declared.journal.Entry.TheVariants.{Started, Decided, Ended}
 use Rattle.nm_proto.specs.declared.journal.Verdict.{Verdict}
+use Rattle.nm_proto.specs.declared.plan.Event.{Event}
 use Rattle.nm_proto.specs.declared.plan.Event.TheVariants.{Submit, Turn}
 use Rattle.nm_journal.specs.Entries.{starts, decides}
 use Rattle.nm_recovery.specs.Recovery.{is_started, verdict_in, verdict_of}
@@ -15,7 +16,7 @@ use Rattle.nm_world.specs.declared.happened.Happened.TheVariants as happened
 use Rattle.nm_world.specs.declared.happened.TraceEntry.{TraceEntry}
 use Rattle.nm_safety.proofs.Places.{verdict_same, verdict_new}
 use Rattle.nm_safety.proofs.Entries.{nat_same, both_false}
-use Rattle.nm_outcome_laws.specs.Causes.{is_submission, starts_then, was_started, verdict_told, decided_then, was_decided, IsToldAlike}
+use Rattle.nm_outcome_laws.specs.Causes.{is_submit_of, is_turn_of, starts_then, was_started, verdict_told, decided_then, was_decided, IsToldAlike}
 
 or_none : {A : Type 0} (o : Option A) → option_or o None ≡ o
 or_none None = refl
@@ -69,8 +70,12 @@ false_if false b e = refl
 pub turn_plain : (turned : ℕ) (what : Happened) → verdict_told what ≡ None → IsPlain (record { event = Turn turned; happened = what })
 turn_plain turned what e = record { starts_none = λ change. refl; decides_none = λ change. none_if (nat_eq change turned) (verdict_told what) e }
 
-pub submit_plain : (submitted : ℕ) (what : Happened) → is_submission what ≡ false → IsPlain (record { event = Submit submitted; happened = what })
-submit_plain submitted what e = record { starts_none = λ change. false_if (nat_eq change submitted) (is_submission what) e; decides_none = λ change. refl }
+-- where nothing has come of an event
+pub idle_plain : (event : Event) → IsPlain (record { event = event; happened = happened.Idle })
+idle_plain event = record {
+  starts_none = λ change. false_if (is_submit_of change event) false refl;
+  decides_none = λ change. none_if (is_turn_of change event) None refl;
+}
 
 -- ---- with one entry more
 

@@ -1,5 +1,5 @@
 -- After a run what lapsed is undone.
-use Rattle.std.proofs.Common.{◌≡◌, ◌∙◌, ℕ, zero, suc, ◌-◌, ◌==◌, cond, Bool, true, false, ◌&&◌, List, [], ◌∷◌, Contains, Option, Some, None, IfSome, option_map, slice_get, refl, sym, ap, subst, arith}
+use Rattle.std.proofs.Common.{◌≡◌, ◌∙◌, ℕ, zero, suc, ◌-◌, ◌==◌, cond, Bool, true, false, ◌&&◌, List, [], ◌∷◌, Contains, Option, Some, None, IfSome, slice_get, refl, sym, ap, subst, arith}
 use Rattle.std.proofs.lemmas.Option.{none-some, same_Some}
 use Rattle.nm_base.specs.Token.{token_of}
 use Rattle.nm_proto.specs.declared.journal.AbortCause.TheVariants.{Lapsed}
@@ -9,7 +9,6 @@ use Rattle.nm_proto.specs.declared.message.Reply.{Reply}
 use Rattle.nm_proto.specs.declared.message.Reply.TheVariants.{Done, Opened, LockId, Mark, Rows, Error}
 use Rattle.nm_proto.specs.declared.plan.ChangePlan.{ChangePlan}
 use Rattle.nm_proto.specs.declared.plan.Event.{Event}
-use Rattle.nm_proto.specs.declared.plan.Event.TheVariants.{Deliver}
 use Rattle.nm_proto.specs.Content.{Meaning, Laws}
 use Rattle.nm_proto.specs.Plan.{devices_in}
 use Rattle.nm_device.specs.Table.{is_error}
@@ -21,36 +20,72 @@ use Rattle.nm_recovery.specs.Recovery.{verdict_in}
 use Rattle.nm_wire.specs.declared.link.Exchange.{Exchange}
 use Rattle.nm_wire.specs.Asks.{ask_of}
 use Rattle.nm_wire.specs.Link.{LinkState}
-use Rattle.nm_manager.specs.Slot.{SideState, SlotState, wire_of_side}
+use Rattle.nm_manager.specs.Slot.{SideState, SlotState, to_commit, wire_of_side}
 use Rattle.nm_manager.specs.Manager.{slots_from, wire_of}
-use Rattle.nm_world.specs.World.{Setting, WorldState, elementary, run, core_of, start, world_step}
+use Rattle.nm_world.specs.World.{Setting, WorldState, core_of, run, start}
 use Rattle.nm_world.specs.Drain.{drained}
-use Rattle.nm_world.proofs.Passing.{is_round, other_step}
-use Rattle.nm_safety.specs.Safe.{IsGiven, IsProper}
-use Rattle.nm_safety.specs.Support.{IsSupported, KeptAt}
+use Rattle.nm_safety.specs.Keeping.{AreKept, Both, Keeps, Site}
+use Rattle.nm_safety.specs.Safe.{IsProper}
+use Rattle.nm_safety.proofs.Drained.{drained_too}
+use Rattle.nm_safety.proofs.Entries.{ready_is_open}
+use Rattle.nm_safety.proofs.Keeping.{run_kept, slot_there}
+use Rattle.nm_safety.proofs.Lists.{to_some}
 use Rattle.nm_safety.proofs.Safely.{run_is_safe}
+use Rattle.nm_safety.proofs.SlotLinks.{broken_links, cut_links, decided_links}
 use Rattle.nm_rest_laws.proofs.rest.Moves.{down}
-use Rattle.nm_safety.proofs.Drained.{all_events, all_proper, drained_is}
-use Rattle.nm_outcome_laws.specs.RecordsSupport.{outcomes_at}
-use Rattle.nm_outcome_laws.proofs.records.Passing.{HasRun, next_ran, run_keeps, start_ran}
+use Rattle.nm_outcome_laws.specs.RecordsSupport.{OfNone, outcome_in, outcomes_at}
+use Rattle.nm_outcome_laws.proofs.records.Passing.{HasRun, next_ran, start_ran}
 use Rattle.nm_outcome_laws.proofs.records.Said.{lasting}
 use Rattle.nm_outcome_laws.specs.Causes.{HasLapsed, WasRefused, error_tag, exchanges_at, exchanges_on, history_at, is_renewing, links_to}
 use Rattle.nm_outcome_laws.proofs.causes.Runs.{run_has_causes}
 use Rattle.nm_outcome_laws.specs.Lapses.{LapsesAreUndone}
-use Rattle.nm_outcome_laws.specs.LapsesSupport.{AllRenew, AreRenewing, IsOver, RenewsOn, is_lapse}
-use Rattle.nm_outcome_laws.proofs.lapses.Deliver.{IsSaid, delivering_renews}
-use Rattle.nm_outcome_laws.proofs.lapses.Later.{all_later}
-use Rattle.nm_outcome_laws.proofs.lapses.Said.{said_at}
-use Rattle.nm_outcome_laws.proofs.lapses.Slots.{fresh_all}
-use Rattle.nm_outcome_laws.proofs.lapses.Steps.{slots_renew}
+use Rattle.nm_outcome_laws.specs.LapsesSupport.{AllRenew, IsOver, OfRenewed, RenewsOn, is_lapse}
+use Rattle.nm_outcome_laws.proofs.lapses.Asks.{renewed_committed}
+use Rattle.nm_outcome_laws.proofs.lapses.Slots.{P, fresh_all, lost_all, received_all, renewed_all, restarted_all, sent_all}
+use Rattle.nm_outcome_laws.proofs.lapses.Told.{aside_renews, asked_renews, opened_renews}
 
 -- ---- the beginning
 
-slots_begin : (outs : ℕ → ℕ → Option Outcome) (plans : List ChangePlan) (base place : ℕ)
-    → IfSome (slice_get (slots_from base plans) place) (AllRenew (outs place))
+slots_begin : (outs : ℕ → Option Outcome) (plans : List ChangePlan) (base place : ℕ) → IfSome (slice_get (slots_from base plans) place) (AllRenew outs)
 slots_begin outs [] base place = tt
-slots_begin outs (plan ∷ plans) base zero = fresh_all (outs 0) base (devices_in plan.edits)
-slots_begin outs (plan ∷ plans) base (suc place) = slots_begin (λ j. outs (suc j)) plans (suc base) place
+slots_begin outs (plan ∷ plans) base zero = fresh_all outs base (devices_in plan.edits)
+slots_begin outs (plan ∷ plans) base (suc place) = slots_begin outs plans (suc base) place
+
+-- ---- every event
+
+module _ {Config TheEdit Node : Type 0} (m : Meaning Config TheEdit Node) (laws : Laws m) (setting : Setting TheEdit) (running : List Config) where
+  abbrev Ran : WorldState Config Node → Type 0
+  Ran = HasRun m setting running
+
+  abbrev O : Site m setting Ran → ℕ → Option Outcome
+  O x = outcomes_at x.change x.w.devices
+
+  renews_keep : Keeps m setting Ran OfRenewed OfNone
+  renews_keep = record {
+    entered = λ x entry other may c. c;
+    decides_on = λ x v ready acts may c. decided_links (P (O x)) x.slot c v;
+    sent = λ x device what ready acts c. sent_all (O x) x.slot c x.plan x.w.entries device what acts;
+    renewed = λ x device known ready c.
+        renewed_all (O x) x.slot c x.plan x.w.entries device
+        (λ side there may.
+        renewed_committed x.change (verdict_in x.change x.w.entries) x.slot x.w.devices x.kept.holds
+        (sym (x.kept.in_step.decided (ready_is_open x.w.entries x.change ready))) device side there may);
+    heard = λ x device link number known c. received_all (O x) x.slot c device link number;
+    broken = λ x device known c. broken_links (P (O x)) x.slot c device;
+    forgotten = λ x begun going c. cut_links (P (O x)) x.slot c (to_commit (verdict_in x.change x.w.entries));
+    anew = λ x c. cut_links (P (O x)) x.slot c (to_commit (verdict_in x.change x.w.entries));
+    closed = λ change plan entries devices slot device link c. lost_all (outcomes_at change devices) slot c device link;
+    restarted = λ change plan entries devices slot device c. restarted_all (outcomes_at change devices) slot c device;
+    aside = aside_renews m laws setting running;
+    told = λ x single session is done later c k. asked_renews m laws setting running x c session is done later;
+    told_opened = λ x user opening done later c k. opened_renews m laws setting running x c user opening done;
+    entered_beside = λ w b entry may place r here k. k;
+    asked_by_link = λ x single session is done later c k. k;
+    opened_by_link = λ x user opening done later c k. k;
+    asked_by_operator = λ w b place r here session opened stranger request h happens k. k;
+    opened_by_operator = λ w b place r here user stranger h happens k. k;
+    silent = λ w b place r here event silent h happens k. k;
+  }
 
 -- ---- where a link has lapsed it is over
 
@@ -86,11 +121,6 @@ module _ (outs : ℕ → Option Outcome) (device link : ℕ) (x : Exchange) (lap
   over_side None p c = absurd (no_link (link == 0) c)
   over_side (Some side) p c = over_link (outs (device - 1)) (slice_get side.wire.links (link - 1)) (p (link - 1)) (link == 0) c
 
-  over_slot : (found : Option SlotState) → IfSome found (AllRenew outs) → Contains (exchanges_at (wire_of device found) link) x
-      → IsOver (outs (device - 1))
-  over_slot None p c = absurd (no_link (link == 0) c)
-  over_slot (Some slot) p c = over_side (slice_get slot.sides (device - 1)) (p (device - 1)) c
-
 -- what is over is undone, where it wasn't to be committed
 undone_by : (outcome : Outcome) (decided : Option Verdict) (why : _) → decided ≡ Some (verdict.Abort why)
     → (outcome ≡ Confirmed → decided ≡ Some verdict.Commit) → is_final outcome ≡ true → is_undone outcome ≡ true
@@ -104,109 +134,73 @@ undone_by (Undone by) decided why e only f = refl
 
 module _ {Config TheEdit Node : Type 0} (m : Meaning Config TheEdit Node) (laws : Laws m) (setting : Setting TheEdit)
     (running : List Config) (events : List Event) (proper : IsProper {Node = Node} m setting running events) where
-  -- a world that a run has come to, and what its links keep of renewals
-  record IsRenewed (w : WorldState Config Node) : Type 0 where
-    ran : HasRun m setting running w
-    renews : AreRenewing w.devices w.slots
+  abbrev first : WorldState Config Node
+  first = start setting running
 
-  module _ (w : WorldState Config Node) (event : Event) (given : IsGiven setting event) (single : is_round event ≡ false) (k : IsRenewed w) where
-    abbrev now : WorldState Config Node
-    now = world_step m setting w event
+  abbrev ran : WorldState Config Node
+  ran = run m setting first events
 
-    ran_now : HasRun m setting running now
-    ran_now = next_ran m setting running events proper w event given single k.ran
+  begins : AreKept setting OfRenewed OfNone (core_of first)
+  begins = record {
+    slots = λ place plan planned. slots_begin (outcomes_at (suc place) first.devices) setting.plans 1 place;
+    devices = λ place. to_some (λ r. Unit {0}) (slice_get first.devices place) (λ r here. tt);
+  }
 
-    -- what was known of links is so after it
-    kept_renews : (slots : List SlotState) → AreRenewing w.devices slots → AreRenewing now.devices slots
-    kept_renews slots renews =
-        subst (λ (v : WorldState Config Node). AreRenewing v.devices slots) (sym (other_step m setting w event single))
-        (all_later m setting w (event ∷ []) slots renews)
-
-    said : IsSaid setting (core_of w) (elementary m setting (core_of w) event).after
-    said = record {
-      later = kept_renews w.slots k.renews;
-      says = said_at m laws setting running w k.ran now ran_now;
-    }
-
-  renews_now : (w : WorldState Config Node) (event : Event) → IsGiven setting event → is_round event ≡ false → IsRenewed w
-      → AreRenewing (world_step m setting w event).devices (world_step m setting w event).slots
-  renews_now w (Deliver change device link) given single k =
-      delivering_renews m setting (core_of w) (lasting m laws setting running w k.ran).supported change device link given
-      (said w (Deliver change device link) given single k)
-  renews_now w event given single k =
-      kept_renews w event given single k (elementary m setting (core_of w) event).after.slots
-      (slots_renew m setting (core_of w) (lasting m laws setting running w k.ran).supported k.renews event given refl)
-
-  one_renews : (w : WorldState Config Node) (event : Event) → IsGiven setting event → is_round event ≡ false → IsRenewed w
-      → IsRenewed (world_step m setting w event)
-  one_renews w event given single k =
-      record { ran = ran_now w event given single k; renews = renews_now w event given single k }
-
-  abbrev ran_to : WorldState Config Node
-  ran_to = run m setting (start setting running) events
-
-  renewed : IsRenewed ran_to
+  renewed : Both setting (HasRun m setting running) OfRenewed OfNone ran
   renewed =
-      run_keeps m setting IsRenewed one_renews (start setting running) events proper.given
-      (record {
-        ran = start_ran m setting running events proper;
-        renews = slots_begin (λ place. outcomes_at (suc place) (start {Node = Node} setting running).devices) setting.plans 1;
-      })
+      run_kept m laws setting proper.edits proper.few proper.strangers (HasRun m setting running)
+      (λ v before. (lasting m laws setting running v before).supported) (next_ran m setting running) OfRenewed OfNone
+      (renews_keep m laws setting running) first events proper.given
+      (record { before = start_ran m setting running events proper; own = begins })
 
   -- ---- after it
 
   module _ (place device : ℕ) (r : RecordedState Config Node)
-      (aborted : verdict_in (suc place) ran_to.entries ≡ Some (verdict.Abort (Lapsed device)))
-      (here : slice_get ran_to.devices (device - 1) ≡ Some r) where
+      (aborted : verdict_in (suc place) ran.entries ≡ Some (verdict.Abort (Lapsed device)))
+      (here : slice_get ran.devices (device - 1) ≡ Some r) where
     abbrev o : Outcome
     o = outcome_of (token_of (suc place)) r.history
 
     -- an error was replied to a renewal of it
-    cause : HasLapsed (links_to ran_to (suc place) device) (history_at ran_to.devices device)
+    cause : HasLapsed (links_to ran (suc place) device) (history_at ran.devices device)
     cause = (run_has_causes m laws setting running events proper).aborts_have_causes (suc place) (Lapsed device) aborted
 
-    lapse : WasRefused is_renewing cause.tag (links_to ran_to (suc place) device) (history_at ran_to.devices device)
+    lapse : WasRefused is_renewing cause.tag (links_to ran (suc place) device) (history_at ran.devices device)
     lapse = cause.refused
 
-    told : Contains (exchanges_at (wire_of device (slice_get ran_to.slots place)) lapse.link) lapse.exchange
-    told = subst (λ found. Contains (exchanges_at (wire_of device found) lapse.link) lapse.exchange) (down ran_to.slots place) lapse.told
+    told : Contains (exchanges_at (wire_of device (slice_get ran.slots place)) lapse.link) lapse.exchange
+    told = subst (λ found. Contains (exchanges_at (wire_of device found) lapse.link) lapse.exchange) (down ran.slots place) lapse.told
 
     lapsed : is_lapse lapse.exchange ≡ true
     lapsed =
         both_true (is_renewing (ask_of lapse.exchange.request)) (is_error lapse.exchange.reply) lapse.kind
         (error_is lapse.exchange.reply cause.tag lapse.error)
 
-    over_now : is_final o ≡ true
-    over_now =
-        subst IsOver (ap (option_map (λ one. outcome_of (token_of (suc place)) one.history)) here)
-        (over_slot (outcomes_at (suc place) ran_to.devices) device lapse.link lapse.exchange lapsed (slice_get ran_to.slots place)
-        (renewed.renews place) told)
+    over_now : (slot : SlotState) → slice_get ran.slots place ≡ Some slot → AllRenew (outcomes_at (suc place) ran.devices) slot
+        → is_final o ≡ true
+    over_now slot there renews =
+        subst IsOver (ap (outcome_in (suc place)) here)
+        (over_side (outcomes_at (suc place) ran.devices) device lapse.link lapse.exchange lapsed (slice_get slot.sides (device - 1))
+        (renews (device - 1)) (subst (λ found. Contains (exchanges_at (wire_of device found) lapse.link) lapse.exchange) there told))
 
-    -- a change set that has links is planned
-    unplanned : slice_get setting.plans place ≡ None → (found : Option SlotState) → slice_get ran_to.slots place ≡ found → ⊥
-    unplanned none None there =
-        no_link (λ d. None) device lapse.link lapse.exchange lapsed (lapse.link == 0)
-        (subst (λ found. Contains (exchanges_at (wire_of device found) lapse.link) lapse.exchange) there told)
-    unplanned none (Some slot) there =
-        let s : IsSupported m setting (core_of ran_to) = (lasting m laws setting running ran_to renewed.ran).supported in
-        subst (λ found. KeptAt (suc place) ran_to.entries s.owners ran_to.devices None found) there
-        (subst (λ found. KeptAt (suc place) ran_to.entries s.owners ran_to.devices found (slice_get ran_to.slots place)) none (s.slots place))
-
-    undone_now : (plan : Option ChangePlan) → slice_get setting.plans place ≡ plan → is_undone o ≡ true
-    undone_now None planned = absurd (unplanned planned (slice_get ran_to.slots place) refl)
-    undone_now (Some plan) planned =
-        undone_by o (verdict_in (suc place) ran_to.entries) (Lapsed device) aborted
+    -- a change set that has links is there, and planned
+    undone_now : (found : Option SlotState) → slice_get ran.slots place ≡ found → is_undone o ≡ true
+    undone_now None there =
+        absurd (no_link (λ d. None) device lapse.link lapse.exchange lapsed (lapse.link == 0)
+        (subst (λ found. Contains (exchanges_at (wire_of device found) lapse.link) lapse.exchange) there told))
+    undone_now (Some slot) there =
+        slot_there m setting OfRenewed OfNone (core_of ran) (lasting m laws setting running ran renewed.before).supported renewed.own place slot
+        there (is_undone o ≡ true)
+        (λ plan planned renews.
+        undone_by o (verdict_in (suc place) ran.entries) (Lapsed device) aborted
         ((run_is_safe m laws setting running events proper).keeps_decisions place plan (device - 1) r planned here).confirmed_only_if_journalled
-        over_now
+        (over_now slot there renews))
 
-  pub run_lapses : LapsesAreUndone ran_to
-  run_lapses = record { undone = λ place device r aborted here. undone_now place device r aborted here (slice_get setting.plans place) refl }
+  pub run_lapses : LapsesAreUndone ran
+  run_lapses = record { undone = λ place device r aborted here. undone_now place device r aborted here (slice_get ran.slots place) refl }
 
 module _ {Config TheEdit Node : Type 0} (m : Meaning Config TheEdit Node) (laws : Laws m) (setting : Setting TheEdit)
     (running : List Config) (events : List Event) (steps : ℕ) where
   pub drained_lapses : IsProper {Node = Node} m setting running events
       → LapsesAreUndone (drained m setting steps (run m setting (start setting running) events))
-  drained_lapses proper =
-      subst LapsesAreUndone (drained_is m laws setting running events steps)
-      (run_lapses m laws setting running (all_events m laws setting running events steps)
-      (all_proper m laws setting running events steps proper))
+  drained_lapses proper = drained_too m laws setting running LapsesAreUndone (run_lapses m laws setting running) events steps proper

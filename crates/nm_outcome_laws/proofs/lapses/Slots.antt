@@ -14,7 +14,7 @@ use Rattle.nm_decider.proofs.Actions.{asked}
 use Rattle.nm_wire.specs.Asks.{ask_of}
 use Rattle.nm_wire.specs.Link.{LinkState}
 use Rattle.nm_manager.specs.Requests.{request_for}
-use Rattle.nm_manager.specs.Slot.{SideState, SlotState, asked_in_fact, fresh_side, fresh_slot, gone, lost_wire, may_go, opens, receives, renews, renews_if, renews_on, restarted_slot, sends, sends_if, sends_on, sends_request, with_pair, with_wire, wires_on}
+use Rattle.nm_manager.specs.Slot.{SideState, SlotState, asked_in_fact, fresh_side, fresh_slot, gone, lost_wire, may_go, opens, receives, renews, renews_if, restarted_slot, sends, sends_if, sends_request, with_pair, with_wire, wires_on, on_side, sends_pair, renews_pair}
 use Rattle.nm_safety.proofs.Gone.{each_gone}
 use Rattle.nm_safety.proofs.Places.{set_same}
 use Rattle.nm_safety.specs.Support.{AllLinks}
@@ -37,7 +37,7 @@ module _ (outs : ℕ → Option Outcome) (slot : SlotState) (all : AllRenew outs
 
   gone_if : (device : ℕ) (side : SideState) → slice_get slot.sides (device - 1) ≡ Some side → (before now : CourseState) (new : Bool)
       (request : Request) → RenewsCommitted (outs (device - 1)) request → (b : Bool) → may_go new side.wire ≡ b
-      → AllRenew outs (with_pair slot device (sends_if b device before now side (gone new side.wire request))).slot
+      → AllRenew outs (with_pair slot device (sends_if b new device before now side request)).slot
   gone_if device side there before now new request committed false e = unmoved (device - 1) side there
   gone_if device side there before now new request committed true e =
       set_links (P outs) slot all (device - 1) side (with_wire side (gone new side.wire request)) there
@@ -59,7 +59,7 @@ module _ (outs : ℕ → Option Outcome) (slot : SlotState) (all : AllRenew outs
   plain_committed outcome (Some request) plain = λ renewing. absurd (let g : true ≡ false = sym renewing ∙ plain in cc)
 
   sent_on_renews : (plan : ChangePlan) (entries : List Entry) (device : ℕ) (what : Ask) → IsAsked slot.course device what
-      → (found : Option SideState) → slice_get slot.sides (device - 1) ≡ found → AllRenew outs (sends_on plan entries slot device what found).slot
+      → (found : Option SideState) → slice_get slot.sides (device - 1) ≡ found → AllRenew outs (on_side (sends_pair plan entries device what) slot device found).slot
   sent_on_renews plan entries device what a None there = all
   sent_on_renews plan entries device what a (Some side) there =
       let in_fact : Ask = asked_in_fact side.resync what in
@@ -86,7 +86,7 @@ module _ (outs : ℕ → Option Outcome) (slot : SlotState) (all : AllRenew outs
         gone_by device side there slot.course (course.with_renewed slot.course device) false
         (request_for plan entries slot.course.change device ask.Renew) (λ renewing. committed side there may)
 
-    renewed_on : (found : Option SideState) → slice_get slot.sides (device - 1) ≡ found → AllRenew outs (renews_on plan entries slot device found).slot
+    renewed_on : (found : Option SideState) → slice_get slot.sides (device - 1) ≡ found → AllRenew outs (on_side (renews_pair plan entries device) slot device found).slot
     renewed_on None there = all
     renewed_on (Some side) there = renewed_if side there (course.may_renew slot.course device) refl
 

@@ -26,7 +26,7 @@ use Rattle.nm_rest_laws.proofs.rest.Moves.{down}
 use Rattle.nm_rest_laws.proofs.rest.Lasting.{Lasts, one_lasts}
 use Rattle.nm_rest_laws.proofs.rest.Running.{start_lasts}
 use Rattle.nm_safety.proofs.Steps.{run_keeps}
-use Rattle.nm_safety.proofs.Drained.{all_events, all_proper, drained_is}
+use Rattle.nm_safety.proofs.Drained.{drained_too}
 use Rattle.nm_outcome_laws.specs.Records.{IsEnded, RecordsAborts}
 use Rattle.nm_outcome_laws.proofs.records.Entries.{AreRight, enters_right, within_planned}
 
@@ -93,6 +93,4 @@ module _ {Config TheEdit Node : Type 0} (m : Meaning Config TheEdit Node) (laws 
   pub drained_records : IsProper {Node = Node} m setting running events
       → RecordsAborts setting (drained m setting steps (run m setting (start setting running) events))
   drained_records proper =
-      subst (RecordsAborts setting) (drained_is m laws setting running events steps)
-      (run_records m laws setting running (all_events m laws setting running events steps)
-      (all_proper m laws setting running events steps proper))
+      drained_too m laws setting running (RecordsAborts setting) (run_records m laws setting running) events steps proper

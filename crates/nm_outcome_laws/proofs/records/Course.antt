@@ -22,13 +22,13 @@ use Rattle.nm_wire.specs.declared.link.Way.TheVariants.{Quiet, Asked, Told}
 use Rattle.nm_wire.specs.Asks.{ask_of}
 use Rattle.nm_wire.specs.Link.{LinkState, closed_link, ends, handled_on, told_on_way}
 use Rattle.nm_wire.specs.Words.{ask_on}
-use Rattle.nm_wire.specs.Wire.{WireState, current_link, handled_at, is_quiet_link, link_at, lost, restarted, sent}
+use Rattle.nm_wire.specs.Wire.{WireState, current_link, handled_at, link_at, lost, restarted}
 use Rattle.nm_manager.specs.Slot.{SideState, anew, asked_in_fact, cut_off, gone, is_commit, is_resync, may_go, to_commit, with_wire}
 use Rattle.nm_safety.specs.Pair.{is_live}
 use Rattle.nm_safety.specs.Step.{GoesWith, current_told, fits_stage, may_go_on, way_ask, way_told}
-use Rattle.nm_safety.proofs.Pairs.{asked_is, at_resync}
+use Rattle.nm_safety.proofs.Pairs.{asked_is, at_resync, gone_told}
 use Rattle.nm_safety.proofs.Tables.{both, found_stage}
-use Rattle.nm_safety.proofs.Wires.{IsDue, current_begun, current_changed, current_handled, current_restarted, current_sent, handled_quiet}
+use Rattle.nm_safety.proofs.Wires.{IsDue, current_changed, current_handled, current_restarted, handled_quiet}
 use Rattle.nm_outcome_laws.specs.RecordsSupport.{IsKnown, IsTold, is_known_as, knows_at, reply_tells, wants_mark}
 use Rattle.nm_outcome_laws.proofs.records.Tables.{broken_knows, broken_live, broken_wants, found_knows, found_wants, learnt_acked, learnt_knows, learnt_wants, resync_knows, resync_wants}
 
@@ -43,30 +43,18 @@ some_if P (Some one) exchange e h = let same : one ≡ exchange = cc in subst P 
 never : {T : Type 0} (b : Bool) → b ≡ false → b ≡ true → T
 never b e f = absurd (let g : false ≡ true = sym e ∙ f in cc)
 
--- what is on its way isn't told
-sent_none : (wire : WireState) (request : Request) (found : Option LinkState) → current_link wire ≡ found → is_quiet_link found ≡ true
-    → current_told (sent wire request) ≡ None
-sent_none wire request None e h = absurd (let g : false ≡ true = h in cc)
-sent_none wire request (Some link) e h = ap (option_and_then way_told) (current_sent wire request link e)
-
-gone_none : (new : Bool) (wire : WireState) (request : Request) → may_go new wire ≡ true → current_told (gone new wire request) ≡ None
-gone_none true wire request h = ap (option_and_then way_told) (current_begun wire request)
-gone_none false wire request h = sent_none wire request (current_link wire) refl h
-
 -- it is to be committed
-is_to_commit : (decided : Option Verdict) → to_commit decided ≡ true → decided ≡ Some verdict.Commit
+pub is_to_commit : (decided : Option Verdict) → to_commit decided ≡ true → decided ≡ Some verdict.Commit
 is_to_commit None c = absurd (let g : false ≡ true = c in cc)
 is_to_commit (Some verdict.Commit) c = refl
 is_to_commit (Some (verdict.Abort why)) c = absurd (let g : false ≡ true = c in cc)
 
 -- what is told so of one device is known of it
-lift : (decided now_decided : Option Verdict) (seat now : Seat) (side new : SideState) (o : Option Outcome) → now.is_member ≡ seat.is_member
-    → (to_commit now_decided ≡ true → to_commit decided ≡ true)
+lift : (decided : Option Verdict) (seat now : Seat) (side new : SideState) (o : Option Outcome) → now.is_member ≡ seat.is_member
     → ((outcome : Outcome) → decided ≡ Some verdict.Commit → IsTold seat side outcome → IsTold now new outcome)
-    → IsKnown decided seat side o → IsKnown now_decided now new o
-lift decided now_decided seat now side new None same commits step k = tt
-lift decided now_decided seat now side new (Some outcome) same commits step k =
-    λ c member. step outcome (is_to_commit decided (commits c)) (k (commits c) (sym same ∙ member))
+    → IsKnown decided seat side o → IsKnown decided now new o
+lift decided seat now side new None same step k = tt
+lift decided seat now side new (Some outcome) same step k = λ c member. step outcome (is_to_commit decided c) (k c (sym same ∙ member))
 
 module _ (decided : Option Verdict) (seat : Seat) (side : SideState) (o : Option Outcome) (k : IsKnown decided seat side o) where
   abbrev Now : Seat → SideState → Type 0
@@ -80,18 +68,18 @@ module _ (decided : Option Verdict) (seat : Seat) (side : SideState) (o : Option
     acked = subst (λ s. is_live s ≡ true → is_acknowledged s ≡ true) (sym same) t.acked;
     known = subst (λ s. (kept : Bool) → knows_at s side.resync.stage ≡ Some kept → is_known_as kept outcome ≡ true) (sym same) t.known;
     gone = subst (λ s. wants_mark s side.resync.stage ≡ true → is_final outcome ≡ true) (sym same) t.gone;
-    told = none_if _ (current_told (gone new side.wire request)) (gone_none new side.wire request goes);
+    told = none_if _ (current_told (gone new side.wire request)) (gone_told new side.wire request goes);
   }
 
   pub turned_known : (new : Bool) (request : Request) → may_go new side.wire ≡ true
       → Now (asked_next decided seat) (with_wire side (gone new side.wire request))
   turned_known new request goes =
-      lift decided decided seat (asked_next decided seat) side (with_wire side (gone new side.wire request)) o refl (λ c. c)
+      lift decided seat (asked_next decided seat) side (with_wire side (gone new side.wire request)) o refl
       (out_told (asked_next decided seat) new request refl goes) k
 
   pub renewed_known : (request : Request) → may_go false side.wire ≡ true → Now (renewed seat) (with_wire side (gone false side.wire request))
   renewed_known request goes =
-      lift decided decided seat (renewed seat) side (with_wire side (gone false side.wire request)) o refl (λ c. c)
+      lift decided seat (renewed seat) side (with_wire side (gone false side.wire request)) o refl
       (out_told (renewed seat) false request refl goes) k
 
   -- ---- a reply is handled
@@ -140,8 +128,8 @@ module _ (decided : Option Verdict) (seat : Seat) (side : SideState) (o : Option
         → Now (record seat { stage = learnt decided seat.stage what exchange.reply; awaited = None })
         (record { wire = after; resync = side.resync })
     handled_known what awaited other =
-        lift decided decided seat (record seat { stage = learnt decided seat.stage what exchange.reply; awaited = None }) side
-        (record { wire = after; resync = side.resync }) o refl (λ c. c)
+        lift decided seat (record seat { stage = learnt decided seat.stage what exchange.reply; awaited = None }) side
+        (record { wire = after; resync = side.resync }) o refl
         (λ outcome c t.
         subst (λ v. IsTold (record seat { stage = learnt v seat.stage what exchange.reply; awaited = None })
         (record { wire = after; resync = side.resync }) outcome) (sym c) (handled_told what awaited other outcome t)) k
@@ -186,8 +174,8 @@ module _ (decided : Option Verdict) (seat : Seat) (side : SideState) (o : Option
         → Now (record seat { stage = found_stage found; awaited = None })
         (record { wire = after; resync = resync.with_reply side.resync exchange.reply })
     resynced_known awaited =
-        lift decided decided seat (record seat { stage = found_stage found; awaited = None }) side
-        (record { wire = after; resync = resync.with_reply side.resync exchange.reply }) o refl (λ c. c)
+        lift decided seat (record seat { stage = found_stage found; awaited = None }) side
+        (record { wire = after; resync = resync.with_reply side.resync exchange.reply }) o refl
         (λ outcome c t.
         subst (λ b. IsTold (record seat { stage = found_stage (settled_in (resync_learnt b side.resync.stage exchange.reply)); awaited = None })
         (record {
@@ -202,8 +190,7 @@ module _ (decided : Option Verdict) (seat : Seat) (side : SideState) (o : Option
   pub broken_known : (commit : Bool)
       → Now (record seat { stage = broken_stage seat.stage; awaited = None }) (cut_off commit side)
   broken_known commit =
-      lift decided decided seat (record seat { stage = broken_stage seat.stage; awaited = None }) side (cut_off commit side) o refl
-      (λ c. c)
+      lift decided seat (record seat { stage = broken_stage seat.stage; awaited = None }) side (cut_off commit side) o refl
       (λ outcome c t. record {
         acked = λ live. never (is_live (broken_stage seat.stage)) (broken_live seat.stage) live;
         known = λ kept knows. t.known kept (broken_knows seat.stage side.resync.stage kept knows);
@@ -220,7 +207,7 @@ module _ (decided : Option Verdict) (seat : Seat) (side : SideState) (o : Option
 
   pub closed_known : (number : ℕ) → Now seat (with_wire side (lost side.wire number))
   closed_known number =
-      lift decided decided seat seat side (with_wire side (lost side.wire number)) o refl (λ c. c)
+      lift decided seat seat side (with_wire side (lost side.wire number)) o refl
       (λ outcome c t. record {
         acked = t.acked;
         known = t.known;
@@ -231,7 +218,7 @@ module _ (decided : Option Verdict) (seat : Seat) (side : SideState) (o : Option
 
   pub restarted_known : Now seat (with_wire side (restarted side.wire))
   restarted_known =
-      lift decided decided seat seat side (with_wire side (restarted side.wire)) o refl (λ c. c)
+      lift decided seat seat side (with_wire side (restarted side.wire)) o refl
       (λ outcome c t. record {
         acked = t.acked;
         known = t.known;

@@ -1,5 +1,5 @@
 -- Where a change set that was to be committed is ended, it is over at its devices, and kept by just those where it is confirmed.
-use Rattle.std.proofs.Common.{◌≡◌, ◌∙◌, ℕ, zero, suc, ◌+◌, ◌-◌, ◌<◌, ◌==◌, min, Bool, true, false, cond, List, [], ◌∷◌, ◌++◌, length, find, Option, Some, None, IfSome, is_some, option_and_then, option_map, slice_get, bit_and, refl, sym, ap, subst, arith}
+use Rattle.std.proofs.Common.{◌≡◌, ◌∙◌, ℕ, zero, suc, ◌+◌, ◌-◌, ◌<◌, ◌==◌, min, Bool, true, false, cond, List, [], ◌∷◌, ◌++◌, length, find, Option, Some, None, IfSome, is_some, option_and_then, slice_get, slice_set, bit_and, refl, sym, ap, subst, arith}
 use Rattle.std.specs.Int.{bit_at}
 use Rattle.std.specs.Option.{option_or}
 use Rattle.std.proofs.lemmas.Bool.Decides.{nat_tests}
@@ -8,31 +8,29 @@ use Rattle.std.proofs.lemmas.Nat.Bits.{bit_at-lt, bit_at_and}
 use Rattle.std.proofs.lemmas.Option.{none-some, same_Some}
 use Rattle.nm_base.specs.declared.mask.DeviceMask.{DeviceMask}
 use Rattle.nm_base.specs.Mask.{mask_contains}
-use Rattle.nm_base.specs.Token.{token_of}
 use Rattle.nm_proto.specs.declared.journal.Entry.{Entry}
 use Rattle.nm_proto.specs.declared.journal.Entry.TheVariants.{Started, Decided, Ended}
 use Rattle.nm_proto.specs.declared.journal.Verdict.TheVariants as verdict
 use Rattle.nm_proto.specs.declared.plan.ChangePlan.{ChangePlan}
 use Rattle.nm_proto.specs.declared.plan.Event.{Event}
-use Rattle.nm_proto.specs.declared.plan.Event.TheVariants.{Submit, Turn, Deliver, Answer, Break, Lose, Advance, Restart, Forget, Crash, Renew, Foreign, Leave, Round}
 use Rattle.nm_proto.specs.Content.{Meaning}
 use Rattle.nm_proto.specs.Plan.{devices_in}
-use Rattle.nm_journal.specs.Entries.{ends, is_within, may_follow}
+use Rattle.nm_journal.specs.Entries.{ends, is_within}
+use Rattle.nm_history.specs.declared.event.DeviceEvent.{DeviceEvent}
+use Rattle.nm_history.specs.declared.event.DeviceEvent.TheVariants.{Entered, Asked, Lost, Advanced, Restarted}
 use Rattle.nm_history.specs.declared.outcome.Outcome.{Outcome}
-use Rattle.nm_history.specs.Outcome.{is_final, outcome_of}
-use Rattle.nm_history.specs.History.{RecordedState}
+use Rattle.nm_history.specs.Outcome.{is_final}
+use Rattle.nm_history.specs.History.{Happened, RecordedState, advancing, recorded_with, restarting}
 use Rattle.nm_recovery.specs.Recovery.{is_ended_in, kept_in, kept_of, verdict_in}
-use Rattle.nm_decider.specs.declared.course.NextAction.{NextAction}
 use Rattle.nm_decider.specs.declared.course.NextAction.TheVariants as next
 use Rattle.nm_decider.specs.declared.seat.Seat.{Seat}
 use Rattle.nm_decider.specs.Course.{next_action, seat_count}
-use Rattle.nm_manager.specs.Manager as manager
-use Rattle.nm_manager.specs.Manager.{change_of, entry_by, start_by, start_of}
+use Rattle.nm_manager.specs.Manager.{change_of, start_of}
 use Rattle.nm_manager.specs.Queues.{is_ready_in}
 use Rattle.nm_manager.specs.Slot.{SideState, SlotState, to_commit}
-use Rattle.nm_world.specs.World as world
-use Rattle.nm_world.specs.World.{Setting, CoreState, WorldState, elementary, manager_in, core_of, world_step}
-use Rattle.nm_world.proofs.Growing.{Enters, event_enters}
+use Rattle.nm_world.specs.World.{Setting, Came, CoreState}
+use Rattle.nm_safety.specs.Cases.{Cases, IsSlot}
+use Rattle.nm_safety.specs.Keeping.{AreKept}
 use Rattle.nm_safety.specs.Pair.{is_confirmed}
 use Rattle.nm_safety.proofs.Places.{verdict_same}
 use Rattle.nm_safety.proofs.PairSteps.{pair_at}
@@ -41,12 +39,10 @@ use Rattle.nm_safety.proofs.Entries.{nat_same, ready_is_open, verdict_stays}
 use Rattle.nm_safety.proofs.Lists.{some_is, to_some}
 use Rattle.nm_safety.proofs.Managed.{kept_here}
 use Rattle.nm_rest_laws.proofs.rest.Moves.{down}
-use Rattle.nm_outcome_laws.specs.RecordsSupport.{outcomes_at}
+use Rattle.nm_outcome_laws.specs.RecordsSupport.{AllKnown, IsRecorded, OfNone, OfRecorded, outcome_in, outcomes_at}
 use Rattle.nm_outcome_laws.proofs.records.Entries.{some_ended}
 use Rattle.nm_outcome_laws.proofs.records.Finishing.{finishes_final, finishes_so}
-use Rattle.nm_outcome_laws.proofs.records.Later.{IsLater}
-use Rattle.nm_outcome_laws.proofs.records.Managed.{AreKnown}
-use Rattle.nm_outcome_laws.proofs.records.Slots.{Known, some_seat}
+use Rattle.nm_outcome_laws.proofs.records.Later.{IsLater, outcomes_later}
 
 -- ---- masks
 
@@ -77,59 +73,12 @@ last_end change kept (Decided other decided) true here e = absurd (let g : false
 last_end change kept (Ended other others) true here e =
     ap (λ c. Ended c others) (sym (nat_same change other here)) ∙ ap (Ended change) (same_Some others kept e)
 
-module _ {Config TheEdit Node : Type 0} (setting : Setting TheEdit) (w : CoreState Config Node) (change : ℕ) (kept : DeviceMask) where
-  -- the manager is done with the change set, which is ready, and ends it so
-  pub record IsEnding : Type 0 where
-    pub slot : SlotState
-    pub there : slice_get w.slots (change - 1) ≡ Some slot
-    pub ready : is_ready_in w.entries change ≡ true
-    pub finishes : next_action slot.course ≡ next.Finish kept
-
-  start_none : (other : ℕ) (found : Option ChangePlan) → start_by other found ≡ Some (Ended change kept) → IsEnding
-  start_none other None e = absurd (none-some (Ended change kept) e)
-  start_none other (Some plan) e = absurd (let g : Some (start_of other plan) ≡ Some (Ended change kept) = e in cc)
-
-  module _ (other : ℕ) (ready : is_ready_in w.entries other ≡ true) where
-    module _ (slot : SlotState) (there : slice_get w.slots (other - 1) ≡ Some slot) where
-      by_action : (what : NextAction) → next_action slot.course ≡ what → manager.entry_of other what ≡ Some (Ended change kept) → IsEnding
-      by_action next.Wait acts e = absurd (none-some (Ended change kept) e)
-      by_action (next.Send device what) acts e = absurd (none-some (Ended change kept) e)
-      by_action (next.Decide decided) acts e = absurd (let g : Some (Decided other decided) ≡ Some (Ended change kept) = e in cc)
-      by_action (next.Finish others) acts e =
-          let same : Ended other others ≡ Ended change kept = same_Some (Ended other others) (Ended change kept) e in
-          let number : other ≡ change = ap change_of same in
-          let is : others ≡ kept = same_Some others kept (ap kept_of same) in
-          record {
-            slot = slot;
-            there = ap (λ c. slice_get w.slots (c - 1)) (sym number) ∙ there;
-            ready = ap (is_ready_in w.entries) (sym number) ∙ ready;
-            finishes = acts ∙ ap next.Finish is;
-          }
-
-    by_slot : (found : Option SlotState) → slice_get w.slots (other - 1) ≡ found → entry_by other found ≡ Some (Ended change kept) → IsEnding
-    by_slot None there e = absurd (none-some (Ended change kept) e)
-    by_slot (Some slot) there e = by_action slot there (next_action slot.course) refl e
-
-  by_ready : (other : ℕ) (b : Bool) → is_ready_in w.entries other ≡ b
-      → cond b (entry_by other (slice_get w.slots (other - 1))) None ≡ Some (Ended change kept) → IsEnding
-  by_ready other false ready e = absurd (none-some (Ended change kept) e)
-  by_ready other true ready e = by_slot other ready (slice_get w.slots (other - 1)) refl e
-
-  ending : (event : Event) → world.entry_of setting w event ≡ Some (Ended change kept) → IsEnding
-  ending (Submit other) e = start_none other (slice_get setting.plans (other - 1)) e
-  ending (Turn other) e = by_ready other (is_ready_in w.entries other) refl e
-  ending (Deliver other device link) e = absurd (none-some (Ended change kept) e)
-  ending (Answer other device link number) e = absurd (none-some (Ended change kept) e)
-  ending (Break other device) e = absurd (none-some (Ended change kept) e)
-  ending (Lose other device link) e = absurd (none-some (Ended change kept) e)
-  ending (Advance device seconds) e = absurd (none-some (Ended change kept) e)
-  ending (Restart device) e = absurd (none-some (Ended change kept) e)
-  ending (Forget other) e = absurd (none-some (Ended change kept) e)
-  ending Crash e = absurd (none-some (Ended change kept) e)
-  ending (Renew other device) e = absurd (none-some (Ended change kept) e)
-  ending (Foreign operator device request) e = absurd (none-some (Ended change kept) e)
-  ending (Leave operator device) e = absurd (none-some (Ended change kept) e)
-  ending (Round other turns) e = absurd (none-some (Ended change kept) e)
+-- the manager is done with a change set, which is ready, and ends it so
+record IsEnding {Config Node : Type 0} (w : CoreState Config Node) (change : ℕ) (kept : DeviceMask) : Type 0 where
+  slot : SlotState
+  there : slice_get w.slots (change - 1) ≡ Some slot
+  ready : is_ready_in w.entries change ≡ true
+  finishes : next_action slot.course ≡ next.Finish kept
 
 -- ---- a device of a change set that was to be committed and is ended
 
@@ -137,7 +86,7 @@ pub record IsSo (kept : DeviceMask) (d : ℕ) (outcome : Outcome) : Type 0 where
   pub over : is_final outcome ≡ true
   pub same : mask_contains kept.0 (suc d) ≡ is_confirmed outcome
 
-pub so_later : (kept : DeviceMask) (d : ℕ) (before now : Option Outcome) → IsLater before now → IfSome before (IsSo kept d)
+so_later : (kept : DeviceMask) (d : ℕ) (before now : Option Outcome) → IsLater before now → IfSome before (IsSo kept d)
     → IfSome now (IsSo kept d)
 so_later kept d before None later so = tt
 so_later kept d None (Some now) later so = absurd later
@@ -149,18 +98,22 @@ AllSo plans entries devices = (place : ℕ) (plan : ChangePlan) (kept : DeviceMa
     → kept_in (suc place) entries ≡ Some kept → verdict_in (suc place) entries ≡ Some verdict.Commit → (d : ℕ)
     → mask_contains (devices_in plan.edits) (suc d) ≡ true → IfSome (outcomes_at (suc place) devices d) (IsSo kept d)
 
+-- after an event
+abbrev pub SoThen : {Config TheEdit Node : Type 0} → Setting TheEdit → Event → Came Config Node → Type 0
+SoThen setting event c = AllSo setting.plans c.after.entries c.after.devices
+
 there_within : {A : Type 0} (xs : List A) (i : ℕ) → i < length xs → is_some (slice_get xs i) ≡ true
 there_within [] i within = absurd (omega (arith, within))
 there_within (x ∷ xs) zero within = refl
 there_within (x ∷ xs) (suc i) within = there_within xs i (omega (arith, within))
 
 module _ {Config TheEdit Node : Type 0} (m : Meaning Config TheEdit Node) (setting : Setting TheEdit) (w : CoreState Config Node)
-    (s : IsSupported m setting w) (known : AreKnown w.devices w.slots)
-    (few : (d : ℕ) → IfSome (slice_get w.devices d) (λ _. d < 32)) where
+    (s : IsSupported m setting w) (recorded : AreKept setting OfRecorded OfNone w)
+    (few : (d : ℕ) → IfSome (slice_get w.devices d) (λ _. d < 32)) (before : AllSo setting.plans w.entries w.devices) where
   -- ---- at the end
 
   module _ (place : ℕ) (plan : ChangePlan) (planned : slice_get setting.plans place ≡ Some plan) (kept : DeviceMask)
-      (e : IsEnding setting w (suc place) kept) (commit : verdict_in (suc place) w.entries ≡ Some verdict.Commit) where
+      (e : IsEnding w (suc place) kept) (commit : verdict_in (suc place) w.entries ≡ Some verdict.Commit) where
     abbrev members : ℕ
     members = devices_in plan.edits
 
@@ -170,8 +123,10 @@ module _ {Config TheEdit Node : Type 0} (m : Meaning Config TheEdit Node) (setti
     k : IsKept (suc place) members w.entries s.owners w.devices e.slot
     k = kept_here m setting w s (suc place) (omega arith) plan e.slot (down setting.plans place ∙ planned) e.there
 
-    all : Known O e.slot
-    all = some_is e.slot (Known O) (slice_get w.slots place) (sym (down w.slots place) ∙ e.there) (known place)
+    all : AllKnown O e.slot
+    all =
+        (some_is e.slot (IsRecorded (suc place) w.devices) (slice_get w.slots place) (sym (down w.slots place) ∙ e.there)
+        (recorded.slots place plan planned)).known
 
     commits : to_commit e.slot.course.verdict ≡ true
     commits = ap to_commit (k.in_step.decided (ready_is_open w.entries (suc place) e.ready) ∙ commit)
@@ -181,9 +136,9 @@ module _ {Config TheEdit Node : Type 0} (m : Meaning Config TheEdit Node) (setti
       next_is = omega arith
 
       so_with : (side : SideState) → slice_get e.slot.sides d ≡ Some side → (seat : Option Seat) → slice_get e.slot.course.seats d ≡ seat
-          → is_some seat ≡ true → IsSo kept d outcome
-      so_with side there None here some = absurd (let g : false ≡ true = some in cc)
-      so_with side there (Some seat) here some =
+          → IsSo kept d outcome
+      so_with side there None here = absurd (pair_at (suc place) members w.entries e.slot k.in_step d None (Some side) here there)
+      so_with side there (Some seat) here =
           let is_member : seat.is_member ≡ true =
           (pair_at (suc place) members w.entries e.slot k.in_step d (Some seat) (Some side) here there).0.member
           ∙ ap (mask_contains members) next_is ∙ member in
@@ -199,12 +154,10 @@ module _ {Config TheEdit Node : Type 0} (m : Meaning Config TheEdit Node) (setti
 
       so_by : (side : Option SideState) → slice_get e.slot.sides d ≡ side → is_some side ≡ true → IsSo kept d outcome
       so_by None there some = absurd (let g : false ≡ true = some in cc)
-      so_by (Some side) there some =
-          so_with side there (slice_get e.slot.course.seats d) refl
-          (some_seat O (suc place) members w.entries e.slot k.in_step all d side (slice_get e.slot.course.seats d) refl there)
+      so_by (Some side) there some = so_with side there (slice_get e.slot.course.seats d) refl
 
-      within_by : (found : Option (RecordedState Config Node)) → slice_get w.devices d ≡ found
-          → option_map (λ r. outcome_of (token_of (suc place)) r.history) found ≡ Some outcome → d < 32
+      within_by : (found : Option (RecordedState Config Node)) → slice_get w.devices d ≡ found → outcome_in (suc place) found ≡ Some outcome
+          → d < 32
       within_by None there e = absurd (none-some outcome e)
       within_by (Some r) there e = some_is r (λ _. d < 32) (slice_get w.devices d) there (few d)
 
@@ -214,18 +167,13 @@ module _ {Config TheEdit Node : Type 0} (m : Meaning Config TheEdit Node) (setti
           let long : length e.slot.sides ≡ seat_count = k.in_step.sides in
           so_by (slice_get e.slot.sides d) refl (there_within e.slot.sides d (subst (λ n. d < n) (sym long) within))
 
-    pub ends_so : (d : ℕ) → mask_contains members (suc d) ≡ true → IfSome (O d) (IsSo kept d)
+    ends_so : (d : ℕ) → mask_contains members (suc d) ≡ true → IfSome (O d) (IsSo kept d)
     ends_so d member = to_some (IsSo kept d) (O d) (so_now d member)
 
-  -- ---- an entry comes, or none
+  -- ---- an entry comes
 
-  module _ (before : AllSo setting.plans w.entries w.devices) where
-    -- after these entries, at the devices as they are
-    abbrev Next : List Entry → Type 0
-    Next after = AllSo setting.plans after w.devices
-
-    module _ (place : ℕ) (plan : ChangePlan) (kept : DeviceMask) (planned : slice_get setting.plans place ≡ Some plan) (entry : Entry)
-        (comes : Ended (suc place) kept ≡ entry → IsEnding setting w (suc place) kept) where
+  module _ (entry : Entry) (comes : (place : ℕ) (kept : DeviceMask) → Ended (suc place) kept ≡ entry → IsEnding w (suc place) kept) where
+    module _ (place : ℕ) (plan : ChangePlan) (kept : DeviceMask) (planned : slice_get setting.plans place ≡ Some plan) where
       abbrev change : ℕ
       change = suc place
 
@@ -240,7 +188,7 @@ module _ {Config TheEdit Node : Type 0} (m : Meaning Config TheEdit Node) (setti
 
       ends_now : Ended change kept ≡ entry → verdict_in change (w.entries ++ entry ∷ []) ≡ Some verdict.Commit → So
       ends_now is commit =
-          ends_so place plan planned kept (comes is)
+          ends_so place plan planned kept (comes place kept is)
           (sym (verdict_same change w.entries (Ended change kept) refl)
           ∙ ap (λ one. verdict_in change (w.entries ++ one ∷ [])) is ∙ commit)
 
@@ -251,24 +199,60 @@ module _ {Config TheEdit Node : Type 0} (m : Meaning Config TheEdit Node) (setti
       by_found (Some one) there had commit =
           ended_before (some_ended change w.entries (ap is_some there)) (ap (option_and_then kept_of) there ∙ had) commit
 
-      so_next : kept_in change (w.entries ++ entry ∷ []) ≡ Some kept
+      so_entered : kept_in change (w.entries ++ entry ∷ []) ≡ Some kept
           → verdict_in change (w.entries ++ entry ∷ []) ≡ Some verdict.Commit → So
-      so_next had commit =
+      so_entered had commit =
           by_found (find (ends change) w.entries) refl
           (sym (ap (option_and_then kept_of) (find-append (ends change) w.entries (entry ∷ []))) ∙ had) commit
 
-    next_by : (event : Event) (entry : Option Entry) (after : List Entry) → world.entry_of setting w event ≡ entry
-        → Enters w.entries entry after → Next after
-    next_by event None after of is = subst Next (sym is) before
-    next_by event (Some entry) after of is = by_may (may_follow w.entries entry) is
-      where
-        by_may : (b : Bool) → after ≡ cond b (w.entries ++ entry ∷ []) w.entries → Next after
-        by_may true is =
-            subst Next (sym is)
-            (λ place plan kept planned had commit.
-            so_next place plan kept planned entry (λ same. ending setting w (suc place) kept event (of ∙ ap Some (sym same))) had commit)
-        by_may false is = subst Next (sym is) before
+    entered : AllSo setting.plans (w.entries ++ entry ∷ []) w.devices
+    entered place plan kept planned had commit = so_entered place plan kept planned had commit
 
-    pub all_next : (event : Event) → Next (elementary m setting w event).after.entries
-    all_next event =
-        next_by event (world.entry_of setting w event) (elementary m setting w event).after.entries refl (event_enters m setting w event)
+  -- it is the end of a change set
+  ended_now : (change : ℕ) (a : IsSlot w change) → is_ready_in w.entries change ≡ true → (others : DeviceMask)
+      → next_action a.slot.course ≡ next.Finish others → (place : ℕ) (kept : DeviceMask) → Ended (suc place) kept ≡ Ended change others
+      → IsEnding w (suc place) kept
+  ended_now change a ready others acts place kept e =
+      let number : suc place ≡ change = ap change_of e in
+      let same : kept ≡ others = same_Some kept others (ap kept_of e) in
+      record {
+        slot = a.slot;
+        there = ap (λ c. slice_get w.slots (c - 1)) number ∙ a.there;
+        ready = ap (is_ready_in w.entries) number ∙ ready;
+        finishes = acts ∙ ap next.Finish (sym same);
+      }
+
+  -- ---- something happens at a device
+
+  happened : (d : ℕ) (r : RecordedState Config Node) → slice_get w.devices d ≡ Some r → (event : DeviceEvent) (h : Happened Config Node)
+      → AllSo setting.plans w.entries (slice_set w.devices d (recorded_with r event h))
+  happened d r here event h place plan kept planned had commit j member =
+      so_later kept j (outcomes_at (suc place) w.devices j) (outcomes_at (suc place) (slice_set w.devices d (recorded_with r event h)) j)
+      (outcomes_later (suc place) w.devices d r here event h j) (before place plan kept planned had commit j member)
+
+  -- ---- every event
+
+  pub so_cases : Cases m setting w (SoThen setting)
+  so_cases = record {
+    nothing = λ event. before;
+    starts = λ change numbered plan planned may.
+        entered (start_of change plan) (λ place kept e. absurd (let g : Ended (suc place) kept ≡ start_of change plan = e in cc));
+    decides = λ change a ready v acts may.
+        entered (Decided change v) (λ place kept e. absurd (let g : Ended (suc place) kept ≡ Decided change v = e in cc));
+    finishes = λ change a ready others acts may. entered (Ended change others) (ended_now change a ready others acts);
+    sends_out = λ change a ready device what acts. before;
+    renews_timer = λ change device a known ready. before;
+    hears = λ change device link number a known. before;
+    breaks_off = λ change device a known. before;
+    forgets = λ change a begun going. before;
+    crashes = before;
+    tells = λ change device link l request out plain session is d. happened (device - 1) l.r l.here (Asked session request) d.h;
+    opens = λ change device link l user out d. happened (device - 1) l.r l.here (Entered user) d.h;
+    loses_session = λ change device link l opened session is h happens. happened (device - 1) l.r l.here (Lost session) h;
+    closes = λ change device link l opened is. before;
+    restarts = λ device r here. happened (device - 1) r here Restarted (restarting m r.device);
+    passes = λ device seconds r here. happened (device - 1) r here (Advanced seconds) (advancing m r.device seconds);
+    asks = λ number device a request plain session given opened d. happened (device - 1) a.r a.here (Asked session request) d.h;
+    enters = λ number device a user own d. happened (device - 1) a.r a.here (Entered user) d.h;
+    leaves = λ number device a session given opened h happens. happened (device - 1) a.r a.here (Lost session) h;
+  }

@@ -19,8 +19,8 @@ use Rattle.nm_safety.proofs.Tables.{both}
 use Rattle.nm_safety.specs.Safe.{is_abort}
 use Rattle.nm_safety.specs.Support.{IsOrdered}
 use Rattle.nm_safety.proofs.Entries.{any_later, nat_same, verdict_stays}
-use Rattle.nm_rest_laws.proofs.rest.Ready.{either}
-use Rattle.nm_rest_laws.proofs.rest.Moves.{IsPlanTicket}
+use Rattle.nm_safety.proofs.Basics.{either}
+use Rattle.nm_safety.proofs.Tickets.{IsPlanTicket}
 
 -- who is recorded to have kept a change set has a start with these devices, and nobody is after an abort
 pub record IsRight (change : ℕ) (entries : List Entry) (kept : DeviceMask) : Type 0 where

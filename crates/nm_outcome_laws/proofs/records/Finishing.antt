@@ -16,9 +16,9 @@ use Rattle.nm_resync.specs.declared.resync.ResyncStage.{ResyncStage}
 use Rattle.nm_manager.specs.Slot.{SideState, SlotState, to_commit}
 use Rattle.nm_safety.specs.Pair.{is_confirmed}
 use Rattle.nm_safety.specs.Step.{IsInStep}
-use Rattle.nm_outcome_laws.specs.RecordsSupport.{IsTold, KnownAt, is_known_as, knows_at}
-use Rattle.nm_outcome_laws.proofs.records.Keeping.{acts, listed}
-use Rattle.nm_outcome_laws.proofs.records.Slots.{Known}
+use Rattle.nm_safety.proofs.Seats.{acts, listed}
+use Rattle.nm_outcome_laws.specs.RecordsSupport.{AllKnown, IsKnown, IsTold, is_known_as, knows_at}
+use Rattle.nm_outcome_laws.proofs.records.Slots.{known_at}
 use Rattle.nm_outcome_laws.proofs.records.Tables.{known_final}
 
 -- who is settled is known
@@ -29,18 +29,17 @@ known_confirmed : (kept : Bool) (outcome : Outcome) → is_known_as kept outcome
 known_confirmed kept outcome k = grind (arith, nat_tests)
 
 module _ (outs : ℕ → Option Outcome) (change members : ℕ) (entries : List Entry) (slot : SlotState)
-    (in_step : IsInStep change members entries slot) (all : Known outs slot) (commits : to_commit slot.course.verdict ≡ true)
+    (in_step : IsInStep change members entries slot) (all : AllKnown outs slot) (commits : to_commit slot.course.verdict ≡ true)
     (kept : DeviceMask) (ends : next_action slot.course ≡ Finish kept)
     (place : ℕ) (seat : Seat) (here : slice_get slot.course.seats place ≡ Some seat) (member : seat.is_member ≡ true)
     (side : SideState) (there : slice_get slot.sides place ≡ Some side) (outcome : Outcome) (has : outs place ≡ Some outcome) where
   may : MayEnd slot.course kept
-  may = (acts outs change members entries slot in_step).finishes kept ends
+  may = (acts change members entries slot in_step).finishes kept ends
 
   told : IsTold seat side outcome
   told =
-      subst (λ o. KnownAt slot.course.verdict (Some seat) (Some side) o) has
-      (subst (λ s. KnownAt slot.course.verdict (Some seat) s (outs place)) there
-      (subst (λ s. KnownAt slot.course.verdict s (slice_get slot.sides place) (outs place)) here (all place))) commits member
+      subst (IsKnown slot.course.verdict seat side) has (known_at outs change members entries slot in_step all place seat side here there)
+      commits member
 
   known : is_known_as (has_kept seat.stage) outcome ≡ true
   known =

@@ -1,66 +1,82 @@
--- What is known of the devices of one change set at a decision.
-use Rattle.std.proofs.Common.{◌≡◌, ◌∙◌, ℕ, suc, ◌+◌, true, false, List, [], ◌∷◌, length, Option, Some, None, is_some, slice_get, refl, ap, subst}
-use Rattle.std.specs.List.{All}
-use Rattle.std.proofs.lemmas.Option.{slice_get_within, get_or_from_slice_get}
+-- What is kept of one change set at each step of the manager for it.
+use Rattle.std.proofs.Common.{◌≡◌, ℕ, ◌-◌, List, Option, slice_get}
+use Rattle.nm_proto.specs.declared.ask.Ask.{Ask}
 use Rattle.nm_proto.specs.declared.journal.Entry.{Entry}
 use Rattle.nm_proto.specs.declared.journal.Verdict.{Verdict}
-use Rattle.nm_proto.specs.declared.journal.Verdict.TheVariants as verdict
-use Rattle.nm_decider_stage.specs.Stages.{is_acknowledged}
-use Rattle.nm_decider.specs.declared.course.NextAction.TheVariants.{Decide}
-use Rattle.nm_decider.specs.declared.seat.Seat.{Seat}
-use Rattle.nm_decider.specs.Course.{next_action, seat_count}
-use Rattle.nm_decider.specs.Rightly.{ActsRightly, IsReady}
-use Rattle.nm_decider.proofs.Actions.{rightly}
-use Rattle.nm_manager.specs.Slot.{SideState, SlotState, decided, to_commit}
-use Rattle.nm_safety.specs.Step.{GoWith}
-use Rattle.nm_safety.proofs.Basics.{never}
-use Rattle.nm_safety.specs.Step.{IsInStep}
+use Rattle.nm_proto.specs.declared.plan.ChangePlan.{ChangePlan}
 use Rattle.nm_history.specs.declared.outcome.Outcome.{Outcome}
-use Rattle.nm_outcome_laws.proofs.records.Slots.{Known, decided_knows}
+use Rattle.nm_history.specs.History.{RecordedState}
+use Rattle.nm_recovery.specs.Recovery.{verdict_in}
+use Rattle.nm_decider.specs.declared.course.NextAction.TheVariants.{Decide, Send}
+use Rattle.nm_decider.specs.Course.{next_action}
+use Rattle.nm_manager.specs.Slot.{SlotState, breaks, decided, lost_memory, lost_wire, receives, renews, restarted_slot, sends, to_commit, wires_on}
+use Rattle.nm_manager.specs.Manager.{starts_anew}
+use Rattle.nm_safety.specs.Support.{IsKept, Owners}
+use Rattle.nm_safety.proofs.SlotLinks.{broken_links, closed_links, cut_links, decided_links, restarted_links}
+use Rattle.nm_outcome_laws.specs.RecordsSupport.{IsRecorded, OwnLink, outcomes_at}
+use Rattle.nm_outcome_laws.proofs.records.Marks.{received_own, renewed_own, sent_own}
+use Rattle.nm_outcome_laws.proofs.records.Slots.{anew_knows, broken_knows, decided_knows, forgotten_knows, lost_knows, received_knows, renewed_knows, restarted_knows, sent_knows}
 
--- as many seats as sides
-same_length : {A B : Type 0} (xs : List A) (ys : List B) → ((j : ℕ) → is_some (slice_get xs j) ≡ is_some (slice_get ys j))
-    → length xs ≡ length ys
-same_length [] [] same = refl
-same_length [] (y ∷ ys) same = absurd (let g : false ≡ true = same 0 in cc)
-same_length (x ∷ xs) [] same = absurd (let g : true ≡ false = same 0 in cc)
-same_length (x ∷ xs) (y ∷ ys) same = ap suc (same_length xs ys (λ j. same (suc j)))
+module _ {Config Node : Type 0} (change : ℕ) (devices : List (RecordedState Config Node)) (slot : SlotState)
+    (c : IsRecorded change devices slot) where
+  abbrev O : ℕ → Option Outcome
+  O = outcomes_at change devices
 
-both_there : (members device : ℕ) (v : Option Verdict) (seat : Option Seat) (side : Option SideState) → GoWith members v device seat side
-    → is_some seat ≡ is_some side
-both_there members device v None None pair = refl
-both_there members device v None (Some side) pair = absurd pair
-both_there members device v (Some seat) None pair = absurd pair
-both_there members device v (Some seat) (Some side) pair = refl
+  module _ (members : ℕ) (entries : List Entry) (owners : ℕ → Owners) (k : IsKept change members entries owners devices slot) where
+    pub sent_recorded : (plan : ChangePlan) (device : ℕ) (what : Ask) → next_action slot.course ≡ Send device what
+        → IsRecorded change devices (sends plan entries slot device what).slot
+    sent_recorded plan device what acts = record {
+      own = sent_own change slot c.own k.numbered plan entries device what;
+      known = sent_knows O change members entries slot k.in_step c.known plan device what acts;
+    }
 
-pub listed : {A : Type 0} (Q : A → Type 0) (xs : List A) → All Q xs → (place : ℕ) (x : A) → slice_get xs place ≡ Some x → Q x
-listed Q xs all place x there = subst Q (get_or_from_slice_get xs place x x there) (all place x (slice_get_within xs place x there))
+    pub renewed_recorded : (plan : ChangePlan) (device : ℕ) → IsRecorded change devices (renews plan entries slot device).slot
+    renewed_recorded plan device = record {
+      own = renewed_own change slot c.own k.numbered plan entries device;
+      known = renewed_knows O change members entries slot k.in_step c.known plan device;
+    }
 
-module _ (outs : ℕ → Option Outcome) (change members : ℕ) (entries : List Entry) (slot : SlotState)
-    (in_step : IsInStep change members entries slot) where
-  long : length slot.course.seats ≡ seat_count
-  long =
-      same_length slot.course.seats slot.sides
-      (λ j. both_there members (j + 1) slot.course.verdict (slice_get slot.course.seats j) (slice_get slot.sides j) (in_step.pairs j))
-      ∙ in_step.sides
+    pub received_recorded : (device link number : ℕ) → IsRecorded change devices (receives slot device link number).slot
+    received_recorded device link number = record {
+      own = received_own change slot c.own device link number;
+      known = received_knows O change members entries slot k.in_step c.known device link number;
+    }
 
-  pub acts : ActsRightly slot.course
-  acts = rightly slot.course long
+    pub broken_recorded : (device : ℕ) → IsRecorded change devices (breaks slot device).slot
+    broken_recorded device = record {
+      own = broken_links (OwnLink change) slot c.own device;
+      known = broken_knows O change members entries slot k.in_step c.known device;
+    }
 
-  undecided_by : (now : Verdict) → next_action slot.course ≡ Decide now → slot.course.verdict ≡ None
-  undecided_by verdict.Commit next = (acts.commits next).undecided
-  undecided_by (verdict.Abort why) next = (acts.aborts why next).undecided
+    pub decided_recorded : (now : Verdict) → next_action slot.course ≡ Decide now → IsRecorded change devices (decided slot now)
+    decided_recorded now acts = record {
+      own = decided_links (OwnLink change) slot c.own now;
+      known = decided_knows O change members entries slot k.in_step c.known now acts;
+    }
 
-  ready_by : (now : Verdict) → next_action slot.course ≡ Decide now → (place : ℕ) (seat : Seat)
-      → slice_get slot.course.seats place ≡ Some seat → to_commit (Some now) ≡ true → seat.is_member ≡ true
-      → (is_acknowledged seat.stage ≡ true) × (seat.awaited ≡ None)
-  ready_by verdict.Commit next place seat there commit member =
-      let ready = listed (λ one. one.is_member ≡ true → IsReady one) slot.course.seats (acts.commits next).ready place seat there member in
-      (ready.acknowledged, ready.quiet)
-  ready_by (verdict.Abort why) next place seat there commit member = never commit
+  -- ---- memory is lost, and sides of links end
 
-  pub decides_knows : (now : Verdict) → next_action slot.course ≡ Decide now → Known outs (decided slot now)
-  decides_knows now next =
-      decided_knows outs slot now (ready_by now next) members
-      (λ place. subst (λ v. GoWith members v (place + 1) (slice_get slot.course.seats place) (slice_get slot.sides place)) (undecided_by now next)
-      (in_step.pairs place))
+  pub forgotten_recorded : (members : ℕ) (found : Option Verdict) → IsRecorded change devices (lost_memory slot members found)
+  forgotten_recorded members found = record {
+    own = cut_links (OwnLink change) slot c.own (to_commit found);
+    known = forgotten_knows O slot members found;
+  }
+
+  pub anew_recorded : (entries : List Entry) (members : ℕ) → IsRecorded change devices (starts_anew entries change members slot)
+  anew_recorded entries members = record {
+    own = cut_links (OwnLink change) slot c.own (to_commit (verdict_in change entries));
+    known = anew_knows O slot entries change members;
+  }
+
+  pub lost_recorded : (device link : ℕ)
+      → IsRecorded change devices (wires_on (lost_wire link) slot device (slice_get slot.sides (device - 1)))
+  lost_recorded device link = record {
+    own = closed_links (OwnLink change) slot c.own device link (λ d place one p. p);
+    known = lost_knows O slot c.known device link;
+  }
+
+  pub restarted_recorded : (device : ℕ) → IsRecorded change devices (restarted_slot device slot)
+  restarted_recorded device = record {
+    own = restarted_links (OwnLink change) slot c.own device (λ d place one p. p);
+    known = restarted_knows O slot c.known device;
+  }

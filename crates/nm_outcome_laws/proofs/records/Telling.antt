@@ -1,8 +1,7 @@
 -- What a device of a change set that is to be committed replies to a confirm and to the question for its mark is so.
 use Rattle.std.proofs.Common.{◌≡◌, ◌∙◌, ℕ, Bool, true, false, not, ◌||◌, List, [], ◌∷◌, ◌++◌, Option, Some, None, refl, sym, ap, subst, arith}
-use Rattle.std.specs.List.{All}
 use Rattle.std.proofs.lemmas.Bool.Decides.{nat_tests}
-use Rattle.std.proofs.lemmas.Option.{none-some, same_Some}
+use Rattle.std.proofs.lemmas.Option.{same_Some}
 use Rattle.nm_base.specs.Token.{token_of}
 use Rattle.nm_proto.specs.declared.ask.Ask.TheVariants as ask
 use Rattle.nm_proto.specs.declared.message.Request.{Request}
@@ -13,9 +12,8 @@ use Rattle.nm_proto.specs.declared.message.Store.{Store}
 use Rattle.nm_proto.specs.declared.message.Store.TheVariants.{Running, Candidate}
 use Rattle.nm_proto.specs.Content.{Meaning, Laws}
 use Rattle.nm_sessions.specs.Sessions.{user_of}
-use Rattle.nm_stores.specs.Stores.{Belong}
 use Rattle.nm_device.specs.Device.{is_manager}
-use Rattle.nm_device.specs.Table.{is_error, opening_user}
+use Rattle.nm_device.specs.Table.{is_error}
 use Rattle.nm_history.specs.declared.event.DeviceEvent.TheVariants.{Asked}
 use Rattle.nm_history.specs.declared.event.Noted.{Noted}
 use Rattle.nm_history.specs.declared.outcome.Outcome.{Outcome}
@@ -35,13 +33,11 @@ use Rattle.nm_wire.specs.Asks.{ask_of}
 use Rattle.nm_wire.specs.Words.{is_done}
 use Rattle.nm_safety.specs.Delivered.{NamesOurs, is_answer}
 use Rattle.nm_safety.specs.Pair.{is_confirmed, is_never}
-use Rattle.nm_safety.proofs.Fair.{asked_fair, fair_is}
 use Rattle.nm_safety.specs.Support.{IsOurs}
 use Rattle.nm_world.specs.World.{Setting}
 use Rattle.nm_commit_laws.specs.Marks.{is_there}
 use Rattle.nm_commit_laws.specs.Refuses.{IsRefused}
-use Rattle.nm_outcome_laws.specs.RecordsSupport.{confirm_tells, mark_tells, reply_tells}
-use Rattle.nm_outcome_laws.proofs.records.Marks.{IsOwnMark}
+use Rattle.nm_outcome_laws.specs.RecordsSupport.{IsOwnMark, confirm_tells, mark_tells, reply_tells}
 use Rattle.nm_outcome_laws.proofs.records.Replies.{mark_confirmed, mark_undone, refused_final}
 
 -- what the laws of a run say of a change set that is to be committed and isn't ended, at a device of it, after an event there
@@ -73,7 +69,7 @@ confirmed_if : (wants : Bool) (outcome : Outcome) → (wants ≡ true → is_fin
 confirmed_if false outcome over there = refl
 confirmed_if true outcome over there = mark_confirmed outcome (over refl) there
 
--- a session that is asked for tells nothing
+-- a reply to a lock or to a cancel tells nothing of it
 module _ (wants : Bool) (reply : Reply) (outcome : Outcome) where
   abbrev Tells : Request → Type 0
   Tells q = reply_tells wants (ask_of q) reply outcome ≡ true
@@ -86,28 +82,12 @@ module _ (wants : Bool) (reply : Reply) (outcome : Outcome) where
   cancel_tells None = refl
   cancel_tells (Some named) = refl
 
-  pub opening_tells : (q : Request) (user : List ℕ) → opening_user q ≡ Some user → Tells q
-  opening_tells (OpenSession other) user e = refl
-  opening_tells (Lock store) user e = lock_tells store
-  opening_tells (Unlock store) user e = refl
-  opening_tells (PartialLock select) user e = refl
-  opening_tells (PartialUnlock id) user e = refl
-  opening_tells (Edit edit operation marks) user e = refl
-  opening_tells Validate user e = refl
-  opening_tells (Commit confirmed timeout persist persist_id) user e = absurd (none-some user e)
-  opening_tells (CancelCommit persist_id) user e = cancel_tells persist_id
-  opening_tells Discard user e = refl
-  opening_tells (HasMark mark) user e = absurd (none-some user e)
-  opening_tells GetConfig user e = refl
-  opening_tells (Kill other) user e = refl
-  opening_tells CloseSession user e = refl
-
 -- ---- a session asks
 
 module _ {Config TheEdit Node : Type 0} (m : Meaning Config TheEdit Node) (laws : Laws m) (setting : Setting TheEdit)
-    (edits : All m.edit_belongs setting.tables.edits) (change u : ℕ) (r : RecordedState Config Node) (request : Request)
+    (change u : ℕ) (r : RecordedState Config Node) (request : Request)
     (h : Happened Config Node) (happens : Happens m setting.tables r.device (Asked u request) h) (reply : Reply)
-    (replies : h.reply ≡ Some reply) (belong : Belong {Node = Node} m r.device.stores)
+    (replies : h.reply ≡ Some reply) (answers : is_answer (ask_of request) reply ≡ true)
     (managed : is_manager (user_of r.device.sessions u) ≡ true) (ours : IsOurs change request) (wants : Bool)
     (says : IsSaidAt m change r (recorded_with r (Asked u request) h))
     (over : wants ≡ true → is_final (outcome_of (token_of change) (recorded_with r (Asked u request) h).history) ≡ true) where
@@ -160,8 +140,6 @@ module _ {Config TheEdit Node : Type 0} (m : Meaning Config TheEdit Node) (laws 
     -- that is refused
     over_now : is_done reply ≡ false → is_final o ≡ true
     over_now none =
-        let answers : is_answer (ask_of request) reply ≡ true =
-        fair_is (ask_of request) reply (asked_fair m laws setting.tables r.device u request h reply belong edits happens replies ours.known) in
         let error : is_error reply ≡ true = refused_by reply (ap (λ q. is_answer (ask_of q) reply) (sym is) ∙ answers) none in
         let refused : is_refused h.reply ≡ true = ap is_refused replies ∙ error in
         let entry : Noted = noted (Asked u request) h in

@@ -1,5 +1,5 @@
 -- After a run the end of every change set is as the journal records it: one that is ended was to be committed or to be aborted.
-use Rattle.std.proofs.Common.{◌≡◌, ◌≢◌, ◌∙◌, ℕ, suc, Bool, true, false, List, find, Option, Some, None, is_some, option_and_then, slice_get, refl, sym, ap, subst}
+use Rattle.std.proofs.Common.{◌≡◌, ◌≢◌, ◌∙◌, ℕ, suc, true, false, List, find, Option, Some, None, is_some, option_and_then, slice_get, refl, sym, ap}
 use Rattle.std.proofs.lemmas.Option.{none-some}
 use Rattle.nm_base.specs.declared.mask.DeviceMask.{DeviceMask}
 use Rattle.nm_base.specs.Mask.{mask_contains}
@@ -19,7 +19,7 @@ use Rattle.nm_world.specs.World.{Setting, WorldState, run, start}
 use Rattle.nm_world.specs.Drain.{drained}
 use Rattle.nm_safety.specs.Pair.{is_confirmed}
 use Rattle.nm_safety.specs.Safe.{IsProper, is_abort}
-use Rattle.nm_safety.proofs.Drained.{all_events, all_proper, drained_is}
+use Rattle.nm_safety.proofs.Drained.{drained_too}
 use Rattle.nm_rest_laws.proofs.rest.Running.{run_lasts}
 use Rattle.nm_commit_laws.specs.Marks.{ArePlain, AreUnmarked}
 use Rattle.nm_outcome_laws.proofs.aborts.Runs.{run_is_over}
@@ -76,6 +76,5 @@ module _ {Config TheEdit Node : Type 0} (m : Meaning Config TheEdit Node) (laws 
   pub drained_ends_so : IsProper {Node = Node} m setting running events → ArePlain m setting → AreUnmarked m running
       → EndsAsRecorded setting (drained m setting steps (run m setting (start setting running) events))
   drained_ends_so proper plain unmarked =
-      subst (EndsAsRecorded setting) (drained_is m laws setting running events steps)
-      (run_ends_so m laws setting running (all_events m laws setting running events steps)
-      (all_proper m laws setting running events steps proper) plain unmarked)
+      drained_too m laws setting running (EndsAsRecorded setting)
+      (λ before may. run_ends_so m laws setting running before may plain unmarked) events steps proper

@@ -19,8 +19,8 @@ use Rattle.nm_wire.specs.declared.link.Exchange.{Exchange}
 use Rattle.nm_wire.specs.Wire.{WireState, due, handled}
 use Rattle.nm_history.specs.History.{RecordedState, served}
 use Rattle.nm_manager.specs.Requests.{edit_for, edit_request, request_for}
-use Rattle.nm_manager.specs.Slot.{SideState, SlotState, SlotStep, with_pair, wire_of_side, wires_on, told_wire}
-use Rattle.nm_manager.specs.Slot.{opens, gone, receives_on, receives_due, awaits_resync, sends_on, sends_in_fact, sends_request, sends_if}
+use Rattle.nm_manager.specs.Slot.{SideState, SlotState, SlotStep, with_pair, wire_of_side, wires_on, told_wire, on_side, sends_pair, receives_pair}
+use Rattle.nm_manager.specs.Slot.{opens, receives_due, awaits_resync, sends_in_fact, sends_request, sends_if}
 use Rattle.nm_manager.specs.Manager.{ManagerState, with_slot, idle, acts, turned_by}
 use Rattle.nm_manager.specs.Queues.{is_ready_in}
 use Rattle.nm_world.specs.World.{CoreState, elementary, manager_in, with_manager, with_device, met}
@@ -180,7 +180,7 @@ module _ {Config TheEdit Node : Type 0} (m : Meaning Config TheEdit Node) (g : G
         all : (elementary m (the g) w (Answer 1 d 1 (number leg))).after
             ≡ core g (with_manager_at (Rests (After leg)) sent)
         all =
-            ap (λ o. slotted (receives_on slot d 1 (number leg) o)) h.side
+            ap (λ o. slotted (on_side (receives_pair d 1 (number leg)) slot d o)) h.side
             ∙ ap (λ o. slotted (receives leg (awaits_resync o) (handled_of leg) (due (links (Tells leg)) 1 (number leg)))) h.seat
             ∙ ap (λ b. slotted (receives leg b (handled_of leg) (due (links (Tells leg)) 1 (number leg)))) (leg_is leg).plain
             ∙ ap (λ o. slotted (receives leg false (handled_of leg) o)) (leg_is leg).due_then
@@ -214,9 +214,6 @@ module _ {Config TheEdit Node : Type 0} (m : Meaning Config TheEdit Node) (g : G
     abbrev goes_out : Leg → Option Request → SlotStep
     goes_out leg found = with_pair slot d (sends_request (opens (ask_by leg)) d course (with_sent course d) (side_of (Rests (before leg))) found)
 
-    abbrev gone_then : Leg → WireState
-    gone_then leg = gone (opens (ask_by leg)) (links (Rests (before leg))) (request leg)
-
     abbrev awaits_then : Leg → Option Ask → CourseState
     awaits_then leg what = with_seat course d (record { is_member = true; stage = stage_at (before leg); awaited = what; sent = raised sent })
 
@@ -237,11 +234,11 @@ module _ {Config TheEdit Node : Type 0} (m : Meaning Config TheEdit Node) (g : G
         all =
             ap (λ b. with_manager w (cond b (turned_by (g.plan ∷ []) state 1 (Some slot)) (idle state)).state) ready
             ∙ ap (λ a. with_manager w (acts (g.plan ∷ []) state 1 a).state) action
-            ∙ ap (λ o. slotted (sends_on g.plan (entries_in g s.phase) slot d (ask_by leg) o)) h.side
+            ∙ ap (λ o. slotted (on_side (sends_pair g.plan (entries_in g s.phase) d (ask_by leg)) slot d o)) h.side
             ∙ ap (λ what. slotted (with_pair slot d (sends_in_fact g.plan (entries_in g s.phase) course (side_of (Rests (before leg))) d what)))
             ((leg_is leg).in_fact resync)
             ∙ ap (λ found. slotted (goes_out leg found)) (request_is leg s.phase (numbered low) may)
-            ∙ ap (λ b. slotted (with_pair slot d (sends_if b d course (with_sent course d) (side_of (Rests (before leg))) (gone_then leg)))) (leg_is leg).goes
+            ∙ ap (λ b. slotted (with_pair slot d (sends_if b (opens (ask_by leg)) d course (with_sent course d) (side_of (Rests (before leg))) (request leg)))) (leg_is leg).goes
             ∙ ap (λ wire. kept (with_sent course d) (slice_set s.sides (d - 1) (record { wire = wire; resync = resync }))) (leg_is leg).sent
             ∙ ap (λ o. kept (with_sent_at course d o) (sides_with (Asks leg))) h.seat
             ∙ ap (λ what. kept (awaits_then leg what) (sides_with (Asks leg))) asks

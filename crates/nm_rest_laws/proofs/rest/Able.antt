@@ -32,7 +32,7 @@ use Rattle.nm_wire.specs.Link.{LinkState}
 use Rattle.nm_base.specs.declared.mask.DeviceMask.{DeviceMask}
 use Rattle.nm_wire.specs.Wire.{WireState, current_link, handled_at, due}
 use Rattle.nm_manager.specs.Requests.{request_for}
-use Rattle.nm_manager.specs.Slot.{SideState, SlotState, with_pair, with_wire, asked_in_fact, opens, may_go, gone, sends_if, sends_request, sends_on, sends, renews_if, renews_on, renews, is_resync, awaits_resync, receives_due, receives_on, receives, breaks_current, breaks_on, breaks, cut_off, anew, is_commit, to_commit, decided, lost_memory}
+use Rattle.nm_manager.specs.Slot.{SideState, SlotState, PairStep, SlotStep, with_pair, with_wire, asked_in_fact, opens, may_go, gone, sends_if, sends_request, sends, renews_if, renews, is_resync, awaits_resync, receives_due, receives, breaks_current, breaks, cut_off, anew, is_commit, to_commit, decided, lost_memory, on_side, sends_pair, renews_pair, receives_pair, breaks_pair}
 use Rattle.nm_manager.specs.Manager.{starts_anew}
 use Rattle.nm_manager.proofs.Kept.{asks_fit}
 use Rattle.nm_safety.specs.Step.{GoWith, GoesWith, IsInStep, may_stand, awaits_rightly, current_ask, has_link}
@@ -44,10 +44,11 @@ use Rattle.nm_safety.proofs.PairSteps.{pair_at, found_course, resync_alone}
 use Rattle.nm_safety.proofs.Lists.{at_set, some_is, to_some}
 use Rattle.nm_safety.proofs.Entries.{ready_is_open}
 use Rattle.nm_manager.specs.Queues.{is_ready_in}
+use Rattle.nm_manager.proofs.Reach.{side_reached}
 use Rattle.nm_rest_laws.specs.Steady.{is_right, IsRightSeat, HasServed, IsSteady, IsAble}
 use Rattle.nm_rest_laws.proofs.rest.Right.{sent_right, noted_right, learnt_right, broken_right, commit_right, abort_right, settled_right}
 use Rattle.nm_rest_laws.proofs.rest.Wires.{begun_steady, sent_steady, handled_steady, broken_steady}
-use Rattle.nm_rest_laws.proofs.rest.Ready.{ready_next}
+use Rattle.nm_safety.proofs.Ready.{ready_next}
 
 pub noted_none : (v : Option Verdict) (t : Option AbortCause) → noted v t None ≡ t
 noted_none v (Some why) = refl
@@ -152,6 +153,12 @@ module _ (change members : ℕ) (entries : List Entry) (slot : SlotState) (a : I
   same_able : (place : ℕ) (side : SideState) → slice_get slot.sides place ≡ Some side → IsAble change entries (record { course = slot.course; sides = slice_set slot.sides place side })
   same_able place side there = subst (λ sides. IsAble change entries (record { course = slot.course; sides = sides })) (sym (set_same slot.sides place side there)) a
 
+  -- a step for a device, where it has a side
+  on_able : (step : CourseState → SideState → PairStep) (device : ℕ)
+      → ((side : SideState) → slice_get slot.sides (device - 1) ≡ Some side → IsAble change entries (with_pair slot device (step slot.course side)).slot)
+      → IsAble change entries (on_side step slot device (slice_get slot.sides (device - 1))).slot
+  on_able step device = side_reached step slot device (λ (done : SlotStep). IsAble change entries done.slot) a
+
   -- ---- a request goes out
 
   module _ (ready : is_ready_in entries change ≡ true) (device : ℕ) (seat : Seat) (side : SideState) (here : slice_get slot.course.seats (device - 1) ≡ Some seat) (there : slice_get slot.sides (device - 1) ≡ Some side)
@@ -160,7 +167,7 @@ module _ (change members : ℕ) (entries : List Entry) (slot : SlotState) (a : I
     gone_steady true request o goes = begun_steady side.wire request (sym (opening_ask request (is_opening request) refl) ∙ o) (side_steady (device - 1) side there)
     gone_steady false request o goes = sent_steady side.wire request (sym (opening_ask request (is_opening request) refl) ∙ o) goes (side_steady (device - 1) side there)
 
-    out_if : (new : Bool) (request : Request) → opens (ask_of request) ≡ new → (b : Bool) → may_go new side.wire ≡ b → IsAble change entries (with_pair slot device (sends_if b device slot.course now side (gone new side.wire request))).slot
+    out_if : (new : Bool) (request : Request) → opens (ask_of request) ≡ new → (b : Bool) → may_go new side.wire ≡ b → IsAble change entries (with_pair slot device (sends_if b new device slot.course now side request)).slot
     out_if new request o false e = same_able (device - 1) side there
     out_if new request o true e =
         stepped_able now (device - 1) seat new_seat side (with_wire side (gone new side.wire request)) None here there (ap (λ c. c.verdict) same) (ap (λ c. c.trouble) same ∙ sym (noted_none v t)) (ap (λ c. c.seats) same)
@@ -172,16 +179,16 @@ module _ (change members : ℕ) (entries : List Entry) (slot : SlotState) (a : I
     out_able new in_fact (Some request) asks o = out_if new request (ap opens asks ∙ o) (may_go new side.wire) refl
 
   module _ (plan : ChangePlan) (ready : is_ready_in entries change ≡ true) where
-    sent_on_able : (device : ℕ) (what : Ask) (i : IsAsked slot.course device what) (found : Option SideState) → slice_get slot.sides (device - 1) ≡ found → IsAble change entries (sends_on plan entries slot device what found).slot
-    sent_on_able device what i None there = a
-    sent_on_able device what i (Some side) there =
+    sent_side_able : (device : ℕ) (what : Ask) (i : IsAsked slot.course device what) (side : SideState) → slice_get slot.sides (device - 1) ≡ Some side
+        → IsAble change entries (with_pair slot device (sends_pair plan entries device what slot.course side)).slot
+    sent_side_able device what i side there =
         out_able ready device i.seat side i.here there (course.with_sent slot.course device) (asked_next v i.seat) (ap (course.with_sent_at slot.course device) i.here)
         (λ member. subst (λ o. is_right v t i.seat.stage o ≡ true) (sym i.next) (sent_right v t i.seat.stage what i.next (subst (λ o. is_right v t i.seat.stage o ≡ true) i.quiet (seat_right (device - 1) i.seat i.here member))))
         (opens (asked_in_fact side.resync what)) (asked_in_fact side.resync what) (request_for plan entries slot.course.change device (asked_in_fact side.resync what))
         (asks_fit plan entries slot.course.change device (asked_in_fact side.resync what)) refl
 
     pub sent_able : (device : ℕ) (what : Ask) → next_action slot.course ≡ Send device what → IsAble change entries (sends plan entries slot device what).slot
-    sent_able device what h = sent_on_able device what (asked slot.course device what h) (slice_get slot.sides (device - 1)) refl
+    sent_able device what h = on_able (sends_pair plan entries device what) device (sent_side_able device what (asked slot.course device what h))
 
     renew_right : (trouble : Option AbortCause) (verdict_now : Option Verdict) (stage : Stage) → is_none verdict_now ≡ true → is_none trouble ≡ true → is_acknowledged stage ≡ true → is_right verdict_now trouble stage (Some ask.Renew) ≡ true
     renew_right trouble verdict_now stage u c k = grind arith
@@ -209,12 +216,10 @@ module _ (change members : ℕ) (entries : List Entry) (slot : SlotState) (a : I
         parts true false z w k h = absurd (let f : false ≡ true = h in cc)
         parts false y z w k h = absurd (let f : false ≡ true = h in cc)
 
-    renewed_on_able : (device : ℕ) (found : Option SideState) → slice_get slot.sides (device - 1) ≡ found → IsAble change entries (renews_on plan entries slot device found).slot
-    renewed_on_able device None there = a
-    renewed_on_able device (Some side) there = renewed_if_able device side there (slice_get slot.course.seats (device - 1)) refl (course.may_renew slot.course device) refl
-
     pub renewed_able : (device : ℕ) → IsAble change entries (renews plan entries slot device).slot
-    renewed_able device = renewed_on_able device (slice_get slot.sides (device - 1)) refl
+    renewed_able device =
+        on_able (renews_pair plan entries device) device
+        (λ side there. renewed_if_able device side there (slice_get slot.course.seats (device - 1)) refl (course.may_renew slot.course device) refl)
 
   -- ---- a reply is handled
 
@@ -269,12 +274,9 @@ module _ (change members : ℕ) (entries : List Entry) (slot : SlotState) (a : I
   due_able device link side there number (Some exchange) e =
       seat_there _ (device - 1) side there (slice_get slot.course.seats (device - 1)) refl (λ seat here. heard_now device seat side here there link exchange (due_is side.wire link number exchange e))
 
-  received_on_able : (device link number : ℕ) (found : Option SideState) → slice_get slot.sides (device - 1) ≡ found → IsAble change entries (receives_on slot device link number found).slot
-  received_on_able device link number None there = a
-  received_on_able device link number (Some side) there = due_able device link side there number (due side.wire link number) refl
-
   pub received_able : (device link number : ℕ) → IsAble change entries (receives slot device link number).slot
-  received_able device link number = received_on_able device link number (slice_get slot.sides (device - 1)) refl
+  received_able device link number =
+      on_able (receives_pair device link number) device (λ side there. due_able device link side there number (due side.wire link number) refl)
 
   -- ---- a link breaks
 
@@ -288,12 +290,8 @@ module _ (change members : ℕ) (entries : List Entry) (slot : SlotState) (a : I
       (Some (cause.Broken device)) here there (ap (λ c. c.verdict) same) (ap (λ c. c.trouble) same) (ap (λ c. c.seats) same)
       (λ member. broken_right v t (cause.Broken device) seat.stage) (broken_steady side.wire (side_steady (device - 1) side there)) (λ is. absurd (let f : false ≡ true = is in cc)))
 
-  broken_on_able : (device : ℕ) (found : Option SideState) → slice_get slot.sides (device - 1) ≡ found → IsAble change entries (breaks_on slot device found).slot
-  broken_on_able device None there = a
-  broken_on_able device (Some side) there = breaks_able device side there side.wire.current
-
   pub broken_able : (device : ℕ) → IsAble change entries (breaks slot device).slot
-  broken_able device = broken_on_able device (slice_get slot.sides (device - 1)) refl
+  broken_able device = on_able (breaks_pair device) device (λ side there. breaks_able device side there side.wire.current)
 
   -- ---- entries
 

@@ -24,8 +24,9 @@ use Rattle.nm_safety.specs.Step.{GoWith, GoesWith, IsSeated}
 use Rattle.nm_rest_laws.specs.Steady.{IsAble}
 use Rattle.nm_decider.specs.declared.seat.Seat.{Seat}
 use Rattle.nm_safety.proofs.Entries.{nat_same}
-use Rattle.nm_rest_laws.proofs.rest.Ready.{one_ready, HasDevice}
-use Rattle.nm_rest_laws.proofs.rest.Moves.{IsPlanTicket, down}
+use Rattle.nm_safety.proofs.Ready.{one_ready, HasDevice}
+use Rattle.nm_safety.proofs.Tickets.{IsPlanTicket}
+use Rattle.nm_rest_laws.proofs.rest.Moves.{down}
 use Rattle.nm_rest_laws.proofs.rest.Relating.{wire_at}
 use Rattle.nm_rest_laws.proofs.rest.Holding.{HasOpen, IsHeld, AllHeld, given_of}
 use Rattle.nm_rest_laws.proofs.rest.Lasting.{IsLasting}

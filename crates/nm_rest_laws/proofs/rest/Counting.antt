@@ -16,7 +16,7 @@ use Rattle.nm_world.proofs.Numbered.{found_in}
 use Rattle.nm_safety.proofs.Entries.{any_later, nat_itself}
 use Rattle.nm_rest_laws.specs.Closing.{sum_from}
 use Rattle.nm_rest_laws.proofs.rest.PairSteps.{sum_less}
-use Rattle.nm_rest_laws.proofs.rest.Ready.{tickets_next}
+use Rattle.nm_safety.proofs.Ready.{tickets_next}
 
 -- ---- how many aren't ended
 

@@ -25,8 +25,8 @@ use Rattle.nm_safety.specs.Safe.{is_abort}
 use Rattle.nm_safety.proofs.Entries.{nat_same, is_decided, decided_started}
 use Rattle.nm_safety.proofs.Places.{verdict_same, verdict_new}
 use Rattle.nm_world.proofs.Growing.{Enters}
-use Rattle.nm_rest_laws.proofs.rest.Ready.{either}
-use Rattle.nm_rest_laws.proofs.rest.Moves.{IsPlanTicket}
+use Rattle.nm_safety.proofs.Basics.{either}
+use Rattle.nm_safety.proofs.Tickets.{IsPlanTicket}
 
 -- ---- a change set that was submitted is in the journal with its devices
 

@@ -179,7 +179,7 @@ module _ (slot : SlotState) (device : ℕ) (new : Bool) (before now : CourseStat
   went_out None is P step = absurd (let f : false ≡ true = is in cc)
   went_out (Some request) is P step = by_may (may_go new side.wire) refl is
     where
-      by_may : (b : Bool) → may_go new side.wire ≡ b → is_sent (with_pair slot device (sends_if b device before now side (gone new side.wire request))).action ≡ true → P
+      by_may : (b : Bool) → may_go new side.wire ≡ b → is_sent (with_pair slot device (sends_if b new device before now side request)).action ≡ true → P
       by_may true e is = step request refl e
       by_may false e is = absurd (let f : false ≡ true = is in cc)
 

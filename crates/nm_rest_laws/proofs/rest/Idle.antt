@@ -8,8 +8,10 @@ use Rattle.nm_proto.specs.Content.{Meaning}
 use Rattle.nm_history.specs.History.{RecordedState, Served, Parted, served, lost}
 use Rattle.nm_wire.specs.declared.link.Exchange.{Exchange}
 use Rattle.nm_wire.specs.Wire.{WireState, session_at, handled_at, due}
-use Rattle.nm_manager.specs.Slot.{SideState, SlotState, SlotStep, with_pair, nothing, side_at, awaits_resync, receives_due, receives_on, breaks_current, breaks_on}
-use Rattle.nm_manager.specs.Manager.{ManagerState, slot_at, with_slot, with_step, received_by, broken_by, wire_in}
+use Rattle.nm_decider.specs.Course.{CourseState}
+use Rattle.nm_manager.specs.Slot.{SideState, SlotState, PairStep, SlotStep, with_pair, nothing, side_at, awaits_resync, receives_due, breaks_current, on_side, receives_pair, breaks_pair}
+use Rattle.nm_manager.specs.Manager.{ManagerState, Step, with_slot, with_step, wire_in, received, broken}
+use Rattle.nm_manager.proofs.Reach.{side_reached, slot_reached}
 use Rattle.nm_world.specs.declared.happened.Happened.TheVariants as happened
 use Rattle.nm_world.specs.World.{Setting, CoreState, Came, Meeting, manager_in, with_manager, by_manager, met, moved, told_by, lost_by, loses, losing_at, is_side_open, does, delivering_at, undelivered, parted_by, left_with, leaving_at, has_on, operator_at, elementary}
 use Rattle.nm_world.proofs.ToRest.{IsStep}
@@ -76,40 +78,40 @@ module _ {Config Node : Type 0} (w : CoreState Config Node) where
 
   module _ (change : ℕ) (slot : SlotState) (there : slice_get w.slots (change - 1) ≡ Some slot) where
     abbrev By : SlotStep → Came Config Node
-    By step = by_manager w (with_step (manager_in w) change step) None
+    By step = by_manager w (with_step (manager_in w) change step)
 
     breaks_by : (device : ℕ) (side : SideState) → slice_get slot.sides (device - 1) ≡ Some side → (current : Option ℕ) → Stays (By (with_pair slot device (breaks_current slot.course side device current)))
     breaks_by device side at None idle_now = slot_same change slot (with_pair slot device (nothing slot.course side)).slot there (nothing_same slot device side at)
     breaks_by device side at (Some number) idle_now = absurd (let f : happened.Broken ≡ happened.Idle = idle_now in cc)
 
-    breaks_side : (device : ℕ) (found : Option SideState) → slice_get slot.sides (device - 1) ≡ found → Stays (By (breaks_on slot device found))
-    breaks_side device None at idle_now = slot_same change slot slot there refl
-    breaks_side device (Some side) at idle_now = breaks_by device side at side.wire.current idle_now
+    -- a step for a device, where it has a side
+    on_stays : (step : CourseState → SideState → PairStep) (device : ℕ)
+        → ((side : SideState) → slice_get slot.sides (device - 1) ≡ Some side → Stays (By (with_pair slot device (step slot.course side))))
+        → Stays (By (on_side step slot device (side_at slot device)))
+    on_stays step device = side_reached step slot device (λ (done : SlotStep). Stays (By done)) (λ idle_now. slot_same change slot slot there refl)
 
     hears_by : (device : ℕ) (side : SideState) → slice_get slot.sides (device - 1) ≡ Some side → (resyncs : Bool) (links : WireState) (told : Option Exchange) → Stays (By (with_pair slot device (receives_due resyncs slot.course side device links told)))
     hears_by device side at resyncs links None idle_now = slot_same change slot (with_pair slot device (nothing slot.course side)).slot there (nothing_same slot device side at)
     hears_by device side at resyncs links (Some exchange) idle_now = absurd (let f : happened.Handled ≡ happened.Idle = idle_now in cc)
 
-    hears_side : (device link number : ℕ) (found : Option SideState) → slice_get slot.sides (device - 1) ≡ found → Stays (By (receives_on slot device link number found))
-    hears_side device link number None at idle_now = slot_same change slot slot there refl
-    hears_side device link number (Some side) at idle_now =
-        hears_by device side at (awaits_resync (slice_get slot.course.seats (device - 1))) (handled_at side.wire link (due side.wire link number)) (due side.wire link number) idle_now
+  break_stays : (change device : ℕ) → Stays (by_manager w (broken (manager_in w) change device))
+  break_stays change device =
+      slot_reached (breaks_pair device) (manager_in w) change device (λ (step : Step). Stays (by_manager w step)) (λ idle_now. refl)
+      (λ slot there. on_stays change slot there (breaks_pair device) device (λ side at. breaks_by change slot there device side at side.wire.current))
 
-  break_stays : (change device : ℕ) (found : Option SlotState) → slice_get w.slots (change - 1) ≡ found → Stays (by_manager w (broken_by (manager_in w) change device found) None)
-  break_stays change device None there idle_now = refl
-  break_stays change device (Some slot) there idle_now = breaks_side change slot there device (side_at slot device) refl idle_now
-
-  answer_stays : (change device link number : ℕ) (found : Option SlotState) → slice_get w.slots (change - 1) ≡ found → Stays (by_manager w (received_by (manager_in w) change device link number found) None)
-  answer_stays change device link number None there idle_now = refl
-  answer_stays change device link number (Some slot) there idle_now = hears_side change slot there device link number (side_at slot device) refl idle_now
+  answer_stays : (change device link number : ℕ) → Stays (by_manager w (received (manager_in w) change device link number))
+  answer_stays change device link number =
+      slot_reached (receives_pair device link number) (manager_in w) change device (λ (step : Step). Stays (by_manager w step)) (λ idle_now. refl)
+      (λ slot there. on_stays change slot there (receives_pair device link number) device
+      (λ side at. hears_by change slot there device side at (awaits_resync (slice_get slot.course.seats (device - 1))) (handled_at side.wire link (due side.wire link number)) (due side.wire link number)))
 
 module _ {Config TheEdit Node : Type 0} (m : Meaning Config TheEdit Node) (setting : Setting TheEdit) (w : CoreState Config Node) where
   pub idle_stays : (x : Event) → IsStep x → is_turn x ≡ false → (elementary m setting w x).happened ≡ happened.Idle → (elementary m setting w x).after ≡ w
   idle_stays (Submit change) step plain = absurd step
   idle_stays (Turn change) step plain = absurd (let f : true ≡ false = plain in cc)
   idle_stays (Deliver change device link) step plain = delivery_stays w m setting change device link (slice_get w.devices (device - 1))
-  idle_stays (Answer change device link number) step plain = answer_stays w change device link number (slot_at (manager_in w) change) refl
-  idle_stays (Break change device) step plain = break_stays w change device (slot_at (manager_in w) change) refl
+  idle_stays (Answer change device link number) step plain = answer_stays w change device link number
+  idle_stays (Break change device) step plain = break_stays w change device
   idle_stays (Lose change device link) step plain = loss_stays w m setting change device link (slice_get w.devices (device - 1))
   idle_stays (Advance device seconds) step plain = absurd step
   idle_stays (Restart device) step plain = absurd step

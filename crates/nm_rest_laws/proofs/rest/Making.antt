@@ -27,9 +27,10 @@ use Rattle.nm_wire.specs.Link.{LinkState, closed_link, sent_on, fresh_link, sess
 use Rattle.nm_wire.specs.Wire.{WireState, link_at, changed, sent_at, restarted, handled_at, due, session_at}
 use Rattle.nm_manager.specs.Queues.{is_ready_in}
 use Rattle.nm_manager.specs.Requests.{request_for}
-use Rattle.nm_manager.specs.Slot.{SideState, SlotState, side_at, with_pair, with_wire, asked_in_fact, opens, may_go, gone, sends_if, sends_request, sends_on, renews_if, renews_on, awaits_resync, resync_goes_on, receives_due, receives_on, breaks_current, breaks_on, cut_off, anew, is_commit, to_commit, decided, lost_memory, wires_on, told_wire, lost_wire, restarted_slot}
+use Rattle.nm_manager.specs.Slot.{SideState, SlotState, breaks, receives, renews, sends, PairStep, SlotStep, side_at, with_pair, with_wire, asked_in_fact, opens, may_go, gone, sends_if, sends_request, renews_if, awaits_resync, resync_goes_on, receives_due, breaks_current, cut_off, anew, is_commit, to_commit, decided, lost_memory, wires_on, told_wire, lost_wire, restarted_slot, on_side, sends_pair, renews_pair, receives_pair, breaks_pair}
 use Rattle.nm_manager.specs.Manager as manager
-use Rattle.nm_manager.specs.Manager.{ManagerState, Step, idle, slot_at, with_slot, with_entry, start_of, submitted_by, submitted, sent_by, decided_by, acts, turned_by, turned, received, received_by, broken_by, forgotten_by, forgotten, renewed_by, renewed, start_anew, starts_anew, wires_in, told_on, lost_on, restarted_on, wire_in}
+use Rattle.nm_manager.specs.Manager.{ManagerState, Step, idle, slot_at, with_slot, with_entry, start_of, submitted_by, submitted, sent_by, decided_by, acts, turned_by, turned, received, forgotten_by, forgotten, renewed_by, renewed, start_anew, starts_anew, wires_in, told_on, lost_on, restarted_on, wire_in, on_slot}
+use Rattle.nm_manager.proofs.Reach.{side_reached, slot_reached}
 use Rattle.nm_world.specs.World.{Setting, CoreState, Came, Meeting, Moved, Asking, manager_in, met, moved, asked_by, told_by, lost_by, loses, losing_at, does, delivering_at, anew_at, later_at, answered_to, asking_at, leaving_at, operator_at, has_on, with_session, with_opened, is_side_open, undelivered, elementary}
 use Rattle.nm_device.specs.Table.{is_opening}
 use Rattle.nm_rest_laws.proofs.rest.Closer.{set_length}
@@ -106,7 +107,13 @@ module _ (slot : SlotState) where
   no_more : (n : ℕ) → n ≤ n + 1
   no_more n = omega arith
 
-  out_if : (device : ℕ) (side : SideState) → slice_get slot.sides (device - 1) ≡ Some side → (before now : CourseState) (new : Bool) (request : Request) (b : Bool) → More (with_pair slot device (sends_if b device before now side (gone new side.wire request))).slot
+  -- a step for a device, where it has a side
+  on_more : (step : CourseState → SideState → PairStep) (device : ℕ)
+      → ((side : SideState) → slice_get slot.sides (device - 1) ≡ Some side → More (with_pair slot device (step slot.course side)).slot)
+      → More (on_side step slot device (side_at slot device)).slot
+  on_more step device = side_reached step slot device (λ (done : SlotStep). More done.slot) same_more
+
+  out_if : (device : ℕ) (side : SideState) → slice_get slot.sides (device - 1) ≡ Some side → (before now : CourseState) (new : Bool) (request : Request) (b : Bool) → More (with_pair slot device (sends_if b new device before now side request)).slot
   out_if device side there before now new request false = side_more device side side there (no_more (links_on side))
   out_if device side there before now new request true = side_more device side (with_wire side (gone new side.wire request)) there (gone_links new side.wire request)
 
@@ -114,36 +121,35 @@ module _ (slot : SlotState) where
   out_by device side there before now new None = side_more device side side there (no_more (links_on side))
   out_by device side there before now new (Some request) = out_if device side there before now new request (may_go new side.wire)
 
-  sent_more : (plan : ChangePlan) (entries : List Entry) (device : ℕ) (what : Ask) (found : Option SideState) → slice_get slot.sides (device - 1) ≡ found → More (sends_on plan entries slot device what found).slot
-  sent_more plan entries device what None there = same_more
-  sent_more plan entries device what (Some side) there =
-      out_by device side there slot.course (course.with_sent slot.course device) (opens (asked_in_fact side.resync what)) (request_for plan entries slot.course.change device (asked_in_fact side.resync what))
+  sent_more : (plan : ChangePlan) (entries : List Entry) (device : ℕ) (what : Ask) → More (sends plan entries slot device what).slot
+  sent_more plan entries device what =
+      on_more (sends_pair plan entries device what) device
+      (λ side there. out_by device side there slot.course (course.with_sent slot.course device) (opens (asked_in_fact side.resync what)) (request_for plan entries slot.course.change device (asked_in_fact side.resync what)))
 
   renewed_if : (plan : ChangePlan) (entries : List Entry) (device : ℕ) (side : SideState) → slice_get slot.sides (device - 1) ≡ Some side → (b : Bool) → More (with_pair slot device (renews_if b plan entries slot.course side device)).slot
   renewed_if plan entries device side there false = side_more device side side there (no_more (links_on side))
   renewed_if plan entries device side there true = out_by device side there slot.course (course.with_renewed slot.course device) false (request_for plan entries slot.course.change device ask.Renew)
 
-  renewed_more : (plan : ChangePlan) (entries : List Entry) (device : ℕ) (found : Option SideState) → slice_get slot.sides (device - 1) ≡ found → More (renews_on plan entries slot device found).slot
-  renewed_more plan entries device None there = same_more
-  renewed_more plan entries device (Some side) there = renewed_if plan entries device side there (course.may_renew slot.course device)
+  renewed_more : (plan : ChangePlan) (entries : List Entry) (device : ℕ) → More (renews plan entries slot device).slot
+  renewed_more plan entries device =
+      on_more (renews_pair plan entries device) device (λ side there. renewed_if plan entries device side there (course.may_renew slot.course device))
 
   heard_by : (device : ℕ) (side : SideState) → slice_get slot.sides (device - 1) ≡ Some side → (resyncs : Bool) (links : WireState) → length links.links ≡ length side.wire.links → (told : Option Exchange)
       → More (with_pair slot device (receives_due resyncs slot.course side device links told)).slot
   heard_by device side there resyncs links same None = side_more device side side there (no_more (links_on side))
   heard_by device side there resyncs links same (Some exchange) = side_more device side (record { wire = links; resync = resync_goes_on resyncs side.resync exchange.reply }) there (omega (arith, same))
 
-  heard_more : (device link number : ℕ) (found : Option SideState) → slice_get slot.sides (device - 1) ≡ found → More (receives_on slot device link number found).slot
-  heard_more device link number None there = same_more
-  heard_more device link number (Some side) there =
-      heard_by device side there (awaits_resync (slice_get slot.course.seats (device - 1))) (handled_at side.wire link (due side.wire link number)) (handled_links side.wire link (due side.wire link number)) (due side.wire link number)
+  heard_more : (device link number : ℕ) → More (receives slot device link number).slot
+  heard_more device link number =
+      on_more (receives_pair device link number) device
+      (λ side there. heard_by device side there (awaits_resync (slice_get slot.course.seats (device - 1))) (handled_at side.wire link (due side.wire link number)) (handled_links side.wire link (due side.wire link number)) (due side.wire link number))
 
   broken_by_more : (device : ℕ) (side : SideState) → slice_get slot.sides (device - 1) ≡ Some side → (current : Option ℕ) → More (with_pair slot device (breaks_current slot.course side device current)).slot
   broken_by_more device side there None = side_more device side side there (no_more (links_on side))
   broken_by_more device side there (Some number) = side_more device side (cut_off (to_commit slot.course.verdict) side) there (no_more (links_on side))
 
-  broken_more : (device : ℕ) (found : Option SideState) → slice_get slot.sides (device - 1) ≡ found → More (breaks_on slot device found).slot
-  broken_more device None there = same_more
-  broken_more device (Some side) there = broken_by_more device side there side.wire.current
+  broken_more : (device : ℕ) → More (breaks slot device).slot
+  broken_more device = on_more (breaks_pair device) device (λ side there. broken_by_more device side there side.wire.current)
 
   decided_more : (v : Verdict) → More (decided slot v)
   decided_more v = let less = sum_map links_on (anew (is_commit v)) (λ side. omega arith) slot.sides in omega (arith, less)
@@ -178,10 +184,16 @@ module _ (plans : List ChangePlan) (state : ManagerState) where
   submitted_most change None = same_most
   submitted_most change (Some plan) = enters_most (start_of change plan) _ (with_entry state (start_of change plan)) same_most
 
-  sent_most : (change : ℕ) (plan : Option ChangePlan) (found : Option SlotState) → slice_get state.slots (change - 1) ≡ found → (device : ℕ) (what : Ask) → Most (sent_by state change plan found device what).state
-  sent_most change None found there device what = same_most
-  sent_most change (Some plan) None there device what = same_most
-  sent_most change (Some plan) (Some slot) there device what = slot_most change slot _ there (sent_more slot plan state.entries device what (side_at slot device) refl)
+  -- a step for a device of a change set, where it is there
+  on_most : (step : CourseState → SideState → PairStep) (change device : ℕ) → ((slot : SlotState) → links_of (on_side step slot device (side_at slot device)).slot ≤ links_of slot + 1)
+      → Most (on_slot step state change device (slot_at state change)).state
+  on_most step change device more =
+      slot_reached step state change device (λ (done : Step). Most done.state) same_most
+      (λ slot there. slot_most change slot (on_side step slot device (side_at slot device)).slot there (more slot))
+
+  sent_most : (change : ℕ) (plan : Option ChangePlan) (device : ℕ) (what : Ask) → Most (sent_by state change plan (slot_at state change) device what).state
+  sent_most change None device what = same_most
+  sent_most change (Some plan) device what = on_most (sends_pair plan state.entries device what) change device (λ slot. sent_more slot plan state.entries device what)
 
   decided_most : (change : ℕ) (v : Verdict) (found : Option SlotState) → slice_get state.slots (change - 1) ≡ found → Most (decided_by state change v found).state
   decided_most change v None there = same_most
@@ -189,7 +201,7 @@ module _ (plans : List ChangePlan) (state : ManagerState) where
 
   acted_most : (change : ℕ) (what : NextAction) → Most (acts plans state change what).state
   acted_most change next.Wait = same_most
-  acted_most change (next.Send device what) = sent_most change (slice_get plans (change - 1)) (slot_at state change) refl device what
+  acted_most change (next.Send device what) = sent_most change (slice_get plans (change - 1)) device what
   acted_most change (next.Decide v) = decided_most change v (slot_at state change) refl
   acted_most change (next.Finish kept) = enters_most (Ended change kept) _ (with_entry state (Ended change kept)) same_most
 
@@ -200,13 +212,11 @@ module _ (plans : List ChangePlan) (state : ManagerState) where
   turned_most : (change : ℕ) → Most (turned plans state change).state
   turned_most change = cond_both (is_ready_in state.entries change) (turned_by plans state change (slot_at state change)) (idle state) (λ (step : Step). Most step.state) (λ _. turned_by_most change (slot_at state change)) (λ _. same_most)
 
-  received_most : (change device link number : ℕ) (found : Option SlotState) → slice_get state.slots (change - 1) ≡ found → Most (received_by state change device link number found).state
-  received_most change device link number None there = same_most
-  received_most change device link number (Some slot) there = slot_most change slot _ there (heard_more slot device link number (side_at slot device) refl)
+  received_most : (change device link number : ℕ) → Most (received state change device link number).state
+  received_most change device link number = on_most (receives_pair device link number) change device (λ slot. heard_more slot device link number)
 
-  broken_most : (change device : ℕ) (found : Option SlotState) → slice_get state.slots (change - 1) ≡ found → Most (broken_by state change device found).state
-  broken_most change device None there = same_most
-  broken_most change device (Some slot) there = slot_most change slot _ there (broken_more slot device (side_at slot device) refl)
+  broken_most : (change device : ℕ) → Most (manager.broken state change device).state
+  broken_most change device = on_most (breaks_pair device) change device (λ slot. broken_more slot device)
 
   forgotten_by_most : (change : ℕ) (plan : Option ChangePlan) (found : Option SlotState) → slice_get state.slots (change - 1) ≡ found → Most (forgotten_by state change plan found).state
   forgotten_by_most change None found there = same_most
@@ -218,15 +228,14 @@ module _ (plans : List ChangePlan) (state : ManagerState) where
       cond_both (is_started change state.entries && not (is_ended_in change state.entries)) (forgotten_by state change (slice_get plans (change - 1)) (slot_at state change)) (idle state) (λ (step : Step). Most step.state)
       (λ _. forgotten_by_most change (slice_get plans (change - 1)) (slot_at state change) refl) (λ _. same_most)
 
-  renewed_by_most : (change device : ℕ) (plan : Option ChangePlan) (found : Option SlotState) → slice_get state.slots (change - 1) ≡ found → Most (renewed_by state change device plan found).state
-  renewed_by_most change device None found there = same_most
-  renewed_by_most change device (Some plan) None there = same_most
-  renewed_by_most change device (Some plan) (Some slot) there = slot_most change slot _ there (renewed_more slot plan state.entries device (side_at slot device) refl)
+  renewed_by_most : (change device : ℕ) (plan : Option ChangePlan) → Most (renewed_by state change device plan (slot_at state change)).state
+  renewed_by_most change device None = same_most
+  renewed_by_most change device (Some plan) = on_most (renews_pair plan state.entries device) change device (λ slot. renewed_more slot plan state.entries device)
 
   renewed_most : (change device : ℕ) → Most (renewed plans state change device).state
   renewed_most change device =
       cond_both (is_ready_in state.entries change) (renewed_by state change device (slice_get plans (change - 1)) (slot_at state change)) (idle state) (λ (step : Step). Most step.state)
-      (λ _. renewed_by_most change device (slice_get plans (change - 1)) (slot_at state change) refl) (λ _. same_most)
+      (λ _. renewed_by_most change device (slice_get plans (change - 1))) (λ _. same_most)
 
   anew_within : (base : ℕ) (ps : List ChangePlan) (slots : List SlotState) → sum_over links_of (start_anew state.entries base ps slots) ≤ sum_over links_of slots
   anew_within base [] slots = omega arith
@@ -351,8 +360,8 @@ module _ {Config TheEdit Node : Type 0} (m : Meaning Config TheEdit Node) (setti
   makes_one (Submit change) = by_manager_makes (submitted setting.plans (manager_in w) change).state (submitted_most setting.plans (manager_in w) change (slice_get setting.plans (change - 1)))
   makes_one (Turn change) = by_manager_makes (turned setting.plans (manager_in w) change).state (turned_most setting.plans (manager_in w) change)
   makes_one (Deliver change device link) = met_makes w device _ (delivering_makes change device link (slice_get w.devices (device - 1)))
-  makes_one (Answer change device link number) = by_manager_makes (received (manager_in w) change device link number).state (received_most setting.plans (manager_in w) change device link number (slot_at (manager_in w) change) refl)
-  makes_one (Break change device) = by_manager_makes (manager.broken (manager_in w) change device).state (broken_most setting.plans (manager_in w) change device (slot_at (manager_in w) change) refl)
+  makes_one (Answer change device link number) = by_manager_makes (received (manager_in w) change device link number).state (received_most setting.plans (manager_in w) change device link number)
+  makes_one (Break change device) = by_manager_makes (manager.broken (manager_in w) change device).state (broken_most setting.plans (manager_in w) change device)
   makes_one (Lose change device link) = met_makes w device _ (losing_makes change device link (slice_get w.devices (device - 1)))
   makes_one (Advance device seconds) = moved_makes w device (later_at m seconds (slice_get w.devices (device - 1)))
   makes_one (Restart device) = met_makes w device _ (anew_makes device (slice_get w.devices (device - 1)))

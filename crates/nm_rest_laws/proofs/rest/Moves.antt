@@ -1,8 +1,7 @@
 -- Each event of the manager leaves each change set able to go on.
-use Rattle.std.proofs.Common.{◌≡◌, ◌∙◌, ℕ, zero, suc, ◌+◌, ◌-◌, ◌≤◌, Bool, true, false, not, ◌&&◌, nat_eq, List, [], ◌∷◌, ◌++◌, Option, Some, None, IfSome, slice_get, slice_set, refl, sym, ap, subst, arith, append-nil, if◌then◌else◌}
+use Rattle.std.proofs.Common.{◌≡◌, ◌∙◌, ℕ, zero, suc, ◌+◌, ◌-◌, ◌≤◌, Bool, true, false, not, ◌&&◌, nat_eq, List, [], ◌∷◌, ◌++◌, Option, Some, None, IfSome, slice_get, slice_set, refl, sym, ap, subst, arith, if◌then◌else◌}
 use Rattle.std.proofs.lemmas.Bool.{cond_both}
 use Rattle.std.proofs.lemmas.Bool.Decides.{nat_tests}
-use Rattle.nm_order.specs.declared.ticket.Ticket.{Ticket}
 use Rattle.nm_proto.specs.declared.ask.Ask.{Ask}
 use Rattle.nm_proto.specs.declared.journal.Verdict.{Verdict}
 use Rattle.nm_proto.specs.declared.journal.Entry.{Entry}
@@ -16,9 +15,10 @@ use Rattle.nm_decider.specs.declared.course.NextAction.{NextAction}
 use Rattle.nm_decider.specs.declared.course.NextAction.TheVariants as next
 use Rattle.nm_decider.specs.Course.{next_action}
 use Rattle.nm_manager.specs.declared.action.Action.TheVariants as action
-use Rattle.nm_manager.specs.Queues.{tickets_by, tickets_in, is_ready_in}
-use Rattle.nm_manager.specs.Slot.{SlotState, sends, renews, receives, breaks, decided, lost_memory}
-use Rattle.nm_manager.specs.Manager.{ManagerState, Step, idle, slot_at, with_slot, with_entry, start_of, submitted_by, submitted, sent_by, decided_by, acts, turned_by, turned, received_by, received, broken_by, broken, forgotten_by, forgotten, renewed_by, renewed, start_anew, starts_anew}
+use Rattle.nm_manager.specs.Queues.{tickets_by, is_ready_in}
+use Rattle.nm_manager.specs.Slot.{SlotState, sends, renews, receives, breaks, decided, lost_memory, receives_pair, breaks_pair}
+use Rattle.nm_manager.specs.Manager.{ManagerState, Step, idle, slot_at, with_slot, with_entry, start_of, submitted_by, submitted, sent_by, decided_by, acts, turned_by, turned, received, broken, forgotten_by, forgotten, renewed_by, renewed, start_anew, starts_anew}
+use Rattle.nm_manager.proofs.Reach.{slot_reached}
 use Rattle.nm_world.specs.World.{Setting, CoreState, manager_in}
 use Rattle.nm_safety.specs.Step.{IsInStep}
 use Rattle.nm_safety.specs.Support.{IsSupported}
@@ -27,28 +27,13 @@ use Rattle.nm_rest_laws.proofs.rest.Closer.{set_there}
 use Rattle.nm_safety.proofs.Managed.{kept_here, planned_by}
 use Rattle.nm_safety.proofs.Entries.{nat_same}
 use Rattle.nm_rest_laws.specs.Steady.{IsAble}
-use Rattle.nm_rest_laws.proofs.rest.Ready.{tickets_next}
+use Rattle.nm_safety.proofs.Tickets.{AreTickets, tickets_more, tickets_still}
 use Rattle.nm_rest_laws.proofs.rest.Able.{sent_able, renewed_able, received_able, broken_able, entered_able, decided_able, lost_able, anew_able, ended_able}
-
--- a ticket is for the devices of its change set
-abbrev pub IsPlanTicket : List ChangePlan → Ticket → Type 0
-IsPlanTicket plans ticket = IfSome (slice_get plans (ticket.change - 1)) (λ plan. ticket.devices.0 ≡ devices_in plan.edits)
 
 -- what every run keeps of the manager
 pub record IsGoing (plans : List ChangePlan) (state : ManagerState) : Type 0 where
   pub slots : (place : ℕ) → IfSome (slice_get state.slots place) (IsAble (suc place) state.entries)
-  pub tickets : (i : ℕ) → IfSome (slice_get (tickets_in state.entries) i) (IsPlanTicket plans)
-
-all_more : {A : Type 0} (P : A → Type 0) (xs : List A) (x : A) → P x → ((j : ℕ) → IfSome (slice_get xs j) P) → (j : ℕ) → IfSome (slice_get (xs ++ x ∷ []) j) P
-all_more P [] x p all zero = p
-all_more P [] x p all (suc j) = tt
-all_more P (y ∷ xs) x p all zero = all zero
-all_more P (y ∷ xs) x p all (suc j) = all_more P xs x p (λ k. all (suc k)) j
-
-planless : (plans : List ChangePlan) (entries : List Entry) (entry : Entry) → tickets_by entry ≡ [] → ((i : ℕ) → IfSome (slice_get (tickets_in entries) i) (IsPlanTicket plans))
-    → (i : ℕ) → IfSome (slice_get (tickets_in (entries ++ entry ∷ [])) i) (IsPlanTicket plans)
-planless plans entries entry none all i =
-    subst (λ l. IfSome (slice_get l i) (IsPlanTicket plans)) (sym (tickets_next entries entry ∙ ap (λ l. tickets_in entries ++ l) none ∙ append-nil (tickets_in entries))) (all i)
+  pub tickets : AreTickets plans state.entries
 
 differs : (k c : ℕ) → (k ≡ c → ⊥) → (b : Bool) → nat_eq k c ≡ b → b ≡ false
 differs k c ne false e = refl
@@ -91,7 +76,7 @@ module _ {Config TheEdit Node : Type 0} (m : Meaning Config TheEdit Node) (setti
         → IfSome (slice_get slots p) (IsAble change (w.entries ++ entry ∷ [])) → After (record { entries = w.entries ++ entry ∷ []; slots = slots })
     entry_goes entry none other slots same here = record {
       slots = λ j. by_change j (nat_eq (suc j) change) refl;
-      tickets = planless setting.plans w.entries entry none g.tickets;
+      tickets = tickets_still setting.plans w.entries g.tickets entry none;
     }
       where
         by_change : (j : ℕ) (b : Bool) → nat_eq (suc j) change ≡ b → IfSome (slice_get slots j) (IsAble (suc j) (w.entries ++ entry ∷ []))
@@ -134,9 +119,7 @@ module _ {Config TheEdit Node : Type 0} (m : Meaning Config TheEdit Node) (setti
         enters_goes (start_of change plan) action.Started (with_entry state (start_of change plan))
         (λ may. record {
           slots = all_started plan;
-          tickets = λ i. subst (λ l. IfSome (slice_get l i) (IsPlanTicket setting.plans)) (sym (tickets_next w.entries (start_of change plan)))
-              (all_more (IsPlanTicket setting.plans) (tickets_in w.entries) (record { change = change; devices = record { 0 = devices_in plan.edits } })
-              (subst (λ o. IfSome o (λ one. devices_in plan.edits ≡ devices_in one.edits)) (sym planned) refl) g.tickets i);
+          tickets = tickets_more setting.plans w.entries g.tickets change plan planned;
         })
 
     pub submitted_goes : After (submitted setting.plans state change).state
@@ -195,21 +178,17 @@ module _ {Config TheEdit Node : Type 0} (m : Meaning Config TheEdit Node) (setti
 
     -- ---- what comes to one change set
 
-    received_by_goes : (device link number : ℕ) (found : Option SlotState) → slice_get w.slots p ≡ found → After (received_by state change device link number found).state
-    received_by_goes device link number None there = g
-    received_by_goes device link number (Some slot) there =
-        step_of slot there _ (λ plan planned in_step. slot_goes slot (receives slot device link number).slot there (received_able change (devices_in plan.edits) w.entries slot (able_here slot there) in_step device link number))
-
     pub received_goes : (device link number : ℕ) → After (received state change device link number).state
-    received_goes device link number = received_by_goes device link number (slice_get w.slots p) refl
-
-    broken_by_goes : (device : ℕ) (found : Option SlotState) → slice_get w.slots p ≡ found → After (broken_by state change device found).state
-    broken_by_goes device None there = g
-    broken_by_goes device (Some slot) there =
-        step_of slot there _ (λ plan planned in_step. slot_goes slot (breaks slot device).slot there (broken_able change (devices_in plan.edits) w.entries slot (able_here slot there) in_step device))
+    received_goes device link number =
+        slot_reached (receives_pair device link number) state change device (λ (step : Step). After step.state) g
+        (λ slot there.
+        step_of slot there _ (λ plan planned in_step. slot_goes slot (receives slot device link number).slot there (received_able change (devices_in plan.edits) w.entries slot (able_here slot there) in_step device link number)))
 
     pub broken_goes : (device : ℕ) → After (broken state change device).state
-    broken_goes device = broken_by_goes device (slice_get w.slots p) refl
+    broken_goes device =
+        slot_reached (breaks_pair device) state change device (λ (step : Step). After step.state) g
+        (λ slot there.
+        step_of slot there _ (λ plan planned in_step. slot_goes slot (breaks slot device).slot there (broken_able change (devices_in plan.edits) w.entries slot (able_here slot there) in_step device)))
 
     forgotten_by_goes : (plan : Option ChangePlan) (found : Option SlotState) → slice_get w.slots p ≡ found → After (forgotten_by state change plan found).state
     forgotten_by_goes None found there = g

@@ -12,7 +12,7 @@ use Rattle.nm_proto.specs.Plan.{is_planned, devices_in}
 use Rattle.nm_manager.specs.Requests.{is_of_device}
 use Rattle.nm_safety.specs.Step.{IsPlanned}
 use Rattle.nm_rest_laws.specs.Rest.{IsWithin}
-use Rattle.nm_rest_laws.proofs.rest.Ready.{either}
+use Rattle.nm_safety.proofs.Basics.{either}
 
 empty_mask : (d : ℕ) → mask_contains 0 d ≡ false
 unfolding mask_contains

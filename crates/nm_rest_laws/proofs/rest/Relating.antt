@@ -20,9 +20,10 @@ use Rattle.nm_wire.specs.declared.link.Exchange.{Exchange}
 use Rattle.nm_wire.specs.Wire.{WireState, no_links, handled_at, due, broken}
 use Rattle.nm_manager.specs.Queues.{is_ready_in}
 use Rattle.nm_manager.specs.Requests.{request_for}
-use Rattle.nm_manager.specs.Slot.{SideState, SlotState, wire_of_side, with_pair, with_wire, asked_in_fact, opens, may_go, gone, sends_if, sends_request, sends_on, sends, renews_if, renews_on, renews, awaits_resync, receives_due, receives_on, receives, breaks_current, breaks_on, breaks, cut_off, anew, is_commit, to_commit, decided, lost_memory}
+use Rattle.nm_manager.specs.Slot.{SideState, SlotState, PairStep, SlotStep, wire_of_side, with_pair, with_wire, asked_in_fact, opens, may_go, gone, sends_if, sends_request, sends, renews_if, renews, awaits_resync, receives_due, receives, breaks_current, breaks, cut_off, anew, is_commit, to_commit, decided, lost_memory, on_side, sends_pair, renews_pair, receives_pair, breaks_pair}
 use Rattle.nm_manager.specs.Manager as manager
-use Rattle.nm_manager.specs.Manager.{ManagerState, Step, idle, slot_at, with_slot, with_entry, start_of, submitted_by, submitted, sent_by, decided_by, acts, turned_by, turned, received_by, received, broken_by, forgotten_by, forgotten, renewed_by, renewed, start_anew, starts_anew}
+use Rattle.nm_manager.specs.Manager.{ManagerState, Step, idle, slot_at, with_slot, with_entry, start_of, submitted_by, submitted, sent_by, decided_by, acts, turned_by, turned, received, forgotten_by, forgotten, renewed_by, renewed, start_anew, starts_anew, on_slot}
+use Rattle.nm_manager.proofs.Reach.{side_reached, slot_reached}
 use Rattle.nm_safety.proofs.Wires.{IsDue, due_is}
 use Rattle.nm_rest_laws.proofs.rest.Closer.{set_relates}
 
@@ -51,8 +52,14 @@ module _ (R : WireState → WireState → Type 0) (same : (wire : WireState) →
     abbrev Slot : SlotState → Type 0
     Slot new = Sides slot.sides new.sides
 
+    -- a step for a device, where it has a side
+    on_device : (step : CourseState → SideState → PairStep) (device : ℕ)
+        → ((side : SideState) → slice_get slot.sides (device - 1) ≡ Some side → Slot (with_pair slot device (step slot.course side)).slot)
+        → Slot (on_side step slot device (slice_get slot.sides (device - 1))).slot
+    on_device step device = side_reached step slot device (λ (done : SlotStep). Slot done.slot) (sides_same slot.sides)
+
     out_if : (device : ℕ) (side : SideState) → slice_get slot.sides (device - 1) ≡ Some side → (before now : CourseState) (new : Bool) (request : Request) (b : Bool) → may_go new side.wire ≡ b
-        → Slot (with_pair slot device (sends_if b device before now side (gone new side.wire request))).slot
+        → Slot (with_pair slot device (sends_if b new device before now side request)).slot
     out_if device side there before now new request false e = set_side slot.sides (device - 1) side side there (same side.wire)
     out_if device side there before now new request true e = set_side slot.sides (device - 1) side (with_wire side (gone new side.wire request)) there (goes new side.wire request e)
 
@@ -60,18 +67,18 @@ module _ (R : WireState → WireState → Type 0) (same : (wire : WireState) →
     out_by device side there before now new None = set_side slot.sides (device - 1) side side there (same side.wire)
     out_by device side there before now new (Some request) = out_if device side there before now new request (may_go new side.wire) refl
 
-    sent_on : (plan : ChangePlan) (entries : List Entry) (device : ℕ) (what : Ask) (found : Option SideState) → slice_get slot.sides (device - 1) ≡ found → Slot (sends_on plan entries slot device what found).slot
-    sent_on plan entries device what None there = sides_same slot.sides
-    sent_on plan entries device what (Some side) there =
-        out_by device side there slot.course (course.with_sent slot.course device) (opens (asked_in_fact side.resync what)) (request_for plan entries slot.course.change device (asked_in_fact side.resync what))
+    sent_on : (plan : ChangePlan) (entries : List Entry) (device : ℕ) (what : Ask) → Slot (sends plan entries slot device what).slot
+    sent_on plan entries device what =
+        on_device (sends_pair plan entries device what) device
+        (λ side there. out_by device side there slot.course (course.with_sent slot.course device) (opens (asked_in_fact side.resync what)) (request_for plan entries slot.course.change device (asked_in_fact side.resync what)))
 
     renewed_if : (plan : ChangePlan) (entries : List Entry) (device : ℕ) (side : SideState) → slice_get slot.sides (device - 1) ≡ Some side → (b : Bool) → Slot (with_pair slot device (renews_if b plan entries slot.course side device)).slot
     renewed_if plan entries device side there false = set_side slot.sides (device - 1) side side there (same side.wire)
     renewed_if plan entries device side there true = out_by device side there slot.course (course.with_renewed slot.course device) false (request_for plan entries slot.course.change device ask.Renew)
 
-    renewed_on : (plan : ChangePlan) (entries : List Entry) (device : ℕ) (found : Option SideState) → slice_get slot.sides (device - 1) ≡ found → Slot (renews_on plan entries slot device found).slot
-    renewed_on plan entries device None there = sides_same slot.sides
-    renewed_on plan entries device (Some side) there = renewed_if plan entries device side there (course.may_renew slot.course device)
+    renewed_on : (plan : ChangePlan) (entries : List Entry) (device : ℕ) → Slot (renews plan entries slot device).slot
+    renewed_on plan entries device =
+        on_device (renews_pair plan entries device) device (λ side there. renewed_if plan entries device side there (course.may_renew slot.course device))
 
     due_by : (device link number : ℕ) (side : SideState) → slice_get slot.sides (device - 1) ≡ Some side → (resyncs : Bool) (told : Option Exchange) → due side.wire link number ≡ told
         → Slot (with_pair slot device (receives_due resyncs slot.course side device (handled_at side.wire link told) told)).slot
@@ -79,17 +86,17 @@ module _ (R : WireState → WireState → Type 0) (same : (wire : WireState) →
     due_by device link number side there resyncs (Some exchange) e =
         set_side slot.sides (device - 1) side (record { wire = handled_at side.wire link (Some exchange); resync = _ }) there (heard side.wire link exchange (due_is side.wire link number exchange e))
 
-    received_on : (device link number : ℕ) (found : Option SideState) → slice_get slot.sides (device - 1) ≡ found → Slot (receives_on slot device link number found).slot
-    received_on device link number None there = sides_same slot.sides
-    received_on device link number (Some side) there = due_by device link number side there (awaits_resync (slice_get slot.course.seats (device - 1))) (due side.wire link number) refl
+    received_on : (device link number : ℕ) → Slot (receives slot device link number).slot
+    received_on device link number =
+        on_device (receives_pair device link number) device
+        (λ side there. due_by device link number side there (awaits_resync (slice_get slot.course.seats (device - 1))) (due side.wire link number) refl)
 
     breaks_by : (device : ℕ) (side : SideState) → slice_get slot.sides (device - 1) ≡ Some side → (current : Option ℕ) → Slot (with_pair slot device (breaks_current slot.course side device current)).slot
     breaks_by device side there None = set_side slot.sides (device - 1) side side there (same side.wire)
     breaks_by device side there (Some number) = set_side slot.sides (device - 1) side (cut_off (to_commit slot.course.verdict) side) there (cut side.wire)
 
-    broken_on : (device : ℕ) (found : Option SideState) → slice_get slot.sides (device - 1) ≡ found → Slot (breaks_on slot device found).slot
-    broken_on device None there = sides_same slot.sides
-    broken_on device (Some side) there = breaks_by device side there side.wire.current
+    broken_on : (device : ℕ) → Slot (breaks slot device).slot
+    broken_on device = on_device (breaks_pair device) device (λ side there. breaks_by device side there side.wire.current)
 
   -- ---- all change sets
 
@@ -116,11 +123,16 @@ module _ (R : WireState → WireState → Type 0) (same : (wire : WireState) →
     pub submitted_so : (change : ℕ) → After (submitted plans state change)
     submitted_so change = submitted_by_so change (slice_get plans (change - 1))
 
-    sent_so : (change : ℕ) (plan : Option ChangePlan) (found : Option SlotState) → slice_get state.slots (change - 1) ≡ found → (device : ℕ) (what : Ask) → After (sent_by state change plan found device what)
-    sent_so change None found there device what = slots_same state.slots
-    sent_so change (Some plan) None there device what = slots_same state.slots
-    sent_so change (Some plan) (Some slot) there device what =
-        set_slot state.slots (change - 1) slot (sends plan state.entries slot device what).slot there (sent_on slot plan state.entries device what (slice_get slot.sides (device - 1)) refl)
+    -- a step for a device of a change set, where it is there
+    on_change : (step : CourseState → SideState → PairStep) (change device : ℕ)
+        → ((slot : SlotState) → Sides slot.sides (on_side step slot device (slice_get slot.sides (device - 1))).slot.sides) → After (on_slot step state change device (slot_at state change))
+    on_change step change device goes =
+        slot_reached step state change device After (slots_same state.slots)
+        (λ slot there. set_slot state.slots (change - 1) slot (on_side step slot device (slice_get slot.sides (device - 1))).slot there (goes slot))
+
+    sent_so : (change : ℕ) (plan : Option ChangePlan) (device : ℕ) (what : Ask) → After (sent_by state change plan (slot_at state change) device what)
+    sent_so change None device what = slots_same state.slots
+    sent_so change (Some plan) device what = on_change (sends_pair plan state.entries device what) change device (λ slot. sent_on slot plan state.entries device what)
 
     decided_so : (change : ℕ) (v : Verdict) (found : Option SlotState) → slice_get state.slots (change - 1) ≡ found → After (decided_by state change v found)
     decided_so change v None there = slots_same state.slots
@@ -130,7 +142,7 @@ module _ (R : WireState → WireState → Type 0) (same : (wire : WireState) →
 
     acted_so : (change : ℕ) (what : NextAction) → After (acts plans state change what)
     acted_so change next.Wait = slots_same state.slots
-    acted_so change (next.Send device what) = sent_so change (slice_get plans (change - 1)) (slot_at state change) refl device what
+    acted_so change (next.Send device what) = sent_so change (slice_get plans (change - 1)) device what
     acted_so change (next.Decide v) = decided_so change v (slot_at state change) refl
     acted_so change (next.Finish kept) = enters_so (Ended change kept) _ (with_entry state (Ended change kept)) (slots_same state.slots)
 
@@ -141,20 +153,11 @@ module _ (R : WireState → WireState → Type 0) (same : (wire : WireState) →
     pub turned_so : (change : ℕ) → After (turned plans state change)
     turned_so change = cond_both (is_ready_in state.entries change) (turned_by plans state change (slot_at state change)) (idle state) After (λ _. turned_by_so change (slot_at state change)) (λ _. slots_same state.slots)
 
-    received_by_so : (change device link number : ℕ) (found : Option SlotState) → slice_get state.slots (change - 1) ≡ found → After (received_by state change device link number found)
-    received_by_so change device link number None there = slots_same state.slots
-    received_by_so change device link number (Some slot) there =
-        set_slot state.slots (change - 1) slot (receives slot device link number).slot there (received_on slot device link number (slice_get slot.sides (device - 1)) refl)
-
     pub received_so : (change device link number : ℕ) → After (received state change device link number)
-    received_so change device link number = received_by_so change device link number (slot_at state change) refl
-
-    broken_by_so : (change device : ℕ) (found : Option SlotState) → slice_get state.slots (change - 1) ≡ found → After (broken_by state change device found)
-    broken_by_so change device None there = slots_same state.slots
-    broken_by_so change device (Some slot) there = set_slot state.slots (change - 1) slot (breaks slot device).slot there (broken_on slot device (slice_get slot.sides (device - 1)) refl)
+    received_so change device link number = on_change (receives_pair device link number) change device (λ slot. received_on slot device link number)
 
     pub broken_so : (change device : ℕ) → After (manager.broken state change device)
-    broken_so change device = broken_by_so change device (slot_at state change) refl
+    broken_so change device = on_change (breaks_pair device) change device (λ slot. broken_on slot device)
 
     forgotten_by_so : (change : ℕ) (plan : Option ChangePlan) (found : Option SlotState) → slice_get state.slots (change - 1) ≡ found → After (forgotten_by state change plan found)
     forgotten_by_so change None found there = slots_same state.slots
@@ -166,15 +169,13 @@ module _ (R : WireState → WireState → Type 0) (same : (wire : WireState) →
     forgotten_so change = cond_both (is_started change state.entries && not (is_ended_in change state.entries)) (forgotten_by state change (slice_get plans (change - 1)) (slot_at state change)) (idle state) After
         (λ _. forgotten_by_so change (slice_get plans (change - 1)) (slot_at state change) refl) (λ _. slots_same state.slots)
 
-    renewed_by_so : (change device : ℕ) (plan : Option ChangePlan) (found : Option SlotState) → slice_get state.slots (change - 1) ≡ found → After (renewed_by state change device plan found)
-    renewed_by_so change device None found there = slots_same state.slots
-    renewed_by_so change device (Some plan) None there = slots_same state.slots
-    renewed_by_so change device (Some plan) (Some slot) there =
-        set_slot state.slots (change - 1) slot (renews plan state.entries slot device).slot there (renewed_on slot plan state.entries device (slice_get slot.sides (device - 1)) refl)
+    renewed_by_so : (change device : ℕ) (plan : Option ChangePlan) → After (renewed_by state change device plan (slot_at state change))
+    renewed_by_so change device None = slots_same state.slots
+    renewed_by_so change device (Some plan) = on_change (renews_pair plan state.entries device) change device (λ slot. renewed_on slot plan state.entries device)
 
     pub renewed_so : (change device : ℕ) → After (renewed plans state change device)
     renewed_so change device = cond_both (is_ready_in state.entries change) (renewed_by state change device (slice_get plans (change - 1)) (slot_at state change)) (idle state) After
-        (λ _. renewed_by_so change device (slice_get plans (change - 1)) (slot_at state change) refl) (λ _. slots_same state.slots)
+        (λ _. renewed_by_so change device (slice_get plans (change - 1))) (λ _. slots_same state.slots)
 
     -- a list that is shorter than that of the slots can't be: there is a plan for each
     anew_so : (base : ℕ) (ps : List ChangePlan) (slots : List SlotState) → ((j : ℕ) → is_some (slice_get slots j) ≡ true → is_some (slice_get ps j) ≡ true) → Slots slots (start_anew state.entries base ps slots)

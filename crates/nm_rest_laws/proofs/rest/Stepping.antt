@@ -21,8 +21,8 @@ use Rattle.nm_wire.specs.declared.link.Way.TheVariants.{Quiet, Asked, Told}
 use Rattle.nm_wire.specs.Asks.{ask_of}
 use Rattle.nm_wire.specs.Link.{LinkState, session_of, handled_on, handled_by, ends}
 use Rattle.nm_wire.specs.Wire.{WireState, link_at, current_link, handled_at, due, changed}
-use Rattle.nm_manager.specs.Slot.{SideState, SlotState, with_pair, asked_in_fact, is_resync, awaits_resync, receives_due, receives_on, breaks_current, breaks_on, cut_off, to_commit}
-use Rattle.nm_manager.specs.Manager.{ManagerState, received, received_by, broken_by}
+use Rattle.nm_manager.specs.Slot.{SideState, SlotState, with_pair, asked_in_fact, is_resync, awaits_resync, receives_due, breaks_current, cut_off, to_commit, on_side, receives_pair, breaks_pair}
+use Rattle.nm_manager.specs.Manager.{ManagerState, received, on_slot}
 use Rattle.nm_world.specs.World.{Setting, CoreState, manager_in, breaking, answering, is_session_open}
 use Rattle.nm_safety.specs.Step.{GoesWith, current_ask}
 use Rattle.nm_safety.proofs.Links.{did_handled}
@@ -86,9 +86,9 @@ module _ {Config TheEdit Node : Type 0} (m : Meaning Config TheEdit Node) (setti
     new_r = r;
     verdict = ap (λ c. c.verdict) same;
     seats = ap (λ c. c.seats) same;
-    slots = ap (λ o. (broken_by state change device o).state.slots) there ∙ ap (λ o. slice_set w.slots (change - 1) (breaks_on slot device o).slot) at
+    slots = ap (λ o. (on_slot (breaks_pair device) state change device o).state.slots) there ∙ ap (λ o. slice_set w.slots (change - 1) (on_side (breaks_pair device) slot device o).slot) at
         ∙ ap (λ c. slice_set w.slots (change - 1) (with_pair slot device (breaks_current slot.course side device c)).slot) cur;
-    entries = ap (λ o. (broken_by state change device o).state.entries) there;
+    entries = ap (λ o. (on_slot (breaks_pair device) state change device o).state.entries) there;
     operators = refl;
     devices = sym (set_same w.devices (device - 1) r has);
     falls = let low = broken_less (is_held r) (is_modified r.device.stores) slot.course.verdict (to_commit slot.course.verdict) seat.stage in
@@ -129,7 +129,7 @@ module _ {Config TheEdit Node : Type 0} (m : Meaning Config TheEdit Node) (setti
 
     slots_as : (b : Bool) → awaits_resync (Some seat) ≡ b → (received state change device number k).state.slots ≡ slice_set w.slots (change - 1) (with_pair slot device (receives_due b slot.course side device handled_wire (Some exchange))).slot
     slots_as b is =
-        ap (λ o. (received_by state change device number k o).state.slots) there ∙ ap (λ o. slice_set w.slots (change - 1) (receives_on slot device number k o).slot) at
+        ap (λ o. (on_slot (receives_pair device number k) state change device o).state.slots) there ∙ ap (λ o. slice_set w.slots (change - 1) (on_side (receives_pair device number k) slot device o).slot) at
         ∙ ap (λ o. slice_set w.slots (change - 1) (with_pair slot device (receives_due (awaits_resync o) slot.course side device (handled_at side.wire number (due side.wire number k)) (due side.wire number k))).slot) here
         ∙ ap (λ o. slice_set w.slots (change - 1) (with_pair slot device (receives_due (awaits_resync (Some seat)) slot.course side device (handled_at side.wire number o) o)).slot) due_now
         ∙ ap (λ b. slice_set w.slots (change - 1) (with_pair slot device (receives_due b slot.course side device handled_wire (Some exchange))).slot) is
@@ -210,7 +210,7 @@ module _ {Config TheEdit Node : Type 0} (m : Meaning Config TheEdit Node) (setti
       verdict = verdict;
       seats = seats;
       slots = slots_as b is ∙ ap (λ s. slice_set w.slots (change - 1) s) slot_is;
-      entries = ap (λ o. (received_by state change device number k o).state.entries) there;
+      entries = ap (λ o. (on_slot (receives_pair device number k) state change device o).state.entries) there;
       operators = refl;
       devices = sym (set_same w.devices (device - 1) r has);
       falls = subst (λ o. suc (link_rank v stage None now r (current_link handled_wire)) ≤ link_rank v seat.stage seat.awaited side.resync r o) (sym current_is)

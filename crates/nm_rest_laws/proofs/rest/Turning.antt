@@ -32,8 +32,8 @@ use Rattle.nm_wire.specs.Wire.{current_link}
 use Rattle.nm_manager.specs.declared.action.Action.TheVariants as action
 use Rattle.nm_manager.specs.Requests.{request_for}
 use Rattle.nm_manager.specs.Queues.{is_ready_in}
-use Rattle.nm_manager.specs.Slot.{SideState, SlotState, with_pair, with_wire, asked_in_fact, asked_on, opens, may_go, gone, number_of, sends_if, sends_request, sends_on, sends, decided}
-use Rattle.nm_manager.specs.Manager.{ManagerState, Step, idle, slot_at, with_slot, with_entry, enters, sent_by, decided_by, acts, turned_by, turned, request_by, request_of, request_after, request_next}
+use Rattle.nm_manager.specs.Slot.{SideState, SlotState, with_pair, with_wire, asked_in_fact, opens, may_go, gone, number_of, sends_if, sends_request, sends, decided, on_side, sends_pair}
+use Rattle.nm_manager.specs.Manager.{ManagerState, Step, idle, slot_at, with_slot, with_entry, enters, sent_by, decided_by, acts, turned_by, turned}
 use Rattle.nm_world.specs.declared.happened.Happened.TheVariants as happened
 use Rattle.nm_world.specs.World.{Setting, CoreState, manager_in, with_manager, happened_of, elementary}
 use Rattle.nm_world.specs.Drain.{goes_on}
@@ -46,7 +46,7 @@ use Rattle.nm_safety.proofs.Entries.{ready_is_open, ready_is_started}
 use Rattle.nm_safety.proofs.Managed.{kept_here}
 use Rattle.nm_rest_laws.specs.Rest.{IsWithin}
 use Rattle.nm_rest_laws.specs.Steady.{is_right, IsSteady, IsRightSeat, IsAble}
-use Rattle.nm_rest_laws.proofs.rest.Ready.{both}
+use Rattle.nm_safety.proofs.Tables.{both}
 use Rattle.nm_rest_laws.proofs.rest.Able as able_proofs
 use Rattle.nm_rest_laws.proofs.rest.Able.{long}
 use Rattle.nm_rest_laws.proofs.rest.Lasting.{IsLasting}
@@ -174,10 +174,6 @@ module _ {Config TheEdit Node : Type 0} (m : Meaning Config TheEdit Node) (setti
   step_is what e =
       ap (λ b. cond b (turned_by setting.plans state change (slot_at state change)) (idle state)) ready ∙ ap (turned_by setting.plans state change) there ∙ ap (acts setting.plans state change) e
 
-  happened_is : (what : NextAction) → next_action slot.course ≡ what → request_next setting.plans state change ≡ request_of setting.plans state change what
-  happened_is what e =
-      ap (λ b. cond b (request_after setting.plans state change (slot_at state change)) None) ready ∙ ap (request_after setting.plans state change) there ∙ ap (request_of setting.plans state change) e
-
   -- ---- a request
 
   module _ (device : ℕ) (what : Ask) (e : next_action slot.course ≡ next.Send device what) where
@@ -191,7 +187,7 @@ module _ {Config TheEdit Node : Type 0} (m : Meaning Config TheEdit Node) (setti
     found = request_for plan w.entries slot.course.change device (asked_in_fact h.side.resync what)
 
     sends_is : sends plan w.entries slot device what ≡ with_pair slot device (sends_request (opens (asked_in_fact h.side.resync what)) device slot.course (course.with_sent slot.course device) h.side found)
-    sends_is = ap (sends_on plan w.entries slot device what) h.at
+    sends_is = ap (on_side (sends_pair plan w.entries device what) slot device) h.at
 
     sent_now : is_sent (with_pair slot device (sends_request (opens (asked_in_fact h.side.resync what)) device slot.course (course.with_sent slot.course device) h.side found)).action ≡ true
     sent_now = ap (λ one. is_sent one.action) (sym sends_is) ∙ (sent_stays change (devices_in plan.edits) w.entries slot in_step plan (each_planned (length w.devices) count plan within) device what e).sent
@@ -209,26 +205,21 @@ module _ {Config TheEdit Node : Type 0} (m : Meaning Config TheEdit Node) (setti
       happens = λ idle_now. absurd (let f : happened.Sent device (link_number request) request ≡ happened.Idle = sym happens_is ∙ idle_now in cc);
     }
       where
-        goes_is : sends plan w.entries slot device what ≡ with_pair slot device (sends_if true device slot.course (course.with_sent slot.course device) h.side (gone new h.side.wire request))
+        goes_is : sends plan w.entries slot device what ≡ with_pair slot device (sends_if true new device slot.course (course.with_sent slot.course device) h.side request)
         goes_is =
             sends_is ∙ ap (λ o. with_pair slot device (sends_request new device slot.course (course.with_sent slot.course device) h.side o)) is
-            ∙ ap (λ b. with_pair slot device (sends_if b device slot.course (course.with_sent slot.course device) h.side (gone new h.side.wire request))) may
+            ∙ ap (λ b. with_pair slot device (sends_if b new device slot.course (course.with_sent slot.course device) h.side request)) may
 
         all : step ≡ record {
-          action = action.Sent device (link_number request);
+          action = action.Sent device (link_number request) request;
           state = with_slot state change (record { course = course.with_sent slot.course device; sides = slice_set slot.sides (device - 1) (with_wire h.side (gone new h.side.wire request)) });
         }
         all =
             step_is (next.Send device what) e ∙ ap (λ o. sent_by state change o (slot_at state change) device what) planned ∙ ap (λ o. sent_by state change (Some plan) o device what) there
             ∙ ap (λ one. let s : Step = record { action = one.action; state = with_slot state change one.slot } in s) goes_is
 
-        request_is : request_next setting.plans state change ≡ Some request
-        request_is =
-            happened_is (next.Send device what) e ∙ ap (λ o. request_by state o (slot_at state change) device what) planned ∙ ap (λ o. request_by state (Some plan) o device what) there
-            ∙ ap (asked_on plan w.entries slot device what) h.at ∙ is
-
         happens_is : (elementary m setting w (Turn change)).happened ≡ happened.Sent device (link_number request) request
-        happens_is = ap (λ (s : Step). happened_of s.action (request_next setting.plans state change)) all ∙ ap (happened_of (action.Sent device (link_number request))) request_is
+        happens_is = ap (λ (s : Step). happened_of s.action) all
 
     is_sent_now : IsSent m setting w change
     is_sent_now = went_out slot device new slot.course (course.with_sent slot.course device) h.side found sent_now (IsSent m setting w change) went
@@ -243,7 +234,7 @@ module _ {Config TheEdit Node : Type 0} (m : Meaning Config TheEdit Node) (setti
     decision = v;
     undecided = none;
     after_is = ap (λ (s : Step). with_manager w s.state) all;
-    happens = λ idle_now. absurd (let f : happened.Decided v ≡ happened.Idle = sym (ap (λ (s : Step). happened_of s.action (request_next setting.plans state change)) all) ∙ idle_now in cc);
+    happens = λ idle_now. absurd (let f : happened.Decided v ≡ happened.Idle = sym (ap (λ (s : Step). happened_of s.action) all) ∙ idle_now in cc);
   }
     where
       all : step ≡ record { action = action.Decided v; state = with_slot (with_entry state (Decided change v)) change (decided slot v) }
@@ -310,7 +301,7 @@ module _ {Config TheEdit Node : Type 0} (m : Meaning Config TheEdit Node) (setti
   ended_now kept e is = record {
     kept = kept;
     after_is = ap (λ (s : Step). with_manager w s.state) all;
-    happens = λ idle_now. absurd (let f : happened.Ended ≡ happened.Idle = sym (ap (λ (s : Step). happened_of s.action (request_next setting.plans state change)) all) ∙ idle_now in cc);
+    happens = λ idle_now. absurd (let f : happened.Ended ≡ happened.Idle = sym (ap (λ (s : Step). happened_of s.action) all) ∙ idle_now in cc);
   }
     where
       decided_there : is_some (verdict_in change w.entries) ≡ true

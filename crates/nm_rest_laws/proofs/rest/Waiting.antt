@@ -16,7 +16,7 @@ use Rattle.nm_decider.specs.Course.{CourseState, next_action, action_by, send_of
 use Rattle.nm_decider.specs.Rightly.{IsStuck}
 use Rattle.nm_decider.proofs.Actions.{waits_rightly}
 use Rattle.nm_rest_laws.specs.Steady.{is_right, is_live}
-use Rattle.nm_rest_laws.proofs.rest.Ready.{both}
+use Rattle.nm_safety.proofs.Tables.{both}
 use Rattle.nm_rest_laws.proofs.rest.Able.{listed}
 
 -- ---- who is right and quiet has a next request

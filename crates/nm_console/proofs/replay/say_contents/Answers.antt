@@ -1,7 +1,7 @@
 use Rattle.std.proofs.Common.{◌*◌, ◌^◌, ◌∙◌, Err, IfOk, length, ap, sym, subst, arith}
 use Rattle.std.specs.List.{All}
 use Rattle.nm_world.specs.Runs.{IsBetween, IsNumbered}
-use Rattle.nm_world.specs.World.{WorldValue, journal_of}
+use Rattle.nm_world.specs.World.{WorldValue, fresh_world, journal_of}
 use Rattle.nm_disk.specs.Image.{AnyMoment}
 use Rattle.nm_journal.specs.Fits.{Fits}
 use Rattle.nm_console.specs.Console.{TellsLast, led_to, world_told}
@@ -12,7 +12,7 @@ use Rattle.nm_console.proofs.replay.say_contents.Goals as goal
 
 pub say_run-requires-clause-given : goal.say_run-requires-clause-given
 say_run-requires-clause-given g c =
-    subst (λ (w : WorldValue _ _ _ _). All (IsNumbered (length w.setting.plans)) c.args.events.now) (sym c.in_ok-world-in-Ok.ensures.begun) c.requires.given
+    subst (λ (w : WorldValue _ _ _ _). All (IsNumbered (length w.setting.plans)) c.args.events.now) (sym (c.in_ok-world-in-Ok.ensures.begun ∙ ap fresh_world c.in_ok-setup-in-Ok.ensures)) c.requires.given
 
 pub say_run-requires-clause-in_time : goal.say_run-requires-clause-in_time
 say_run-requires-clause-in_time g c = c.in_ok-world-in-Ok.ensures.in_time (2 ^ 32 * length c.args.events.now) (let few = c.requires.few_events in omega (arith, few))
@@ -34,13 +34,13 @@ returns-in_ok-world-in-Ok-clause-told g c =
     let after = (g.D.Disk.state c.say_run.new.disk).contents in
     run_told _ _ c.args.events.now (g.D.Disk.state c.args.disk.now).contents after mid c.say_run.result c.in-Ok.ensures.empty (λ there. c.fresh.ensures.keeps.tells ∙ there)
     (subst (λ (w : WorldValue _ _ _ _). IfOk c.say_run.result (λ said. TellsLast (world_told (g.C.Show.shown w.content) c.args.trace w.setting) (led_to (g.C.Content.meaning w.content) w.setting c.args.events.now c.args.drain w.state) c.args.events.now mid after said.status said.text.items))
-    c.in_ok-world-in-Ok.ensures.begun c.say_run.ensures.told)
+    (c.in_ok-world-in-Ok.ensures.begun ∙ ap fresh_world c.in_ok-setup-in-Ok.ensures) c.say_run.ensures.told)
 
 pub returns-in_ok-world-in-Ok-clause-any_moment : goal.returns-in_ok-world-in-Ok-clause-any_moment
 returns-in_ok-world-in-Ok-clause-any_moment g c = λ there empty.
     run_so (g.D.Disk.state c.args.disk.now) (g.D.Disk.state c.fresh.new.disk) (g.D.Disk.state c.say_run.new.disk) _ (c.fresh.ensures.any_moment_empty there empty)
     (subst (λ (w : WorldValue _ _ _ _). AnyMoment (g.D.Disk.state c.fresh.new.disk) (g.D.Disk.state c.say_run.new.disk) (IsBetween w.state.entries (led_to (g.C.Content.meaning w.content) w.setting c.args.events.now c.args.drain w.state).entries))
-    c.in_ok-world-in-Ok.ensures.begun (c.say_run.ensures.any_moment (c.fresh.ensures.keeps.tells ∙ there)))
+    (c.in_ok-world-in-Ok.ensures.begun ∙ ap fresh_world c.in_ok-setup-in-Ok.ensures) (c.say_run.ensures.any_moment (c.fresh.ensures.keeps.tells ∙ there)))
 
 pub returns-in-Err-clause-told : goal.returns-in-Err-clause-told
 returns-in-Err-clause-told g c =

@@ -1,17 +1,52 @@
-use Rattle.std.proofs.Common.{◌-◌, slice_get}
-use Rattle.nm_world.specs.World.{losing_at}
-use Rattle.nm_world.proofs.Staging.{met_so}
+use Rattle.std.proofs.Common.{◌≡◌, ◌-◌, ◌≤◌, ◌<◌, ◌∙◌, None, length, slice_get, ap, sym, subst, arith}
+use Rattle.std.proofs.lemmas.Option.{slice_get_past}
+use Rattle.std.proofs.lemmas.List.{length-set}
+use Rattle.nm_world.specs.World.{CoreValue, SetupState, losing_at}
+use Rattle.nm_world.proofs.Clocks.{time_kept, time_stays}
+use Rattle.nm_world.proofs.Staging.{comes_met, none_met, sound_after, sound_there}
 use Rattle.nm_world.proofs.world_core.WorldCore.lose.Goals as goal
+
+pub lose_on-requires-clause-given : goal.lose_on-requires-clause-given
+lose_on-requires-clause-given g c = subst (λ (w : CoreValue _ _ _ _). c.args.change ≤ length w.setting.plans) (sym c.self.view_is) c.requires.given
+
+pub lose_on-requires-clause-sound : goal.lose_on-requires-clause-sound
+lose_on-requires-clause-sound g c =
+    let s = c.self.inside in
+    let within : c.place_of-place.result < length s.devices.items = omega (arith, c.if-place-len.false, c.len.ensures) in
+    let same = c.content.ensures ∙ ap (λ (u : SetupState _ _ _). u.content) c.deref-setup.ensures in
+    sound_there g.C.Content.meaning c.content.result.now s.setup.value.content same s.devices.items c.place_of-place.result c.index_mut.result.now within c.index_mut.ensures.value c.self.invariant.0
+
+pub invariant_of-self : goal.invariant_of-self
+invariant_of-self g c =
+    let s = c.self.inside in
+    let same = c.content.ensures ∙ ap (λ (u : SetupState _ _ _). u.content) c.deref-setup.ensures in (
+      sound_after g.C.Content.meaning c.content.result.now s.setup.value.content same s.devices.items c.place_of-place.result c.lose_on.new.device c.self.invariant.0 c.lose_on.ensures.sound,
+      subst (λ n. n ≤ 32) (sym (length-set s.devices.items c.place_of-place.result c.lose_on.new.device)) c.self.invariant.1,
+    )
 
 pub returns-clause-came : goal.returns-clause-came
 returns-clause-came g c =
     let s = c.self.inside in
-    rw (← c.self.view_is) (met_so s.content s.tables s.users s.has_diverged c.in_ok-happened.happened s.devices.items c.lose_at.new.devices.items s.manager c.lose_at.new.manager s.operators.items c.args.device
-    (losing_at (g.C.Content.meaning s.content) s.manager.state c.args.change c.args.device c.args.link (slice_get s.devices.items (c.args.device - 1)))
-    c.in_ok-happened.ensures.met)
+    let within : c.place_of-place.result < length s.devices.items = omega (arith, c.if-place-len.false, c.len.ensures) in
+    let same = c.content.ensures ∙ ap (λ (u : SetupState _ _ _). u.content) c.deref-setup.ensures in
+    let state = s.manager.state in
+    rw (← c.self.view_is) (comes_met s.setup.value s.has_diverged c.lose_on.result s.devices.items c.place_of-place.result c.args.device c.index_mut.result.now c.lose_on.new.device s.manager c.lose_on.new.manager s.operators.items
+    (losing_at (g.C.Content.meaning c.content.result.now) state c.args.change c.args.device c.args.link) (losing_at (g.C.Content.meaning s.setup.value.content) state c.args.change c.args.device c.args.link)
+    (ap (λ x. losing_at (g.C.Content.meaning x) state c.args.change c.args.device c.args.link) same)
+    c.place_of-place.ensures within c.index_mut.ensures.value c.lose_on.ensures.met c.lose_on.ensures.unchanged c.lose_on.ensures.manager_unchanged)
 
 pub returns-clause-time : goal.returns-clause-time
-returns-clause-time g c = rw (← c.self.view_is) c.lose_at.ensures.time
+returns-clause-time g c =
+    let s = c.self.inside in
+    let within : c.place_of-place.result < length s.devices.items = omega (arith, c.if-place-len.false, c.len.ensures) in
+    rw (← c.self.view_is) (time_kept s.devices.items c.place_of-place.result c.index_mut.result.now c.lose_on.new.device within c.index_mut.ensures.value c.lose_on.ensures.clock)
 
-pub returns-in_err-happened-clause-time : goal.returns-in_err-happened-clause-time
-returns-in_err-happened-clause-time g c = rw (← c.self.view_is) c.lose_at.ensures.time
+pub returns-then-place-len-clause-came : goal.returns-then-place-len-clause-came
+returns-then-place-len-clause-came g c =
+    let s = c.self.inside in
+    let past : slice_get s.devices.items (c.args.device - 1) ≡ None =
+    slice_get_past s.devices.items (c.args.device - 1) (omega (arith, c.if-place-len.true, c.len.ensures, c.place_of-place.ensures)) in
+    rw (← c.self.view_is) (none_met s.setup.value s.has_diverged s.manager s.devices.items s.operators.items c.args.device _ (ap (losing_at (g.C.Content.meaning s.setup.value.content) s.manager.state c.args.change c.args.device c.args.link) past))
+
+pub returns-then-place-len-clause-time : goal.returns-then-place-len-clause-time
+returns-then-place-len-clause-time g c = rw (← c.self.view_is) (time_stays c.self.inside.devices.items)
