@@ -1,3 +1,5 @@
+//! Configurations: rows that come again, and rows between others.
+
 use crate::path::{keyed, path_in};
 use crate::tree::{holds, sample};
 use nm_config::{Config, get};

@@ -1,4 +1,4 @@
-//! Tests of module text, schema trees, paths and configurations that no command can show: the tables of `netm_rows` have the others.
+//! Tests of YANG modules, data and contents, of what no command tells; the rest are rows of `netm_rows`.
 //!
 //! They stand apart from the crates that they test, since a crate's functions are proved once more with its tests. Values that own
 //! memory are given to `drop`, and a want of memory ends a test at once: so a function that holds some has one end, at one call.
@@ -6,6 +6,8 @@
 
 #[cfg(test)]
 mod config;
+#[cfg(test)]
+mod content;
 #[cfg(test)]
 mod path;
 #[cfg(test)]
@@ -15,4 +17,8 @@ mod text_laws;
 #[cfg(test)]
 mod texts;
 #[cfg(test)]
+mod threads;
+#[cfg(test)]
 mod tree;
+#[cfg(test)]
+mod types;

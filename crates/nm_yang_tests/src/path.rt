@@ -1,3 +1,5 @@
+//! Paths: their texts and nodes, and the order of their steps.
+
 use crate::tree::{holds, label, sample};
 use nm_path::{PathFault, laws, node_of, read_path, write_path};
 use nm_schema_tree::Schema;

@@ -3,7 +3,7 @@ use Rattle.nm_schema_tree.specs.Nodes.{SchemaTree}
 use Rattle.nm_path.specs.Sound.{HaveHeldBounds}
 use Rattle.nm_json.specs.Configs.{IsConfigOf}
 use Rattle.nm_validate_rules.proofs.Configs.{config_stands}
-use Rattle.nm_content_tests.proofs.content.config_of.Goals as goal
+use Rattle.nm_yang_tests.proofs.content.config_of.Goals as goal
 
 -- what is read by a schema tree stands in it
 pub lift-requires-clause-stands : goal.lift-requires-clause-stands
