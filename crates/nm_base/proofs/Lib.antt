@@ -1,3 +1,4 @@
 pub mod Masks
 pub mod Decimals
 pub mod Tokens
+pub mod Heads

@@ -6,3 +6,4 @@ pub mod Mask
 pub mod Tag
 pub mod Decimal
 pub mod Token
+pub mod Head

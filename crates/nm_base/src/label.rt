@@ -1,9 +1,10 @@
 //! Texts that copies share. Names, paths and tokens are such, so that the copy of a row takes no bytes for them.
 
-ghost use Rattle.std.specs.Prelude.{◌≡◌, ◌↔◌, List, ℕ, IsTrue, IfOk, Some, nat_eq, refl};
+ghost use Rattle.std.specs.Prelude.{◌≡◌, ◌↔◌, ◌<◌, List, ℕ, IsTrue, IfOk, Some, get_or, nat_eq, refl};
 ghost use Rattle.std.specs.Cmp.Lexicographic.{pointwise, slice_cmp, nat_list_eq_equiv, nat_list_cmp_total, texts_ties, texts_po};
 ghost use Rattle.std.specs.Ordering.{nat_cmp};
 ghost use Rattle.std.specs.Cmp;
+ghost use Rattle.nm_base.specs.Head.{IsHead};
 
 use crate::fault::NoMemory;
 use std::alloc::{AllocError, Global};
@@ -13,18 +14,47 @@ use std::marker::Model;
 use std::sync::ArcStr;
 
 /// A text of UTF-8, of any length in bytes. Its copies share the bytes.
+///
+/// Beside them stand its first eight bytes as a number, so that most comparisons look at no byte.
 #[derive(Drop)]
 pub struct Label {
     text: ArcStr,
+    head: u64,
 }
 
 impl Model for Label {
     ghost use Rattle.std.specs.Prelude.{List, ℕ};
     ghost use Rattle.std.specs.Arc.{arc_str_bytes};
+    ghost use Rattle.nm_base.specs.Head.{IsHead};
 
     ghost Value = { List ℕ };
 
     ghost view = { λ label. arc_str_bytes label.text };
+
+    ghost invariant = { λ label. IsHead 8 0 (arc_str_bytes label.text) label.head };
+}
+
+// The byte at a place, and 0 past the end.
+fn byte_at(bytes: &[u8], place: usize) -> u64
+    ensures value { result ≡ get_or bytes.now place 0 }
+    ensures small { result < 256 }
+{
+    match bytes.get(place) {
+        Some(byte) => u64::from(*byte),
+        None => 0,
+    }
+}
+
+// The first eight bytes as a number.
+fn head_of(text: &str) -> u64
+    ensures { IsHead 8 0 text.now result }
+{
+    let bytes = text.as_bytes();
+    let mut head = 0u64;
+    for place in 0..8 {
+        head = head * 256 + byte_at(bytes, place);
+    }
+    head
 }
 
 impl Label {
@@ -34,6 +64,7 @@ impl Label {
     {
         Ok(Label {
             text: ArcStr::from_str(alloc, text)?,
+            head: head_of(text),
         })
     }
 
@@ -55,7 +86,7 @@ impl Label {
     pub fn same(&self, other: &Label) -> bool
         ensures { IsTrue result ↔ (self.now ≡ other.now) }
     {
-        self.as_str() == other.as_str()
+        self.head == other.head && self.as_str() == other.as_str()
     }
 }
 
@@ -66,6 +97,7 @@ impl Clone for Label {
     fn clone(&self) -> Result<Label, AllocError> {
         Ok(Label {
             text: self.text.clone()?,
+            head: self.head,
         })
     }
 }
@@ -76,7 +108,7 @@ impl PartialEq for Label {
     ghost laws = { Cmp.partial_equiv_from_equiv nat_list_eq_equiv };
 
     fn eq(&self, other: &Label) -> bool {
-        self.as_str() == other.as_str()
+        self.head == other.head && self.as_str() == other.as_str()
     }
 }
 
@@ -105,6 +137,9 @@ impl Ord for Label {
     ghost matches_eq = { texts_ties };
 
     fn cmp(&self, other: &Label) -> Ordering {
+        if self.head != other.head {
+            return self.head.cmp(&other.head);
+        }
         self.as_str().cmp(other.as_str())
     }
 }

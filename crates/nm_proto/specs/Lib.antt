@@ -1,4 +1,4 @@
--- Messages, plans and faults; what a content is; and flat contents, with the laws that make them one.
+-- Messages, plans and faults, and what a content is.
 pub mod Message
 pub mod Plan
 pub mod Kind

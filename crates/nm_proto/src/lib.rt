@@ -1,8 +1,8 @@
-//! What managers and devices say to each other, what a journal and a plan hold, what is planned to go wrong, what a
-//! content is, and the flat contents.
+//! What managers and devices say to each other, what a journal and a plan hold, what is planned to go wrong, and what a
+//! content is.
 //!
-//! Stands on `nm_base`. The layers above rely on copies and comparisons of messages as equations, on
-//! `Content` with its meaning and its laws, and on flat configurations as finite maps.
+//! Stands on `nm_base`. The layers above rely on copies and comparisons of messages as equations, and on
+//! `Content` with its meaning and its laws.
 #![tactic(auto)]
 
 pub mod ask;
@@ -21,5 +21,5 @@ pub use fault::{PLAN_LIMIT, PlanEntry, PlanFault};
 pub use journal::{AbortCause, Entry, Verdict};
 pub use kind::ScenarioKind;
 pub use listed::Listed;
-pub use message::{DefaultOperation, Marks, Reply, Request, RequestWord, Store};
+pub use message::{DefaultOperation, Marks, Reply, Request, RequestWord, RowAccess, Store};
 pub use plan::{ChangePlan, Event, PlannedEdit};

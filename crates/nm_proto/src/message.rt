@@ -38,6 +38,26 @@ impl DefaultOperation {
     }
 }
 
+/// What an edit does to a row of running, as access rules judge it (RFC 8341 section 3.2.2).
+#[derive(Clone, Copy, PartialEq, Eq)]
+pub enum RowAccess {
+    /// The row comes.
+    Create,
+    /// The row gets another value.
+    Update,
+    /// The row goes.
+    Delete,
+}
+
+impl RowAccess {
+    /// Whether the two are one access.
+    pub fn same(self, other: RowAccess) -> bool
+        ensures { IsTrue result ↔ (self ≡ other) }
+    {
+        self == other
+    }
+}
+
 /// What an edit does to the marks of change sets in a configuration.
 #[derive(Clone, Copy, PartialEq, Eq)]
 pub struct Marks {
