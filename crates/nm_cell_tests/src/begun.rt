@@ -7,12 +7,11 @@ ghost use Rattle.nm_proto.specs.Fault.{IsPlan};
 use crate::play::Row;
 use nm_base::{ChangeNo, DeviceNo, EditNo};
 use nm_cells::{CellState, DeviceCell, Pass, PassOwner};
-use nm_chronicle::{
-    BookShare, CellShare, Chronicle, Phases, RunName, RunPlans, Shares, SlotShares,
-};
+use nm_chronicle::{BookShare, CellShare, Chronicle, Phases, Shares, SlotShares};
 use nm_device::Device;
 use nm_flat::{FlatConfig, FlatContent, FlatEdit, NumberMap};
 use nm_proto::{ChangePlan, Content, DefaultOperation, Listed, PlanEntry, PlannedEdit, Tables};
+use nm_run_plan::{RunName, RunPlans};
 use std::alloc::Global;
 use std::process::Abort;
 use std::sync::Mutex;

@@ -3,8 +3,8 @@
 
 use crate::begun::{Rest, device_of};
 use nm_base::{ChangeNo, DeviceNo};
-use nm_chronicle::RunPlans;
 use nm_proto::{AbortCause, Verdict};
+use nm_run_plan::RunPlans;
 use std::process::Abort;
 use std::sync::Wait;
 

@@ -3,9 +3,9 @@
 use crate::begun::Rest;
 use crate::requests::{commit, label};
 use nm_base::{DeviceNo, SessionId, Tag};
-use nm_chronicle::RunPlans;
 use nm_history::{DeviceEvent, Noted};
 use nm_proto::{Reply, Request};
+use nm_run_plan::RunPlans;
 use std::alloc::Global;
 use std::process::Abort;
 use std::slice;

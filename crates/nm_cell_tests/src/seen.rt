@@ -4,10 +4,11 @@ use crate::begun::{Rest, device_of};
 use crate::play::{halves, is_number};
 use nm_base::{ChangeNo, SessionId};
 use nm_cells::{CellState, Pass};
-use nm_chronicle::{Chronicle, RunName, RunPlans};
+use nm_chronicle::Chronicle;
 use nm_flat::{FlatConfig, FlatContent, FlatEdit};
 use nm_history::{DeviceEvent, Noted};
 use nm_proto::Verdict;
+use nm_run_plan::{RunName, RunPlans};
 use std::process::Abort;
 use std::sync::Wait;
 

@@ -1,6 +1,5 @@
 -- What a served caller finds, whatever the device is.
-use Rattle.std.proofs.Common.{Option, Some, None, ◌≡◌, ℕ, ◌+◌, ◌≤◌, ◌==◌, Bool, true, false, not, ◌&&◌, List, [], ◌∷◌, ◌++◌, drop, position, slice_get, slice_index_or, refl, sym, ap, ◌∙◌, subst, arith, if◌then◌else◌}
-use Rattle.std.specs.Bool.{MatchBool}
+use Rattle.std.proofs.Common.{Option, Some, None, Result, Ok, Err, IfOk, ◌≡◌, ℕ, ◌+◌, ◌≤◌, ◌==◌, Bool, true, false, not, ◌&&◌, List, [], ◌∷◌, ◌++◌, drop, length, position, slice_get, slice_index_or, refl, sym, ap, ◌∙◌, subst, arith, if◌then◌else◌}
 use Rattle.nm_proto.specs.declared.message.Reply.{Reply}
 use Rattle.nm_proto.specs.declared.message.Reply.TheVariants.{Done, Opened, LockId, Mark, Rows, Error}
 use Rattle.std.proofs.lemmas.Bool.Decides.{nat_tests}
@@ -8,13 +7,14 @@ use Rattle.std.proofs.lemmas.List.{append_assoc, append-nil, get_or-drop}
 use Rattle.std.proofs.lemmas.List.Quantifiers.{position-Some}
 use Rattle.std.proofs.lemmas.Option.{same_Some, get_or_from_slice_get}
 use Rattle.std.specs.Str.{bytes_eq}
+use Rattle.nm_base.specs.declared.fault.NoMemory.{NoMemory}
 use Rattle.nm_base.specs.Words.{manager}
 use Rattle.nm_proto.specs.declared.message.Request.{Request}
 use Rattle.nm_proto.specs.Content.{Meaning, TablesState}
 use Rattle.nm_sessions.specs.Sessions.{is_open}
 use Rattle.nm_proto.specs.declared.plan.ChangePlan.{ChangePlan}
-use Rattle.nm_device.specs.Device.{is_manager}
-use Rattle.nm_device.specs.Table.{opening_user}
+use Rattle.nm_device.specs.Device.{DeviceState, is_manager}
+use Rattle.nm_device.specs.Table.{device_step, opened, opening_user, undid}
 use Rattle.nm_chronicle.specs.Shares.{SlotState}
 use Rattle.nm_history.specs.declared.event.DeviceEvent.{DeviceEvent}
 use Rattle.nm_history.specs.declared.event.DeviceEvent.TheVariants.{Entered, Asked, Lost, Advanced, Restarted}
@@ -23,17 +23,17 @@ use Rattle.nm_history.specs.History.{Happened, noted, entering, losing, restarti
 use Rattle.nm_proto.specs.declared.fault.PlanFault.{PlanFault}
 use Rattle.nm_proto.specs.declared.fault.PlanFault.TheVariants.{Drop, Cut, Restart, Advance}
 use Rattle.nm_cells.specs.declared.asked.Asked.{Asked as Told}
-use Rattle.nm_cells.specs.declared.asked.Asked.TheVariants.{Answered, Broken}
+use Rattle.nm_cells.specs.declared.asked.Asked.TheVariants.{Answered}
 use Rattle.nm_cells.specs.declared.pass.PassOwner.{PassOwner}
 use Rattle.nm_cells.specs.declared.pass.PassOwner.TheVariants.{Coordinator, Operator}
 use Rattle.nm_cells.specs.declared.pass.PassEntry.{PassEntry}
 use Rattle.nm_cells.specs.declared.ended.Found.{Found}
 use Rattle.nm_cells.specs.Faults.{due}
-use Rattle.nm_cells.specs.Kept.{KeptState, with_room, kept_after, is_managers, opens}
+use Rattle.nm_cells.specs.Kept.{KeptState, with_room, is_managers, opens}
 use Rattle.nm_cells.specs.Pass.{is_operator}
-use Rattle.nm_cells.specs.Ended.{holds, opened_in, is_kill, by_request, coordinator_knows, operator_knows, found, found_at, found_if, knows, ends, opened_by, end_of, end_from, end_after, lost_nowhere}
-use Rattle.nm_cells.specs.Serve.{prepared, entry_of, Answers, Breaks, Cuts, LosesAfter, ServesManager, ServesOn, OpensManager, ServesBy, Serves, Finds, may_ask, asking, opened_session}
-use Rattle.nm_cells.specs.Asking.{breaks, kills_from_outside, coordinator_finds, is_known, opens_for_other, IsOwn, IsBreaking, FindsBroken, FindsBy}
+use Rattle.nm_cells.specs.Ended.{holds, opened_in, is_kill, coordinator_knows, operator_knows, found, found_at, found_if, knows, ends, opened_by, end_of, end_from, end_after, lost_nowhere, with_found}
+use Rattle.nm_cells.specs.Serve.{prepared, Left, Leaves, entry_of, happens, tells_end, loses, restarts, cut_off, by_fault, manager_enters, asking, manager_asks, asks, serve_by, serve_of, may_ask, opened_session}
+use Rattle.nm_cells.specs.Asking.{breaks, coordinator_finds, is_known, opens_for_other, IsOwn, IsBreaking, FindsBroken, FindsBy}
 use Rattle.nm_cells.specs.State.{may_operate, is_in_turn}
 
 -- ---- what broke a call
@@ -45,15 +45,14 @@ same_test n = grind (arith, nat_tests)
 own_loss : (session other : ℕ) → Some session ≡ Some other → (other == session) ≡ true
 own_loss session other e = subst (λ n. (n == session) ≡ true) (same_Some session other e) (same_test session)
 
--- the session that a reply opened is opened by it
-opened_opens : (reply : Option Reply) (session : ℕ) → opened_session reply ≡ Some session → opens session reply ≡ true
-opened_opens None session e = absurd (let g : None ≡ Some session = e in cc)
-opened_opens (Some Done) session e = absurd (let g : None ≡ Some session = e in cc)
-opened_opens (Some (Opened other)) session e = let same : other ≡ session = same_Some other session e in subst (λ n. (other == n) ≡ true) same (same_test other)
-opened_opens (Some (LockId id)) session e = absurd (let g : None ≡ Some session = e in cc)
-opened_opens (Some (Mark there)) session e = absurd (let g : None ≡ Some session = e in cc)
-opened_opens (Some (Rows count)) session e = absurd (let g : None ≡ Some session = e in cc)
-opened_opens (Some (Error tag holder path)) session e = absurd (let g : None ≡ Some session = e in cc)
+-- the session that a call was told to have opened is opened by its reply
+opened_opens : (position : ℕ) (reply : Reply) (session : ℕ) → opened_session (Answered position reply) ≡ Some session → opens session (Some reply) ≡ true
+opened_opens position Done session e = absurd (let g : None ≡ Some session = e in cc)
+opened_opens position (Opened other) session e = let same : other ≡ session = same_Some other session e in subst (λ n. (other == n) ≡ true) same (same_test other)
+opened_opens position (LockId id) session e = absurd (let g : None ≡ Some session = e in cc)
+opened_opens position (Mark there) session e = absurd (let g : None ≡ Some session = e in cc)
+opened_opens position (Rows count) session e = absurd (let g : None ≡ Some session = e in cc)
+opened_opens position (Error tag holder path) session e = absurd (let g : None ≡ Some session = e in cc)
 
 -- one entry that broke the call
 gained_found : (owner : PassOwner) (event : DeviceEvent) (device position : ℕ) (entries after : List PassEntry) (entry : PassEntry) → opens_for_other event ≡ false → IsBreaking owner device position event entries [] entry → after ≡ entries ++ entry ∷ []
@@ -162,75 +161,84 @@ module _ (owner : PassOwner) (managers : Bool) (device session : ℕ) (entries :
   is_end_at None e = is_end_nowhere
   is_end_at (Some before) e = is_end_entry before (slice_get history before) e refl
 
-module _ {Config TheEdit Node : Type 0} (m : Meaning Config TheEdit Node) (device : ℕ) (owner : PassOwner) where
-  finds_answer : (counts : Bool) (told : Told) (old new : KeptState Config Node) (entries after : List PassEntry) (event : DeviceEvent) (h : Happened Config Node)
-      → Answers counts device told old new entries after event h → FindsBy owner (Some event) told entries after device
-  finds_answer counts (Broken position) old new entries after event h served = absurd served
-  finds_answer counts (Answered position reply) old new entries after event h served =
-      let at = served.position_is in
-      let entry : ℕ → Option Reply → PassEntry = λ p r. record { device = device; position = p; noted = record { event = event; reply = r; undone = h.undone } } in (
-        omega (arith, at),
-        (h.undone, served.pass_is ∙ (ap (λ p. entries ++ entry p h.reply ∷ []) (sym at) ∙ ap (λ r. entries ++ entry position r ∷ []) served.reply_is)),
-      )
+-- ---- what a call leaves
 
-  finds_break : (counts : Bool) (told : Told) (old new : KeptState Config Node) (entries after : List PassEntry) (event other : DeviceEvent) (h : Happened Config Node) → opens_for_other other ≡ false → breaks other [] (noted event h) ≡ true
-      → is_known owner device (entries ++ []) event ≡ true → Breaks counts device told old new entries after event h → FindsBy owner (Some other) told entries after device
-  finds_break counts (Answered position reply) old new entries after event other h managers broke known served = absurd served
-  finds_break counts (Broken position) old new entries after event other h managers broke known served =
-      let at = served.position_is in
-      gained_found owner other device position entries after (entry_of old device event h) managers
-      (record { device_is = refl; position_is = sym at; nowhere = λ e. absurd (omega (arith, at, e)); breaks_it = λ le. broke; known = λ le. known }) served.pass_is
+-- what is answered, and what isn't
+abbrev replied : {Config Node : Type 0} → Reply → Bool → DeviceState Config Node → Happened Config Node
+replied reply undone after = record { reply = Some reply; undone = undone; after = after }
+
+abbrev silent : {Config Node : Type 0} → Bool → DeviceState Config Node → Happened Config Node
+silent undone after = record { reply = None; undone = undone; after = after }
+
+module _ {Config Node : Type 0} (device : ℕ) (owner : PassOwner) where
+  -- the caller finds what a call left
+  abbrev FindsLeft : DeviceEvent → List PassEntry → Left Config Node → Type 0
+  FindsLeft event entries left = FindsBy owner (Some event) left.told entries left.entries device
+
+  finds_answer : (counts : Bool) (kept : KeptState Config Node) (entries : List PassEntry) (event : DeviceEvent) (reply : Reply) (undone : Bool) (after : DeviceState Config Node)
+      → FindsLeft event entries (happens device counts kept entries event (replied reply undone after))
+  finds_answer counts kept entries event reply undone after = (omega arith, (undone, refl))
+
+  finds_break : (counts : Bool) (kept : KeptState Config Node) (entries : List PassEntry) (event other : DeviceEvent) (undone : Bool) (after : DeviceState Config Node) → opens_for_other other ≡ false
+      → breaks other [] (noted event (silent undone after)) ≡ true → is_known owner device (entries ++ []) event ≡ true → FindsLeft other entries (happens device counts kept entries event (silent undone after))
+  finds_break counts kept entries event other undone after managers broke known =
+      gained_found owner other device (length kept.recorded.history + 1) entries (entries ++ entry_of device kept event (silent undone after) ∷ []) (entry_of device kept event (silent undone after)) managers
+      (record { device_is = refl; position_is = refl; nowhere = λ e. absurd (omega (arith, e)); breaks_it = λ le. broke; known = λ le. known }) refl
 
 -- the manager's requests, which are coordinators'
 module _ {Config TheEdit Node : Type 0} (m : Meaning Config TheEdit Node) (device : ℕ) (owner : PassOwner) (coordinates : is_operator owner ≡ false) where
-  finds_loss : (told : Told) (old new : KeptState Config Node) (entries after : List PassEntry) (event : DeviceEvent) (h : Happened Config Node) (session : ℕ) → opens_for_other event ≡ false
-      → breaks event (entry_of old device event h ∷ []) (noted (Lost session) (losing m h.after session)) ≡ true
-      → LosesAfter m device told old new entries after event h session → FindsBy owner (Some event) told entries after device
-  finds_loss (Answered position reply) old new entries after event h session managers broke served = absurd served
-  finds_loss (Broken position) old new entries after event h session managers broke served =
-      let at = served.position_is in
-      gained_both owner event device position entries after (entry_of old device event h) (entry_of (kept_after true old event h) device (Lost session) (losing m h.after session)) managers (refl, omega arith, refl)
-      (record {
-        device_is = refl;
-        position_is = sym at;
-        nowhere = λ e. absurd (omega (arith, at, e));
-        breaks_it = λ le. broke;
-        known = λ le. lost_known owner device session (entries ++ entry_of old device event h ∷ []) coordinates;
-      }) served.pass_is
+  module _ (kept : KeptState Config Node) (entries : List PassEntry) (event : DeviceEvent) (managers : opens_for_other event ≡ false) (reply : Reply) (undone : Bool) (after : DeviceState Config Node) where
+    -- the request is done
+    abbrev done : Left Config Node
+    done = happens device true kept entries event (replied reply undone after)
 
-  finds_cut_if : (open_ : Bool) (told : Told) (old new : KeptState Config Node) (entries after : List PassEntry) (event : DeviceEvent) (h : Happened Config Node) (session : ℕ) → opens_for_other event ≡ false
-      → breaks event (entry_of old device event h ∷ []) (noted (Lost session) (losing m h.after session)) ≡ true
-      → MatchBool open_ (LosesAfter m device told old new entries after event h session) (Answers true device told old new entries after event h) → FindsBy owner (Some event) told entries after device
-  finds_cut_if true told old new entries after event h session managers broke served = finds_loss told old new entries after event h session managers broke served
-  finds_cut_if false told old new entries after event h session managers broke served = finds_answer m device owner true told old new entries after event h served
+    abbrev own : PassEntry
+    own = entry_of device kept event (replied reply undone after)
 
-  finds_cut : (told : Told) (old new : KeptState Config Node) (entries after : List PassEntry) (event : DeviceEvent) (h : Happened Config Node) (lost : Option ℕ) → opens_for_other event ≡ false
-      → ((session : ℕ) → lost ≡ Some session → breaks event (entry_of old device event h ∷ []) (noted (Lost session) (losing m h.after session)) ≡ true)
-      → Cuts m device told old new entries after event h lost → FindsBy owner (Some event) told entries after device
-  finds_cut told old new entries after event h None managers broke served = finds_answer m device owner true told old new entries after event h served
-  finds_cut told old new entries after event h (Some session) managers broke served = finds_cut_if (is_open h.after.sessions session) told old new entries after event h session managers (broke session refl) served
+    finds_loss : (session : ℕ) → breaks event (own ∷ []) (noted (Lost session) (losing m after session)) ≡ true → FindsLeft device owner event entries (loses m device false done.kept done.entries session)
+    finds_loss session broke =
+        gained_both owner event device (length done.kept.recorded.history + 1) entries (done.entries ++ entry_of device done.kept (Lost session) (losing m after session) ∷ []) own (entry_of device done.kept (Lost session) (losing m after session)) managers (refl, omega arith, refl)
+        (record {
+          device_is = refl;
+          position_is = refl;
+          nowhere = λ e. absurd (omega (arith, e));
+          breaks_it = λ le. broke;
+          known = λ le. lost_known owner device session (entries ++ own ∷ []) coordinates;
+        }) refl
 
-  finds_opening : (fault : Option PlanFault) (told : Told) (old new : KeptState Config Node) (entries after : List PassEntry) (user : List ℕ) → opens_for_other (Entered user) ≡ false
-      → OpensManager m device fault told old new entries after user → FindsBy owner (Some (Entered user)) told entries after device
-  finds_opening None told old new entries after user managers served = finds_answer m device owner true told old new entries after (Entered user) (entering old.recorded.device user) served
-  finds_opening (Some (Advance seconds)) told old new entries after user managers served = finds_answer m device owner true told old new entries after (Entered user) (entering old.recorded.device user) served
-  finds_opening (Some Drop) told old new entries after user managers served =
-      finds_cut told old new entries after (Entered user) (entering old.recorded.device user) (opened_session (entering old.recorded.device user).reply) managers (λ session e. opened_opens (entering old.recorded.device user).reply session e) served
-  finds_opening (Some Cut) told old new entries after user managers served =
-      finds_cut told old new entries after (Entered user) (entering old.recorded.device user) (opened_session (entering old.recorded.device user).reply) managers (λ session e. opened_opens (entering old.recorded.device user).reply session e) served
-  finds_opening (Some Restart) told old new entries after user managers served =
-      finds_break m device owner true told old new entries after Restarted (Entered user) (restarting m old.recorded.device) managers refl (restart_known owner device (entries ++ [])) served
+    finds_cut_if : (open_ : Bool) (session : ℕ) → breaks event (own ∷ []) (noted (Lost session) (losing m after session)) ≡ true
+        → FindsLeft device owner event entries (if open_ then loses m device false done.kept done.entries session else done)
+    finds_cut_if true session broke = finds_loss session broke
+    finds_cut_if false session broke = finds_answer device owner true kept entries event reply undone after
 
-  finds_manager : (tables : TablesState TheEdit) (fault : Option PlanFault) (told : Told) (old new : KeptState Config Node) (entries after : List PassEntry) (session : ℕ) (request : Request)
-      → ServesManager m tables device fault told old new entries after session request → FindsBy owner (Some (Asked session request)) told entries after device
-  finds_manager tables None told old new entries after session request served = finds_answer m device owner true told old new entries after (Asked session request) (asking m tables device old session request) served
-  finds_manager tables (Some (Advance seconds)) told old new entries after session request served = finds_answer m device owner true told old new entries after (Asked session request) (asking m tables device old session request) served
-  finds_manager tables (Some Drop) told old new entries after session request served =
-      finds_break m device owner true told old new entries after (Lost session) (Asked session request) (losing m old.recorded.device session) refl (same_test session) (lost_known owner device session (entries ++ []) coordinates) served
-  finds_manager tables (Some Cut) told old new entries after session request served =
-      finds_cut told old new entries after (Asked session request) (asking m tables device old session request) (Some session) refl (λ other e. own_loss session other e) served
-  finds_manager tables (Some Restart) told old new entries after session request served =
-      finds_break m device owner true told old new entries after Restarted (Asked session request) (restarting m old.recorded.device) refl refl (restart_known owner device (entries ++ [])) served
+    finds_cut_off : (lost : Option ℕ) → ((session : ℕ) → lost ≡ Some session → breaks event (own ∷ []) (noted (Lost session) (losing m after session)) ≡ true) → FindsLeft device owner event entries (cut_off m device lost done)
+    finds_cut_off None broke = finds_answer device owner true kept entries event reply undone after
+    finds_cut_off (Some session) broke = finds_cut_if (is_open after.sessions session) session (broke session refl)
+
+  module _ (kept : KeptState Config Node) (entries : List PassEntry) where
+    finds_restart : (event : DeviceEvent) → opens_for_other event ≡ false → ((undone : Bool) (after : DeviceState Config Node) → breaks event [] (noted Restarted (silent undone after)) ≡ true) → FindsLeft device owner event entries (restarts m device kept entries)
+    finds_restart event managers broke =
+        let h = restarting m kept.recorded.device in finds_break device owner true kept entries Restarted event h.undone h.after managers (broke h.undone h.after) (restart_known owner device (entries ++ []))
+
+    finds_opening : (fault : Option PlanFault) (user : List ℕ) → opens_for_other (Entered user) ≡ false → (reply : Reply) (undone : Bool) (after : DeviceState Config Node)
+        → FindsLeft device owner (Entered user) entries (by_fault m device fault kept entries (Entered user) (replied reply undone after))
+    finds_opening None user managers reply undone after = finds_answer device owner true kept entries (Entered user) reply undone after
+    finds_opening (Some (Advance seconds)) user managers reply undone after = finds_answer device owner true kept entries (Entered user) reply undone after
+    finds_opening (Some Drop) user managers reply undone after =
+        finds_cut_off kept entries (Entered user) managers reply undone after (opened_session (Answered (length kept.recorded.history + 1) reply)) (opened_opens (length kept.recorded.history + 1) reply)
+    finds_opening (Some Cut) user managers reply undone after =
+        finds_cut_off kept entries (Entered user) managers reply undone after (opened_session (Answered (length kept.recorded.history + 1) reply)) (opened_opens (length kept.recorded.history + 1) reply)
+    finds_opening (Some Restart) user managers reply undone after = finds_restart (Entered user) managers (λ undone after. refl)
+
+    finds_manager : (fault : Option PlanFault) (session : ℕ) (request : Request) (reply : Reply) (undone : Bool) (after : DeviceState Config Node)
+        → FindsLeft device owner (Asked session request) entries (by_fault m device fault kept entries (Asked session request) (replied reply undone after))
+    finds_manager None session request reply undone after = finds_answer device owner true kept entries (Asked session request) reply undone after
+    finds_manager (Some (Advance seconds)) session request reply undone after = finds_answer device owner true kept entries (Asked session request) reply undone after
+    finds_manager (Some Drop) session request reply undone after =
+        let h = losing m kept.recorded.device session in
+        finds_break device owner true kept entries (Lost session) (Asked session request) h.undone h.after refl (same_test session) (lost_known owner device session (entries ++ []) coordinates)
+    finds_manager (Some Cut) session request reply undone after = finds_cut_off kept entries (Asked session request) refl reply undone after (Some session) (λ other e. own_loss session other e)
+    finds_manager (Some Restart) session request reply undone after = finds_restart (Asked session request) refl (λ undone after. refl)
 
 -- ---- whose request it is
 
@@ -239,18 +247,23 @@ unheld false n e le = refl
 unheld true n e le = let other : not (n == 0) ≡ false = e in let none : n ≡ 0 = grind (arith, nat_tests, other) in absurd (omega (arith, le, none))
 
 module _ {Config TheEdit Node : Type 0} (m : Meaning Config TheEdit Node) (tables : TablesState TheEdit) (device : ℕ) (owner : PassOwner) where
-  finds_opening_if : (managers : Bool) (told : Told) (old new : KeptState Config Node) (entries after : List PassEntry) (user : List ℕ) → bytes_eq user manager ≡ managers → (is_operator owner ≡ true → managers ≡ false)
-      → MatchBool managers (OpensManager m device (due (prepared m old).faults) told (prepared m old) new entries after user) (Answers false device told old new entries after (Entered user) (entering old.recorded.device user))
-      → FindsBy owner (Some (Entered user)) told entries after device
-  finds_opening_if true told old new entries after user is other served =
-      finds_opening m device owner (by_manager (is_operator owner) true other refl) (due (prepared m old).faults) told (prepared m old) new entries after user (ap not is) served
-  finds_opening_if false told old new entries after user is other served = finds_answer m device owner false told old new entries after (Entered user) (entering old.recorded.device user) served
+  finds_entering : (managers : Bool) (kept : KeptState Config Node) (entries : List PassEntry) (user : List ℕ) → bytes_eq user manager ≡ managers → (is_operator owner ≡ true → managers ≡ false)
+      → FindsLeft device owner (Entered user) entries (if managers then manager_enters m device (prepared m kept) entries user else happens device false kept entries (Entered user) (entering kept.recorded.device user))
+  finds_entering true kept entries user is other =
+      let now = prepared m kept in
+      let h = opened now.recorded.device user in
+      finds_opening m device owner (by_manager (is_operator owner) true other refl) now entries (due now.faults) user (ap not is) h.reply false h.after
+  finds_entering false kept entries user is other = let h = opened kept.recorded.device user in finds_answer device owner false kept entries (Entered user) h.reply false h.after
 
-  finds_on_if : (managers : Bool) (told : Told) (old new : KeptState Config Node) (entries after : List PassEntry) (session : ℕ) (request : Request) → (managers ≡ true → is_operator owner ≡ false)
-      → MatchBool managers (ServesManager m tables device (due (prepared m old).faults) told (prepared m old) new entries after session request) (Answers false device told old new entries after (Asked session request) (asking m tables device old session request))
-      → FindsBy owner (Some (Asked session request)) told entries after device
-  finds_on_if true told old new entries after session request coordinates served = finds_manager m device owner (coordinates refl) tables (due (prepared m old).faults) told (prepared m old) new entries after session request served
-  finds_on_if false told old new entries after session request coordinates served = finds_answer m device owner false told old new entries after (Asked session request) (asking m tables device old session request) served
+  finds_asking : (managers : Bool) (kept : KeptState Config Node) (entries : List PassEntry) (session : ℕ) (request : Request) → (managers ≡ true → is_operator owner ≡ false)
+      → FindsLeft device owner (Asked session request) entries (if managers then manager_asks m tables device (prepared m kept) entries session request else happens device false kept entries (Asked session request) (asking m tables kept session request))
+  finds_asking true kept entries session request coordinates =
+      let now = prepared m kept in
+      let h = device_step m tables now.recorded.device session request in
+      finds_manager m device owner (coordinates refl) now entries (due now.faults) session request h.reply (undid request now.recorded.device h.after) h.after
+  finds_asking false kept entries session request coordinates =
+      let h = device_step m tables kept.recorded.device session request in
+      finds_answer device owner false kept entries (Asked session request) h.reply (undid request kept.recorded.device h.after) h.after
 
   -- what ended a session is held once it was found
   found_held : (known : Bool) (entries after : List PassEntry) (it : Found) (session : ℕ) (request : Request) → (holds device it.position entries && not (it.position == 0)) ≡ known → IsEnd owner device session entries it
@@ -280,34 +293,53 @@ module _ {Config TheEdit Node : Type 0} (m : Meaning Config TheEdit Node) (table
         known = λ le. subst (λ (es : List PassEntry). is_known owner device es it.noted.event ≡ true) (sym (append-nil entries)) (is_end.known le (unheld (holds device it.position entries) it.position e le));
       }) is
 
-  finds_session_if : (may : Bool) (told : Told) (old new : KeptState Config Node) (entries after : List PassEntry) (session : ℕ) (request : Request) (it : Found) → may_ask owner old session ≡ may → IsEnd owner device session entries it
-      → MatchBool may (ServesOn m tables device told (with_room old) new entries after session request) (Finds device told old new entries after it) → FindsBy owner (Some (Asked session request)) told entries after device
-  finds_session_if true told old new entries after session request it may is_end served =
-      finds_on_if (is_managers session old.recorded.history) told (with_room old) new entries after session request
-      (on_managers (is_open old.recorded.device.sessions session) (is_operator owner) (is_managers session old.recorded.history) may) served
-  finds_session_if false told old new entries after session request it may is_end served =
-      subst (λ t. FindsBy owner (Some (Asked session request)) t entries after device) (sym served.told_is)
-      (found_held (holds device it.position entries && not (it.position == 0)) entries after it session request refl is_end served.pass_is)
+  finds_on : (may : Bool) (kept : KeptState Config Node) (entries : List PassEntry) (session : ℕ) (request : Request) (it : Found) → may_ask owner kept session ≡ may → IsEnd owner device session entries it
+      → FindsLeft device owner (Asked session request) entries (if may then asks m tables device (with_room kept) entries session request else tells_end device kept entries it)
+  finds_on true kept entries session request it may is_end =
+      finds_asking (is_managers session kept.recorded.history) (with_room kept) entries session request
+      (on_managers (is_open kept.recorded.device.sessions session) (is_operator owner) (is_managers session kept.recorded.history) may)
+  finds_on false kept entries session request it may is_end =
+      found_held (holds device it.position entries && not (it.position == 0)) entries (with_found device entries it) it session request refl is_end refl
 
-  finds_by : (user : Option (List ℕ)) (session : Option ℕ) (told : Told) (old new : KeptState Config Node) (entries after : List PassEntry) (request : Request) → (is_operator owner ≡ true → is_manager user ≡ false)
-      → ServesBy m tables device owner user session told old new entries after request → FindsBy owner (event_by session request user) told entries after device
-  finds_by (Some user) session told old new entries after request other served = finds_opening_if (bytes_eq user manager) told (with_room old) new entries after user refl other served
-  finds_by None (Some session) told old new entries after request other served =
-      finds_session_if (may_ask owner old session) told old new entries after session request (found owner device session entries old.recorded.history) refl
-      (is_end_at owner (is_managers session old.recorded.history) device session entries old.recorded.history (end_of session old.recorded.history) refl) served
-  finds_by None None told old new entries after request other served = (served.0, served.2)
+  finds_by : (user : Option (List ℕ)) (session : Option ℕ) (kept : KeptState Config Node) (entries : List PassEntry) (request : Request) → (is_operator owner ≡ true → is_manager user ≡ false)
+      → FindsBy owner (event_by session request user) (serve_by m tables device owner user session kept entries request).told entries (serve_by m tables device owner user session kept entries request).entries device
+  finds_by (Some user) session kept entries request other = finds_entering (bytes_eq user manager) (with_room kept) entries user refl other
+  finds_by None (Some session) kept entries request other =
+      finds_on (may_ask owner kept session) kept entries session request (found owner device session entries kept.recorded.history) refl
+      (is_end_at owner (is_managers session kept.recorded.history) device session entries kept.recorded.history (end_of session kept.recorded.history) refl)
+  finds_by None None kept entries request other = (refl, refl)
+
+  -- what a call left, as its caller has it
+  finds_told : (told : Told) (old new : KeptState Config Node) (entries after : List PassEntry) (session : Option ℕ) (request : Request) → (is_operator owner ≡ true → is_manager (opening_user request) ≡ false)
+      → Leaves told new after (serve_of m tables device owner old entries session request) → FindsBy owner (event_of session request) told entries after device
+  finds_told told old new entries after session request other leaves =
+      subst (λ t. FindsBy owner (event_of session request) t entries after device) (sym leaves.told_is)
+      (subst (λ es. FindsBy owner (event_of session request) (serve_of m tables device owner old entries session request).told entries es device) (sym leaves.entries_is)
+      (finds_by (opening_user request) session old entries request other))
 
 -- an operator's request
 pub finds : {Config TheEdit Node : Type 0} (m : Meaning Config TheEdit Node) (tables : TablesState TheEdit) (device : ℕ) (owner : PassOwner) (told : Told) (old new : KeptState Config Node) (entries after : List PassEntry) (session : Option ℕ) (request : Request)
-    → may_operate owner request ≡ true → Serves m tables device owner told old new entries after session request → FindsBy owner (event_of session request) told entries after device
-finds m tables device (Coordinator change) told old new entries after session request may served = absurd (let never : false ≡ true = may in cc)
-finds m tables device (Operator number) told old new entries after session request may served =
-    finds_by m tables device (Operator number) (opening_user request) session told old new entries after request (λ operates. not_true (is_manager (opening_user request)) may) served
+    → may_operate owner request ≡ true → Leaves told new after (serve_of m tables device owner old entries session request) → FindsBy owner (event_of session request) told entries after device
+finds m tables device (Coordinator change) told old new entries after session request may leaves = absurd (let never : false ≡ true = may in cc)
+finds m tables device (Operator number) told old new entries after session request may leaves =
+    finds_told m tables device (Operator number) told old new entries after session request (λ operates. not_true (is_manager (opening_user request)) may) leaves
 
 -- a coordinator's
 pub finds_change : {Config TheEdit Node : Type 0} (m : Meaning Config TheEdit Node) (tables : TablesState TheEdit) (device : ℕ) (owner : PassOwner) (told : Told) (old new : KeptState Config Node) (entries after : List PassEntry) (session : Option ℕ) (request : Request)
-    (changes : List ChangePlan) (slot : SlotState) → is_in_turn changes owner slot device request ≡ true → Serves m tables device owner told old new entries after session request
+    (changes : List ChangePlan) (slot : SlotState) → is_in_turn changes owner slot device request ≡ true → Leaves told new after (serve_of m tables device owner old entries session request)
     → FindsBy owner (event_of session request) told entries after device
-finds_change m tables device (Coordinator change) told old new entries after session request changes slot turn served =
-    finds_by m tables device (Coordinator change) (opening_user request) session told old new entries after request (λ never. absurd (let impossible : false ≡ true = never in cc)) served
-finds_change m tables device (Operator number) told old new entries after session request changes slot turn served = absurd (let never : false ≡ true = turn in cc)
+finds_change m tables device (Coordinator change) told old new entries after session request changes slot turn leaves =
+    finds_told m tables device (Coordinator change) told old new entries after session request (λ never. absurd (let impossible : false ≡ true = never in cc)) leaves
+finds_change m tables device (Operator number) told old new entries after session request changes slot turn leaves = absurd (let never : false ≡ true = turn in cc)
+
+-- as the calls behind a lock end
+module _ {Config TheEdit Node : Type 0} (m : Meaning Config TheEdit Node) (tables : TablesState TheEdit) (device : ℕ) (owner : PassOwner) (old new : KeptState Config Node) (entries after : List PassEntry) (session : Option ℕ) (request : Request) where
+  pub ask_finds : (result : Result Told NoMemory) → may_operate owner request ≡ true → IfOk result (λ told. Leaves told new after (serve_of m tables device owner old entries session request))
+      → IfOk result (λ told. FindsBy owner (event_of session request) told entries after device)
+  ask_finds (Ok told) may leaves = finds m tables device owner told old new entries after session request may leaves
+  ask_finds (Err fault) may leaves = tt
+
+  pub change_finds : (changes : List ChangePlan) (slot : SlotState) (result : Result Told NoMemory) → is_in_turn changes owner slot device request ≡ true → IfOk result (λ told. Leaves told new after (serve_of m tables device owner old entries session request))
+      → IfOk result (λ told. FindsBy owner (event_of session request) told entries after device)
+  change_finds changes slot (Ok told) turn leaves = finds_change m tables device owner told old new entries after session request changes slot turn leaves
+  change_finds changes slot (Err fault) turn leaves = tt

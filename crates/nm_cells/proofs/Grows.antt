@@ -1,5 +1,5 @@
 -- By how much a call lets a history grow.
-use Rattle.std.proofs.Common.{Option, Some, None, Result, Ok, Err, IfOk, OnErr, inl, inr, ◌≡◌, ℕ, ◌+◌, ◌≤◌, Bool, true, false, List, [], ◌∷◌, ◌++◌, take, length, refl, sym, ap, ◌∙◌, subst, arith}
+use Rattle.std.proofs.Common.{Option, Some, None, Result, Ok, Err, IfOk, OnErr, inl, inr, ◌≡◌, ℕ, ◌+◌, ◌≤◌, Bool, true, false, List, [], ◌∷◌, ◌++◌, take, length, refl, sym, ap, ◌∙◌, subst, arith, if◌then◌else◌}
 use Rattle.std.specs.Bool.{MatchBool}
 use Rattle.std.proofs.lemmas.List.{append_assoc, append-nil, length-append}
 use Rattle.std.proofs.Math.Seq.{take-append_seam}
@@ -16,7 +16,6 @@ use Rattle.nm_history.specs.History.{Happened, noted, entering, losing, restarti
 use Rattle.nm_proto.specs.declared.fault.PlanFault.{PlanFault}
 use Rattle.nm_proto.specs.declared.fault.PlanFault.TheVariants.{Drop, Cut, Restart, Advance}
 use Rattle.nm_cells.specs.declared.asked.Asked.{Asked as Told}
-use Rattle.nm_cells.specs.declared.asked.Asked.TheVariants.{Answered, Broken}
 use Rattle.nm_cells.specs.declared.pass.PassOwner.{PassOwner}
 use Rattle.nm_cells.specs.declared.pass.PassEntry.{PassEntry}
 use Rattle.nm_cells.specs.declared.ended.Found.{Found}
@@ -25,7 +24,7 @@ use Rattle.nm_cells.specs.Grows.{GrowsBy}
 use Rattle.nm_cells.specs.Kept.{KeptState, with_room, kept_after, is_managers}
 use Rattle.nm_cells.specs.Ended.{found}
 use Rattle.nm_cells.specs.Pass.{PassState}
-use Rattle.nm_cells.specs.Serve.{advance_of, advanced_by, prepared, Answers, Breaks, Cuts, LosesAfter, ServesManager, ServesOn, OpensManager, ServesOpening, ServesSession, Finds, may_ask, asking, opened_session, StaysOrAdvances}
+use Rattle.nm_cells.specs.Serve.{advance_of, advanced_by, prepared, Left, Leaves, happens, tells_end, lost_with, asked_on, loses, restarts, cut_off, dropped, by_fault, manager_enters, enters, asking, manager_asks, asks, serve_on, may_ask, StaysOrAdvances}
 use Rattle.nm_cells.specs.End.{may_end, HangsUp, Stays, Ends}
 
 -- the entries that a history gained, few of them
@@ -67,8 +66,11 @@ module _ {Config Node : Type 0} where
   abbrev Grown : ℕ → KeptState Config Node → KeptState Config Node → Type 0
   Grown most old new = Gains most (past old) (past new)
 
-  one_after : (counts : Bool) (old new : KeptState Config Node) (event : DeviceEvent) (h : Happened Config Node) → new ≡ kept_after counts old event h → Grown 1 old new
-  one_after counts old new event h e = gains_one (past old) (past new) (noted event h) (ap past e)
+  grown_happens : (device : ℕ) (counts : Bool) (kept : KeptState Config Node) (entries : List PassEntry) (event : DeviceEvent) (h : Happened Config Node) → Grown 1 kept (happens device counts kept entries event h).kept
+  grown_happens device counts kept entries event h = gains_one (past kept) (past (kept_after counts kept event h)) (noted event h) refl
+
+  grown_more : (a most : ℕ) (old new : KeptState Config Node) → a ≤ most → Grown a old new → Grown most old new
+  grown_more a most old new le gains = gains_more a most (past old) (past new) le gains
 
 module _ {Config TheEdit Node : Type 0} (m : Meaning Config TheEdit Node) (device : ℕ) where
   grown_prepared : (kept : KeptState Config Node) → Grown 1 kept (prepared m kept)
@@ -78,73 +80,57 @@ module _ {Config TheEdit Node : Type 0} (m : Meaning Config TheEdit Node) (devic
       by_advance None = gains_none 1 (past kept) (past kept) refl
       by_advance (Some seconds) = gains_one (past kept) (past (advanced_by m kept (Some seconds))) _ refl
 
-  grown_answer : (counts : Bool) (told : Told) (old new : KeptState Config Node) (entries after : List PassEntry) (event : DeviceEvent) (h : Happened Config Node)
-      → Answers counts device told old new entries after event h → Grown 1 old new
-  grown_answer counts (Broken position) old new entries after event h served = absurd served
-  grown_answer counts (Answered position reply) old new entries after event h served = one_after counts old new event h served.device_is
+  -- a loss after what was done
+  grown_cut_off : (lost : Option ℕ) (kept : KeptState Config Node) (done : Left Config Node) → Grown 1 kept done.kept → Grown 2 kept (cut_off m device lost done).kept
+  grown_cut_off None kept done first = grown_more 1 2 kept done.kept (omega arith) first
+  grown_cut_off (Some session) kept done first = by_test (is_open done.kept.recorded.device.sessions session)
+    where
+      by_test : (open_ : Bool) → Grown 2 kept (if open_ then loses m device false done.kept done.entries session else done).kept
+      by_test true =
+          let after = loses m device false done.kept done.entries session in
+          gains_then 1 1 2 (past kept) (past done.kept) (past after.kept) (omega arith) first (grown_happens device false done.kept done.entries (Lost session) (losing m done.kept.recorded.device session))
+      by_test false = grown_more 1 2 kept done.kept (omega arith) first
 
-  grown_break : (counts : Bool) (told : Told) (old new : KeptState Config Node) (entries after : List PassEntry) (event : DeviceEvent) (h : Happened Config Node)
-      → Breaks counts device told old new entries after event h → Grown 1 old new
-  grown_break counts (Answered position reply) old new entries after event h served = absurd served
-  grown_break counts (Broken position) old new entries after event h served = one_after counts old new event h served.device_is
+  module _ (kept : KeptState Config Node) (entries : List PassEntry) (event : DeviceEvent) (h : Happened Config Node) where
+    abbrev done : Left Config Node
+    done = happens device true kept entries event h
 
-  grown_cut_if : (open_ : Bool) (told : Told) (old new : KeptState Config Node) (entries after : List PassEntry) (event : DeviceEvent) (h : Happened Config Node) (session : ℕ)
-      → MatchBool open_ (LosesAfter m device told old new entries after event h session) (Answers true device told old new entries after event h) → Grown 2 old new
-  grown_cut_if true told old new entries after event h session served =
-      let middle = kept_after true old event h in
-      gains_then 1 1 2 (past old) (past middle) (past new) (omega arith) (one_after true old middle event h refl) (grown_break false told middle new _ after (Lost session) (losing m h.after session) served)
-  grown_cut_if false told old new entries after event h session served = gains_more 1 2 (past old) (past new) (omega arith) (grown_answer true told old new entries after event h served)
+    grown_dropped : (on : Option ℕ) → Grown 2 kept (dropped m device on kept entries done).kept
+    grown_dropped None = grown_cut_off (lost_with None done.told) kept done (grown_happens device true kept entries event h)
+    grown_dropped (Some session) =
+        grown_more 1 2 kept (loses m device true kept entries session).kept (omega arith) (grown_happens device true kept entries (Lost session) (losing m kept.recorded.device session))
 
-  grown_cut : (told : Told) (old new : KeptState Config Node) (entries after : List PassEntry) (event : DeviceEvent) (h : Happened Config Node) (lost : Option ℕ)
-      → Cuts m device told old new entries after event h lost → Grown 2 old new
-  grown_cut told old new entries after event h None served = gains_more 1 2 (past old) (past new) (omega arith) (grown_answer true told old new entries after event h served)
-  grown_cut told old new entries after event h (Some session) served = grown_cut_if (is_open h.after.sessions session) told old new entries after event h session served
+    grown_fault : (fault : Option PlanFault) → Grown 2 kept (by_fault m device fault kept entries event h).kept
+    grown_fault None = grown_more 1 2 kept done.kept (omega arith) (grown_happens device true kept entries event h)
+    grown_fault (Some (Advance seconds)) = grown_more 1 2 kept done.kept (omega arith) (grown_happens device true kept entries event h)
+    grown_fault (Some Drop) = grown_dropped (asked_on event)
+    grown_fault (Some Cut) = grown_cut_off (lost_with (asked_on event) done.told) kept done (grown_happens device true kept entries event h)
+    grown_fault (Some Restart) = grown_more 1 2 kept (restarts m device kept entries).kept (omega arith) (grown_happens device true kept entries Restarted (restarting m kept.recorded.device))
 
-  -- what comes after the clock rose as it was planned
-  grown_later : (old new : KeptState Config Node) → Grown 2 (prepared m old) new → Grown 3 old new
-  grown_later old new later = gains_then 1 2 3 (past old) (past (prepared m old)) (past new) (omega arith) (grown_prepared old) later
+  -- a request by whose it is: the clock rises first for one of the manager
+  grown_by : (managers : Bool) (kept : KeptState Config Node) (ours theirs : Left Config Node) → Grown 2 (prepared m kept) ours.kept → Grown 1 kept theirs.kept → Grown 3 kept (if managers then ours else theirs).kept
+  grown_by true kept ours theirs later other = gains_then 1 2 3 (past kept) (past (prepared m kept)) (past ours.kept) (omega arith) (grown_prepared kept) later
+  grown_by false kept ours theirs later other = grown_more 1 3 kept theirs.kept (omega arith) other
 
-  grown_opening : (fault : Option PlanFault) (told : Told) (old new : KeptState Config Node) (entries after : List PassEntry) (user : List ℕ) → OpensManager m device fault told old new entries after user → Grown 2 old new
-  grown_opening None told old new entries after user served = gains_more 1 2 (past old) (past new) (omega arith) (grown_answer true told old new entries after (Entered user) (entering old.recorded.device user) served)
-  grown_opening (Some (Advance seconds)) told old new entries after user served =
-      gains_more 1 2 (past old) (past new) (omega arith) (grown_answer true told old new entries after (Entered user) (entering old.recorded.device user) served)
-  grown_opening (Some Drop) told old new entries after user served =
-      grown_cut told old new entries after (Entered user) (entering old.recorded.device user) (opened_session (entering old.recorded.device user).reply) served
-  grown_opening (Some Cut) told old new entries after user served =
-      grown_cut told old new entries after (Entered user) (entering old.recorded.device user) (opened_session (entering old.recorded.device user).reply) served
-  grown_opening (Some Restart) told old new entries after user served =
-      gains_more 1 2 (past old) (past new) (omega arith) (grown_break true told old new entries after Restarted (restarting m old.recorded.device) served)
-
-  grown_opening_if : (managers : Bool) (told : Told) (old new : KeptState Config Node) (entries after : List PassEntry) (user : List ℕ)
-      → MatchBool managers (OpensManager m device (due (prepared m old).faults) told (prepared m old) new entries after user) (Answers false device told old new entries after (Entered user) (entering old.recorded.device user))
-      → Grown 3 old new
-  grown_opening_if true told old new entries after user served = grown_later old new (grown_opening (due (prepared m old).faults) told (prepared m old) new entries after user served)
-  grown_opening_if false told old new entries after user served = gains_more 1 3 (past old) (past new) (omega arith) (grown_answer false told old new entries after (Entered user) (entering old.recorded.device user) served)
+  grown_entering : (kept : KeptState Config Node) (entries : List PassEntry) (user : List ℕ) → Grown 3 kept (enters m device kept entries user).kept
+  grown_entering kept entries user =
+      let now = prepared m kept in
+      let h = entering kept.recorded.device user in
+      grown_by (bytes_eq user manager) kept (manager_enters m device now entries user) (happens device false kept entries (Entered user) h)
+      (grown_fault now entries (Entered user) (entering now.recorded.device user) (due now.faults)) (grown_happens device false kept entries (Entered user) h)
 
 module _ {Config TheEdit Node : Type 0} (m : Meaning Config TheEdit Node) (tables : TablesState TheEdit) (device : ℕ) where
-  grown_manager : (fault : Option PlanFault) (told : Told) (old new : KeptState Config Node) (entries after : List PassEntry) (session : ℕ) (request : Request)
-      → ServesManager m tables device fault told old new entries after session request → Grown 2 old new
-  grown_manager None told old new entries after session request served =
-      gains_more 1 2 (past old) (past new) (omega arith) (grown_answer m device true told old new entries after (Asked session request) (asking m tables device old session request) served)
-  grown_manager (Some (Advance seconds)) told old new entries after session request served =
-      gains_more 1 2 (past old) (past new) (omega arith) (grown_answer m device true told old new entries after (Asked session request) (asking m tables device old session request) served)
-  grown_manager (Some Drop) told old new entries after session request served =
-      gains_more 1 2 (past old) (past new) (omega arith) (grown_break m device true told old new entries after (Lost session) (losing m old.recorded.device session) served)
-  grown_manager (Some Cut) told old new entries after session request served = grown_cut m device told old new entries after (Asked session request) (asking m tables device old session request) (Some session) served
-  grown_manager (Some Restart) told old new entries after session request served =
-      gains_more 1 2 (past old) (past new) (omega arith) (grown_break m device true told old new entries after Restarted (restarting m old.recorded.device) served)
+  grown_asking : (kept : KeptState Config Node) (entries : List PassEntry) (session : ℕ) (request : Request) → Grown 3 kept (asks m tables device kept entries session request).kept
+  grown_asking kept entries session request =
+      let now = prepared m kept in
+      let h = asking m tables kept session request in
+      grown_by m device (is_managers session kept.recorded.history) kept (manager_asks m tables device now entries session request) (happens device false kept entries (Asked session request) h)
+      (grown_fault m device now entries (Asked session request) (asking m tables now session request) (due now.faults)) (grown_happens device false kept entries (Asked session request) h)
 
-  grown_on_if : (managers : Bool) (told : Told) (old new : KeptState Config Node) (entries after : List PassEntry) (session : ℕ) (request : Request)
-      → MatchBool managers (ServesManager m tables device (due (prepared m old).faults) told (prepared m old) new entries after session request) (Answers false device told old new entries after (Asked session request) (asking m tables device old session request))
-      → Grown 3 old new
-  grown_on_if true told old new entries after session request served = grown_later m device old new (grown_manager (due (prepared m old).faults) told (prepared m old) new entries after session request served)
-  grown_on_if false told old new entries after session request served =
-      gains_more 1 3 (past old) (past new) (omega arith) (grown_answer m device false told old new entries after (Asked session request) (asking m tables device old session request) served)
-
-  grown_session_if : (may : Bool) (told : Told) (old new : KeptState Config Node) (entries after : List PassEntry) (session : ℕ) (request : Request) (it : Found)
-      → MatchBool may (ServesOn m tables device told (with_room old) new entries after session request) (Finds device told old new entries after it) → Grown 3 old new
-  grown_session_if true told old new entries after session request it served = grown_on_if (is_managers session old.recorded.history) told (with_room old) new entries after session request served
-  grown_session_if false told old new entries after session request it served = gains_none 3 (past old) (past new) (ap past served.device_is)
+  grown_on : (may : Bool) (kept : KeptState Config Node) (entries : List PassEntry) (session : ℕ) (request : Request) (it : Found)
+      → Grown 3 kept (if may then asks m tables device (with_room kept) entries session request else tells_end device kept entries it).kept
+  grown_on true kept entries session request it = grown_asking (with_room kept) entries session request
+  grown_on false kept entries session request it = gains_none 3 (past kept) (past kept) refl
 
 module _ {Config TheEdit Node : Type 0} (m : Meaning Config TheEdit Node) where
   -- one that finds no memory
@@ -160,7 +146,7 @@ module _ {Config TheEdit Node : Type 0} (m : Meaning Config TheEdit Node) where
   ended_if : (may : Bool) (position : Option ℕ) (old new : KeptState Config Node) (pass after : PassState) (device session : ℕ)
       → MatchBool may (HangsUp m position old new pass after device session) (Stays m position old new pass after) → GrowsBy 3 old.recorded.history new.recorded.history
   ended_if true position old new pass after device session ends =
-      grows 3 (past old) (past new) (gains_more 1 3 (past old) (past new) (omega arith) (one_after false (with_room old) new (Lost session) (losing m old.recorded.device session) ends.device_is))
+      grows 3 (past old) (past new) (gains_more 1 3 (past old) (past new) (omega arith) (gains_one (past old) (past new) (noted (Lost session) (losing m old.recorded.device session)) (ap past ends.device_is)))
   ended_if false position old new pass after device session ends = grows 3 (past old) (past new) (gains_none 3 (past old) (past new) (ap past ends.device_is))
 
   -- one that hangs up
@@ -174,13 +160,17 @@ pub grows_same : (history : List Noted) → GrowsBy 3 history history
 grows_same history = grows 3 history history (gains_none 3 history history refl)
 
 module _ {Config TheEdit Node : Type 0} (m : Meaning Config TheEdit Node) (device : ℕ) (old new : KeptState Config Node) (entries after : List PassEntry) where
-  pub opening_grows : (user : List ℕ) (result : Result Told NoMemory) → IfOk result (λ told. ServesOpening m device told (with_room old) new entries after user) → OnErr result (StaysOrAdvances m old new)
-      → GrowsBy 3 old.recorded.history new.recorded.history
-  opening_grows user (Ok told) served stays = grows 3 (past old) (past new) (grown_opening_if m device (bytes_eq user manager) told (with_room old) new entries after user served)
-  opening_grows user (Err fault) served stays = grows_staying m old new stays
+  left_grows : (told : Told) (left : Left Config Node) → Leaves told new after left → Grown 3 old left.kept → GrowsBy 3 old.recorded.history new.recorded.history
+  left_grows told left leaves grown = grows 3 (past old) (past new) (subst (λ (k : KeptState Config Node). Gains 3 (past old) (past k)) (sym leaves.kept_is) grown)
 
-  pub session_grows : (tables : TablesState TheEdit) (owner : PassOwner) (session : ℕ) (request : Request) (result : Result Told NoMemory) → IfOk result (λ told. ServesSession m tables device owner told old new entries after session request)
+  pub entering_grows : (user : List ℕ) (result : Result Told NoMemory) → IfOk result (λ told. Leaves told new after (enters m device (with_room old) entries user)) → OnErr result (StaysOrAdvances m old new)
+      → GrowsBy 3 old.recorded.history new.recorded.history
+  entering_grows user (Ok told) leaves stays = left_grows told (enters m device (with_room old) entries user) leaves (grown_entering m device (with_room old) entries user)
+  entering_grows user (Err fault) leaves stays = grows_staying m old new stays
+
+  pub asking_grows : (tables : TablesState TheEdit) (owner : PassOwner) (session : ℕ) (request : Request) (result : Result Told NoMemory) → IfOk result (λ told. Leaves told new after (serve_on m tables device owner old entries session request))
       → OnErr result (StaysOrAdvances m old new) → GrowsBy 3 old.recorded.history new.recorded.history
-  session_grows tables owner session request (Ok told) served stays =
-      grows 3 (past old) (past new) (grown_session_if m tables device (may_ask owner old session) told old new entries after session request (found owner device session entries old.recorded.history) served)
-  session_grows tables owner session request (Err fault) served stays = grows_staying m old new stays
+  asking_grows tables owner session request (Ok told) leaves stays =
+      left_grows told (serve_on m tables device owner old entries session request) leaves
+      (grown_on m tables device (may_ask owner old session) old entries session request (found owner device session entries old.recorded.history))
+  asking_grows tables owner session request (Err fault) leaves stays = grows_staying m old new stays

@@ -21,7 +21,7 @@ use Rattle.nm_history.specs.declared.event.Noted.{Noted}
 use Rattle.nm_history.specs.History.{RecordedState, Happened, entering, answered, losing, recorded_with, recorded_if, happened_if, device_event}
 use Rattle.nm_history.specs.Leads.{Leads}
 use Rattle.nm_history.proofs.Histories.{leads_push, leads_none}
-use Rattle.nm_chronicle.specs.Run.{Run}
+use Rattle.nm_run_plan.specs.Run.{Run}
 use Rattle.nm_cells.specs.Faults.{FaultsState, due, come, counted_if}
 use Rattle.nm_cells.specs.Kept.{KeptState, IsKept, AreManagers, is_managers, opens, enters_as_manager, opens_for_manager, with_opened}
 

@@ -76,6 +76,7 @@ is_opening_of device session entry = entry.device == device && opens session ent
 abbrev pub opened_in : ℕ → ℕ → List PassEntry → Bool
 opened_in device session entries = list_any (is_opening_of device session) entries
 
+-- a session is to be ended (RFC 6241 section 7.9)
 abbrev pub is_kill : Request → Bool
 is_kill (Kill other) = true
 is_kill _ = false

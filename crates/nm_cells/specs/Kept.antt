@@ -13,7 +13,7 @@ use Rattle.nm_history.specs.declared.event.Noted.{Noted}
 use Rattle.nm_history.specs.declared.recorded.Told.{Told}
 use Rattle.nm_history.specs.History.{RecordedState, Happened, recorded, recorded_with}
 use Rattle.nm_history.specs.Leads.{Leads}
-use Rattle.nm_chronicle.specs.Run.{Run}
+use Rattle.nm_run_plan.specs.Run.{Run}
 use Rattle.nm_cells.specs.Faults.{FaultsState, counted_if}
 
 -- ---- whose sessions

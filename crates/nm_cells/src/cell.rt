@@ -13,8 +13,9 @@ use crate::asked::Asked;
 use crate::pass::Pass;
 use crate::state::CellState;
 use nm_base::{DeviceNo, NoMemory, SessionId};
-use nm_chronicle::{Chronicle, RunName, SlotShares};
+use nm_chronicle::{Chronicle, SlotShares};
 use nm_proto::{Content, Request, Tables};
+use nm_run_plan::RunName;
 use std::sync::{Mutex, Wait};
 
 /// A device of a run behind its lock. What its type keeps is so whenever the lock is free.
@@ -52,7 +53,6 @@ impl<C: Content, N: RunName<C, C::Config, C::Edit>> DeviceCell<C, N> {
 
     /// A request of an operator, once the lock is free, as `CellState::serve` answers it. What the operator finds of it stands in
     /// the pass, at the place that is told.
-    #[tactic(auto, using(crate::proofs::Finds::finds))]
     pub fn ask<R: Wait>(
         &self,
         rt: &R,
@@ -87,7 +87,6 @@ impl<C: Content, N: RunName<C, C::Config, C::Edit>> DeviceCell<C, N> {
 
     /// A request of the coordinator of a change set, whose slot is lent, as `CellState::serve_change` answers it. `is_in_turn`
     /// tells whether it may ask this.
-    #[tactic(auto, using(crate::proofs::Finds::finds_change))]
     pub fn ask_change<R: Wait>(
         &self,
         rt: &R,

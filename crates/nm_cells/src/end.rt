@@ -8,9 +8,9 @@ ghost use Rattle.nm_cells.specs.Pass.{is_operator};
 use crate::kept::KeptDevice;
 use crate::pass::{Pass, PassEntry};
 use nm_base::{DeviceNo, NoMemory, SessionId};
-use nm_chronicle::RunName;
 use nm_history::{DeviceEvent, Noted};
 use nm_proto::Content;
+use nm_run_plan::RunName;
 
 impl<C: Content, N: RunName<C, C::Config, C::Edit>> KeptDevice<C, N> {
     /// An operator hangs up a session, and keeps the loss in its pass under this number of the device. Answers the place

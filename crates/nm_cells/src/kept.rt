@@ -13,10 +13,10 @@ ghost use Rattle.nm_cells.specs.Follows.{clock_if, plans_breaks};
 use crate::acts;
 use crate::faults::Faults;
 use nm_base::{DeviceNo, Label, MANAGER, NoMemory, SessionId};
-use nm_chronicle::RunName;
 use nm_device::Device;
 use nm_history::{DeviceEvent, Noted, Told};
 use nm_proto::{Content, PlanEntry, PlanFault, Reply, Request, Tables};
+use nm_run_plan::RunName;
 use std::alloc::Global;
 use std::marker::{Model, PhantomData};
 

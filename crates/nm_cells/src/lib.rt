@@ -1,6 +1,6 @@
 //! A device of a run with its history and the faults that are planned for it, and what a caller keeps of its own calls.
 //!
-//! Stands on `nm_device`, `nm_history` and `nm_chronicle`. The layers above rely on the history of each device being legal and
+//! Stands on `nm_device`, `nm_history`, `nm_run_plan` and `nm_chronicle`. The layers above rely on the history of each device being legal and
 //! leading from the run's first configuration to the device, as its type keeps, and on each planned fault coming at just
 //! the request that it names. Only requests and `room` take memory.
 #![tactic(auto)]

@@ -7,10 +7,10 @@ ghost use Rattle.std.specs.Str.{bytes_eq};
 ghost use Rattle.nm_base.specs.Words.{manager};
 ghost use Rattle.nm_cells.specs.Kept.{with_room, is_managers};
 ghost use Rattle.nm_cells.specs.Grows.{GrowsBy};
-ghost use Rattle.nm_cells.specs.Serve.{advance_of, opened_session, Does, Answers, Breaks, Cuts, ServesManager, ServesSession, OpensManager, ServesOpening, Serves, StaysOrAdvances, Finds, may_ask, asking};
+ghost use Rattle.nm_cells.specs.Serve.{advance_of, opened_session, happens, tells_end, loses, restarts, cut, cut_off, manager_enters, enters, asking, manager_asks, serve_on, serve_of, Leaves, StaysOrAdvances, may_ask};
 ghost use Rattle.nm_cells.specs.Ended.{found};
 ghost use Rattle.nm_cells.specs.Pass.{is_operator};
-ghost use Rattle.nm_cells.specs.Asking.{has_plain_tag, is_plain};
+ghost use Rattle.nm_cells.specs.Asking.{is_plain};
 ghost use Rattle.nm_cells.specs.Follows.{clock_if, clock_of_due, plans_breaks};
 
 use crate::asked::Asked;
@@ -19,16 +19,9 @@ use crate::ended;
 use crate::kept::KeptDevice;
 use crate::pass::{Pass, PassEntry, PassOwner};
 use nm_base::{DeviceNo, Label, MANAGER, NoMemory, SessionId};
-use nm_chronicle::RunName;
 use nm_history::{DeviceEvent, Noted, Told};
 use nm_proto::{Content, PlanFault, Reply, Request, Tables};
-
-// A request that was done: the place of its entry, and its reply.
-#[derive(Drop)]
-struct Reached {
-    position: u32,
-    reply: Reply,
-}
+use nm_run_plan::RunName;
 
 impl<C: Content, N: RunName<C, C::Config, C::Edit>> KeptDevice<C, N> {
     /// A request of a caller, on a session or for one, under the faults that are planned for the device. Its entry, and that
@@ -49,8 +42,8 @@ impl<C: Content, N: RunName<C, C::Config, C::Edit>> KeptDevice<C, N> {
         requires content { N.run.content ≡ Some content.now }
         requires tables { N.run.tables ≡ tables.now }
         requires edits_belong { All (C.meaning content.now).edit_belongs tables.now.edits }
-        ensures served { IfOk result (λ asked. Serves (C.meaning content.now) tables.now device pass.old.owner asked self.old
-            self.new pass.old.entries pass.new.entries session request.now) }
+        ensures served { IfOk result (λ asked. Leaves asked self.new pass.new.entries
+            (serve_of (C.meaning content.now) tables.now device pass.old.owner self.old pass.old.entries session request.now)) }
         ensures owner { pass.new.owner ≡ pass.old.owner }
         ensures no_memory { OnErr result (StaysOrAdvances (C.meaning content.now) self.old self.new) }
         ensures pass { OnErr result (pass.new ≡ pass.old) }
@@ -86,8 +79,8 @@ impl<C: Content, N: RunName<C, C::Config, C::Edit>> KeptDevice<C, N> {
         requires tables { N.run.tables ≡ tables.now }
         requires edits_belong { All (C.meaning content.now).edit_belongs tables.now.edits }
         requires asks { is_opening request.now ≡ false }
-        ensures served { IfOk result (λ asked. ServesSession (C.meaning content.now) tables.now device owner.now asked self.old
-            self.new entries.old.items entries.new.items session request.now) }
+        ensures served { IfOk result (λ asked. Leaves asked self.new entries.new.items
+            (serve_on (C.meaning content.now) tables.now device owner.now self.old entries.old.items session request.now)) }
         ensures no_memory { OnErr result (StaysOrAdvances (C.meaning content.now) self.old self.new) }
         ensures pass { OnErr result (entries.new.items ≡ entries.old.items) }
         ensures plain { IfOk result (λ asked. is_plain asked ≡ true) }
@@ -119,8 +112,8 @@ impl<C: Content, N: RunName<C, C::Config, C::Edit>> KeptDevice<C, N> {
         session: SessionId,
     ) -> Result<Asked, NoMemory>
         requires room { length entries.old.items + 2 ≤ vec_capacity entries.old }
-        ensures found { IfOk result (λ asked. Finds device asked self.old self.new entries.old.items entries.new.items
-            (found owner.now device session entries.old.items self.old.recorded.history)) }
+        ensures found { IfOk result (λ asked. Leaves asked self.new entries.new.items (tells_end device self.old entries.old.items
+            (found owner.now device session entries.old.items self.old.recorded.history))) }
         ensures unchanged { self.new ≡ self.old }
         ensures pass { OnErr result (entries.new.items ≡ entries.old.items) }
         ensures plain { IfOk result (λ asked. is_plain asked ≡ true) }
@@ -143,7 +136,6 @@ impl<C: Content, N: RunName<C, C::Config, C::Edit>> KeptDevice<C, N> {
 // Requests of open sessions.
 impl<C: Content, N: RunName<C, C::Config, C::Edit>> KeptDevice<C, N> {
     ghost use Rattle.nm_sessions.specs.Sessions.{is_open};
-    ghost use Rattle.nm_history.specs.History.{losing};
     ghost use Rattle.nm_proto.specs.declared.fault.PlanFault.{PlanFault};
     ghost use Rattle.nm_cells.specs.Faults.{due};
 
@@ -167,8 +159,8 @@ impl<C: Content, N: RunName<C, C::Config, C::Edit>> KeptDevice<C, N> {
         requires asks { is_opening request.now ≡ false }
         requires manager { is_managers session self.old.recorded.history ≡ true }
         requires settled { advance_of (due self.old.faults) ≡ None }
-        ensures served { IfOk result (λ asked. ServesManager (C.meaning content.now) tables.now device
-            (due self.old.faults) asked self.old self.new entries.old.items entries.new.items session request.now) }
+        ensures served { IfOk result (λ asked. Leaves asked self.new entries.new.items
+            (manager_asks (C.meaning content.now) tables.now device self.old entries.old.items session request.now)) }
         ensures unchanged { OnErr result (self.new ≡ self.old) }
         ensures pass { OnErr result (entries.new.items ≡ entries.old.items) }
         ensures plain { IfOk result (λ asked. is_plain asked ≡ true) }
@@ -186,7 +178,7 @@ impl<C: Content, N: RunName<C, C::Config, C::Edit>> KeptDevice<C, N> {
         }
     }
 
-    // A request is done and answered.
+    // A request is done and answered: its entry stands in the history and in the pass.
     fn answer(
         &mut self,
         content: &C,
@@ -206,16 +198,33 @@ impl<C: Content, N: RunName<C, C::Config, C::Edit>> KeptDevice<C, N> {
         requires asks { is_opening request.now ≡ false }
         requires counts { counts ≡ is_managers session self.old.recorded.history }
         requires clock { clock_if counts (due self.old.faults) ≡ [] }
-        ensures answered { IfOk result
-            (λ asked. Answers counts device asked self.old self.new entries.old.items entries.new.items
-            (DeviceEvent.Asked session request.now) (asking (C.meaning content.now) tables.now device self.old session request.now)) }
+        ensures answered { IfOk result (λ asked. Leaves asked self.new entries.new.items
+            (happens device counts self.old entries.old.items (DeviceEvent.Asked session request.now)
+            (asking (C.meaning content.now) tables.now self.old session request.now))) }
         ensures unchanged { OnErr result (self.new ≡ self.old) }
         ensures pass { OnErr result (entries.new.items ≡ entries.old.items) }
+        ensures capacity { vec_capacity entries.new ≡ vec_capacity entries.old }
         ensures plain { IfOk result (λ asked. is_plain asked ≡ true) }
     {
-        let Reached { position, reply } = self.reach(
-            content, tables, device, entries, session, request, counts,
-        )?;
+        let asked = request.copy()?;
+        let position = place_after(self.history.len());
+        let Told {
+            reply,
+            again,
+            undone,
+        } = self.ask(content, tables, session, request, counts)?;
+        entries.push_reserved(PassEntry {
+            device,
+            position,
+            noted: Noted {
+                event: DeviceEvent::Asked {
+                    session,
+                    request: asked,
+                },
+                reply: Some(again),
+                undone,
+            },
+        });
         Ok(Asked::Answered { position, reply })
     }
 
@@ -239,70 +248,18 @@ impl<C: Content, N: RunName<C, C::Config, C::Edit>> KeptDevice<C, N> {
         requires manager { is_managers session self.old.recorded.history ≡ true }
         requires clock { clock_of_due (due self.old.faults) ≡ [] }
         requires breaks { plans_breaks self.old.faults.plan ≡ true }
-        ensures cut { IfOk result (λ asked. Cuts (C.meaning content.now) device asked self.old self.new entries.old.items
-            entries.new.items (DeviceEvent.Asked session request.now)
-            (asking (C.meaning content.now) tables.now device self.old session request.now) (Some session)) }
+        ensures cut { IfOk result (λ asked. Leaves asked self.new entries.new.items
+            (cut_off (C.meaning content.now) device (Some session) (happens device true self.old entries.old.items
+            (DeviceEvent.Asked session request.now) (asking (C.meaning content.now) tables.now self.old session request.now)))) }
         ensures unchanged { OnErr result (self.new ≡ self.old) }
         ensures pass { OnErr result (entries.new.items ≡ entries.old.items) }
         ensures plain { IfOk result (λ asked. is_plain asked ≡ true) }
     {
-        let Reached { position, reply } = self.reach(
-            content, tables, device, entries, session, request, true,
-        )?;
+        let asked = self.answer(content, tables, device, entries, session, request, true)?;
         if !self.device.has_session(session) {
-            return Ok(Asked::Answered { position, reply });
+            return Ok(asked);
         }
         Ok(self.break_by_loss(content, device, entries, session, false))
-    }
-
-    // A request is done: its entry stands in the history and in the pass.
-    fn reach(
-        &mut self,
-        content: &C,
-        tables: &Tables<C>,
-        device: DeviceNo,
-        entries: &mut Vec<PassEntry>,
-        session: SessionId,
-        request: &Request,
-        counts: bool,
-    ) -> Result<Reached, NoMemory>
-        requires spare { 1 ≤ self.old.spare }
-        requires room { length entries.old.items < vec_capacity entries.old }
-        requires content { N.run.content ≡ Some content.now }
-        requires tables { N.run.tables ≡ tables.now }
-        requires edits_belong { All (C.meaning content.now).edit_belongs tables.now.edits }
-        requires open { is_open self.old.recorded.device.sessions session ≡ true }
-        requires asks { is_opening request.now ≡ false }
-        requires counts { counts ≡ is_managers session self.old.recorded.history }
-        requires clock { clock_if counts (due self.old.faults) ≡ [] }
-        ensures done { IfOk result (λ done. Does counts device done.position done.reply self.old self.new entries.old.items
-            entries.new.items (DeviceEvent.Asked session request.now)
-            (asking (C.meaning content.now) tables.now device self.old session request.now)) }
-        ensures unchanged { OnErr result (self.new ≡ self.old) }
-        ensures pass { OnErr result (entries.new.items ≡ entries.old.items) }
-        ensures capacity { vec_capacity entries.new ≡ vec_capacity entries.old }
-        ensures plain { IfOk result (λ done. has_plain_tag done.reply ≡ true) }
-    {
-        let asked = request.copy()?;
-        let position = place_after(self.history.len());
-        let Told {
-            reply,
-            again,
-            undone,
-        } = self.ask(content, tables, session, request, counts)?;
-        entries.push_reserved(PassEntry {
-            device,
-            position,
-            noted: Noted {
-                event: DeviceEvent::Asked {
-                    session,
-                    request: asked,
-                },
-                reply: Some(again),
-                undone,
-            },
-        });
-        Ok(Reached { position, reply })
     }
 
     // The session is lost, which breaks the call.
@@ -320,8 +277,8 @@ impl<C: Content, N: RunName<C, C::Config, C::Edit>> KeptDevice<C, N> {
         requires open { is_open self.old.recorded.device.sessions session ≡ true }
         requires clock { clock_if counts (due self.old.faults) ≡ [] }
         requires breaks { is_managers session self.old.recorded.history ≡ true → plans_breaks self.old.faults.plan ≡ true }
-        ensures broken { Breaks counts device result self.old self.new entries.old.items entries.new.items
-            (DeviceEvent.Lost session) (losing (C.meaning content.now) self.old.recorded.device session) }
+        ensures broken { Leaves result self.new entries.new.items
+            (loses (C.meaning content.now) device counts self.old entries.old.items session) }
         ensures plain { is_plain result ≡ true }
     {
         let position = place_after(self.history.len());
@@ -341,7 +298,7 @@ impl<C: Content, N: RunName<C, C::Config, C::Edit>> KeptDevice<C, N> {
 
 // Openings of sessions, and restarts.
 impl<C: Content, N: RunName<C, C::Config, C::Edit>> KeptDevice<C, N> {
-    ghost use Rattle.nm_history.specs.History.{entering, restarting};
+    ghost use Rattle.nm_history.specs.History.{entering};
     ghost use Rattle.nm_proto.specs.declared.fault.PlanFault.{PlanFault};
     ghost use Rattle.nm_cells.specs.Faults.{due};
 
@@ -355,8 +312,8 @@ impl<C: Content, N: RunName<C, C::Config, C::Edit>> KeptDevice<C, N> {
     ) -> Result<Asked, NoMemory>
         requires room { length entries.old.items + 2 ≤ vec_capacity entries.old }
         requires content { N.run.content ≡ Some content.now }
-        ensures served { IfOk result (λ asked. ServesOpening (C.meaning content.now) device asked
-            (with_room self.old) self.new entries.old.items entries.new.items user.now) }
+        ensures served { IfOk result (λ asked. Leaves asked self.new entries.new.items
+            (enters (C.meaning content.now) device (with_room self.old) entries.old.items user.now)) }
         ensures no_memory { OnErr result (StaysOrAdvances (C.meaning content.now) self.old self.new) }
         ensures pass { OnErr result (entries.new.items ≡ entries.old.items) }
         ensures plain { IfOk result (λ asked. is_plain asked ≡ true) }
@@ -383,8 +340,8 @@ impl<C: Content, N: RunName<C, C::Config, C::Edit>> KeptDevice<C, N> {
         requires content { N.run.content ≡ Some content.now }
         requires manager { bytes_eq user.now manager ≡ true }
         requires settled { advance_of (due self.old.faults) ≡ None }
-        ensures served { IfOk result (λ asked. OpensManager (C.meaning content.now) device (due self.old.faults) asked self.old
-            self.new entries.old.items entries.new.items user.now) }
+        ensures served { IfOk result (λ asked. Leaves asked self.new entries.new.items
+            (manager_enters (C.meaning content.now) device self.old entries.old.items user.now)) }
         ensures unchanged { OnErr result (self.new ≡ self.old) }
         ensures pass { OnErr result (entries.new.items ≡ entries.old.items) }
         ensures plain { IfOk result (λ asked. is_plain asked ≡ true) }
@@ -398,7 +355,7 @@ impl<C: Content, N: RunName<C, C::Config, C::Edit>> KeptDevice<C, N> {
         }
     }
 
-    // An opening is answered.
+    // An opening is done and answered: its entry stands in the history and in the pass.
     fn let_in(
         &mut self,
         device: DeviceNo,
@@ -410,66 +367,13 @@ impl<C: Content, N: RunName<C, C::Config, C::Edit>> KeptDevice<C, N> {
         requires room { length entries.old.items < vec_capacity entries.old }
         requires counts { counts ≡ bytes_eq user.now manager }
         requires clock { clock_if counts (due self.old.faults) ≡ [] }
-        ensures answered { IfOk result
-            (λ asked. Answers counts device asked self.old self.new entries.old.items entries.new.items
-            (DeviceEvent.Entered user.now) (entering self.old.recorded.device user.now)) }
-        ensures unchanged { OnErr result (self.new ≡ self.old) }
-        ensures pass { OnErr result (entries.new.items ≡ entries.old.items) }
-        ensures plain { IfOk result (λ asked. is_plain asked ≡ true) }
-    {
-        let Reached { position, reply } = self.reach_in(device, entries, user, counts)?;
-        Ok(Asked::Answered { position, reply })
-    }
-
-    // An opening is done, and then its reply and the session are lost.
-    fn cut_opening(
-        &mut self,
-        content: &C,
-        device: DeviceNo,
-        entries: &mut Vec<PassEntry>,
-        user: &Label,
-    ) -> Result<Asked, NoMemory>
-        requires spare { 2 ≤ self.old.spare }
-        requires room { length entries.old.items + 2 ≤ vec_capacity entries.old }
-        requires content { N.run.content ≡ Some content.now }
-        requires manager { bytes_eq user.now manager ≡ true }
-        requires clock { clock_of_due (due self.old.faults) ≡ [] }
-        requires breaks { plans_breaks self.old.faults.plan ≡ true }
-        ensures cut { IfOk result (λ asked. Cuts (C.meaning content.now) device asked self.old self.new entries.old.items
-            entries.new.items (DeviceEvent.Entered user.now) (entering self.old.recorded.device user.now)
-            (opened_session (entering self.old.recorded.device user.now).reply)) }
-        ensures unchanged { OnErr result (self.new ≡ self.old) }
-        ensures pass { OnErr result (entries.new.items ≡ entries.old.items) }
-        ensures plain { IfOk result (λ asked. is_plain asked ≡ true) }
-    {
-        let Reached { position, reply } = self.reach_in(device, entries, user, true)?;
-        let Some(session) = opened_session(&reply) else {
-            return Ok(Asked::Answered { position, reply });
-        };
-        if !self.device.has_session(session) {
-            return Ok(Asked::Answered { position, reply });
-        }
-        Ok(self.break_by_loss(content, device, entries, session, false))
-    }
-
-    // An opening is done: its entry stands in the history and in the pass.
-    fn reach_in(
-        &mut self,
-        device: DeviceNo,
-        entries: &mut Vec<PassEntry>,
-        user: &Label,
-        counts: bool,
-    ) -> Result<Reached, NoMemory>
-        requires spare { 1 ≤ self.old.spare }
-        requires room { length entries.old.items < vec_capacity entries.old }
-        requires counts { counts ≡ bytes_eq user.now manager }
-        requires clock { clock_if counts (due self.old.faults) ≡ [] }
-        ensures done { IfOk result (λ done. Does counts device done.position done.reply self.old self.new entries.old.items
-            entries.new.items (DeviceEvent.Entered user.now) (entering self.old.recorded.device user.now)) }
+        ensures answered { IfOk result (λ asked. Leaves asked self.new entries.new.items
+            (happens device counts self.old entries.old.items (DeviceEvent.Entered user.now)
+            (entering self.old.recorded.device user.now))) }
         ensures unchanged { OnErr result (self.new ≡ self.old) }
         ensures pass { OnErr result (entries.new.items ≡ entries.old.items) }
         ensures capacity { vec_capacity entries.new ≡ vec_capacity entries.old }
-        ensures plain { IfOk result (λ done. has_plain_tag done.reply ≡ true) }
+        ensures plain { IfOk result (λ asked. is_plain asked ≡ true) }
     {
         let entered = user.copy()?;
         let position = place_after(self.history.len());
@@ -487,7 +391,38 @@ impl<C: Content, N: RunName<C, C::Config, C::Edit>> KeptDevice<C, N> {
                 undone,
             },
         });
-        Ok(Reached { position, reply })
+        Ok(Asked::Answered { position, reply })
+    }
+
+    // An opening is done, and then its reply and the session are lost.
+    fn cut_opening(
+        &mut self,
+        content: &C,
+        device: DeviceNo,
+        entries: &mut Vec<PassEntry>,
+        user: &Label,
+    ) -> Result<Asked, NoMemory>
+        requires spare { 2 ≤ self.old.spare }
+        requires room { length entries.old.items + 2 ≤ vec_capacity entries.old }
+        requires content { N.run.content ≡ Some content.now }
+        requires manager { bytes_eq user.now manager ≡ true }
+        requires clock { clock_of_due (due self.old.faults) ≡ [] }
+        requires breaks { plans_breaks self.old.faults.plan ≡ true }
+        ensures cut { IfOk result (λ asked. Leaves asked self.new entries.new.items
+            (cut (C.meaning content.now) device None (happens device true self.old entries.old.items
+            (DeviceEvent.Entered user.now) (entering self.old.recorded.device user.now)))) }
+        ensures unchanged { OnErr result (self.new ≡ self.old) }
+        ensures pass { OnErr result (entries.new.items ≡ entries.old.items) }
+        ensures plain { IfOk result (λ asked. is_plain asked ≡ true) }
+    {
+        let asked = self.let_in(device, entries, user, true)?;
+        let Some(session) = opened_session(&asked) else {
+            return Ok(asked);
+        };
+        if !self.device.has_session(session) {
+            return Ok(asked);
+        }
+        Ok(self.break_by_loss(content, device, entries, session, false))
     }
 
     // The device restarts, which breaks the call.
@@ -501,8 +436,8 @@ impl<C: Content, N: RunName<C, C::Config, C::Edit>> KeptDevice<C, N> {
         requires room { length entries.old.items < vec_capacity entries.old }
         requires content { N.run.content ≡ Some content.now }
         requires due { due self.old.faults ≡ Some PlanFault.Restart }
-        ensures broken { Breaks true device result self.old self.new entries.old.items entries.new.items DeviceEvent.Restarted
-            (restarting (C.meaning content.now) self.old.recorded.device) }
+        ensures broken { Leaves result self.new entries.new.items
+            (restarts (C.meaning content.now) device self.old entries.old.items) }
         ensures plain { is_plain result ≡ true }
     {
         let position = place_after(self.history.len());
@@ -530,10 +465,13 @@ fn opening_user(request: &Request) -> Option<&Label>
     }
 }
 
-// The session that a reply opened.
-fn opened_session(reply: &Reply) -> Option<SessionId>
-    ensures { result ≡ opened_session (Some reply.now) }
+// The session that a call was told to have opened.
+fn opened_session(asked: &Asked) -> Option<SessionId>
+    ensures { result ≡ opened_session asked.now }
 {
+    let Asked::Answered { reply, .. } = asked else {
+        return None;
+    };
     match reply {
         Reply::Opened(session) => Some(*session),
         _ => None,

@@ -17,10 +17,11 @@ use crate::asked::Asked;
 use crate::kept::KeptDevice;
 use crate::pass::{Pass, PassOwner};
 use nm_base::{ChangeNo, DeviceNo, MANAGER, NoMemory, SessionId};
-use nm_chronicle::{CellShare, Chronicle, Phases, RunName, RunPlans, SlotShares, commits_for};
+use nm_chronicle::{CellShare, Chronicle, Phases, SlotShares, commits_for};
 use nm_device::Device;
 use nm_history::Noted;
 use nm_proto::{ChangePlan, Content, PlanEntry, Reply, Request, Tables};
+use nm_run_plan::{RunName, RunPlans};
 use std::alloc::Global;
 use std::marker::Model;
 use std::sync::{Mutex, Wait};
@@ -127,7 +128,7 @@ impl<C: Content, N: RunName<C, C::Config, C::Edit>> CellState<C, N> {
 
 // Calls.
 impl<C: Content, N: RunName<C, C::Config, C::Edit>> CellState<C, N> {
-    ghost use Rattle.nm_cells.specs.Serve.{Serves, StaysOrAdvances};
+    ghost use Rattle.nm_cells.specs.Serve.{serve_of, Leaves, StaysOrAdvances};
     ghost use Rattle.nm_cells.specs.End.{Ends};
 
     /// A request of an operator, on a session or for one, under the faults that are planned for the device, as
@@ -148,8 +149,8 @@ impl<C: Content, N: RunName<C, C::Config, C::Edit>> CellState<C, N> {
         requires tables { N.run.tables ≡ tables.now }
         requires edits_belong { All (C.meaning content.now).edit_belongs tables.now.edits }
         ensures served { IfOk result
-            (λ asked. Serves (C.meaning content.now) tables.now device pass.old.owner asked self.old.kept self.new.kept
-            pass.old.entries pass.new.entries session request.now) }
+            (λ asked. Leaves asked self.new.kept pass.new.entries
+            (serve_of (C.meaning content.now) tables.now device pass.old.owner self.old.kept pass.old.entries session request.now)) }
         ensures owner { pass.new.owner ≡ pass.old.owner }
         ensures no_memory { OnErr result (StaysOrAdvances (C.meaning content.now) self.old.kept self.new.kept) }
         ensures pass { OnErr result (pass.new ≡ pass.old) }
@@ -179,8 +180,8 @@ impl<C: Content, N: RunName<C, C::Config, C::Edit>> CellState<C, N> {
         requires tables { N.run.tables ≡ tables.now }
         requires edits_belong { All (C.meaning content.now).edit_belongs tables.now.edits }
         ensures served { IfOk result
-            (λ asked. Serves (C.meaning content.now) tables.now device pass.old.owner asked self.old.kept self.new.kept
-            pass.old.entries pass.new.entries session request.now) }
+            (λ asked. Leaves asked self.new.kept pass.new.entries
+            (serve_of (C.meaning content.now) tables.now device pass.old.owner self.old.kept pass.old.entries session request.now)) }
         ensures owner { pass.new.owner ≡ pass.old.owner }
         ensures slot { IfOk result (λ asked. slot.new ≡ slot_after slot.old (acknowledged pass.old.owner request.now asked)) }
         ensures no_memory { OnErr result (StaysOrAdvances (C.meaning content.now) self.old.kept self.new.kept) }
@@ -238,8 +239,8 @@ impl<C: Content, N: RunName<C, C::Config, C::Edit>> CellState<C, N> {
         requires tables { N.run.tables ≡ tables.now }
         requires edits_belong { All (C.meaning content.now).edit_belongs tables.now.edits }
         ensures served { IfOk result
-            (λ asked. Serves (C.meaning content.now) tables.now device pass.old.owner asked self.old.kept self.new.kept
-            pass.old.entries pass.new.entries session request.now) }
+            (λ asked. Leaves asked self.new.kept pass.new.entries
+            (serve_of (C.meaning content.now) tables.now device pass.old.owner self.old.kept pass.old.entries session request.now)) }
         ensures owner { pass.new.owner ≡ pass.old.owner }
         ensures no_memory { OnErr result (StaysOrAdvances (C.meaning content.now) self.old.kept self.new.kept) }
         ensures pass { OnErr result (pass.new ≡ pass.old) }

@@ -5,5 +5,3 @@ pub mod Shares
 -- How far each change set has come at a device, and what its coordinator may ask there.
 pub mod Phases
 pub mod Turn
--- The name of a run.
-pub mod Run

@@ -6,13 +6,13 @@ ghost use Rattle.nm_chronicle.specs.Line.{LineHolds, weight_of};
 ghost use Rattle.nm_chronicle.specs.Board.{BoardHolds, MarksLines, MarksBoard, counted, noted, with_room};
 ghost use Rattle.nm_chronicle.specs.Shares.{slot_asked, slot_acked, slot_decided};
 
-use crate::RunPlans;
 use crate::board::Board;
 use crate::line::BoardLine;
 use crate::mark::{Mark, Stray};
 use crate::shares::{BookShare, CellShare, SlotShares};
 use nm_base::{ChangeNo, DeviceNo, NoMemory};
 use nm_proto::Verdict;
+use nm_run_plan::RunPlans;
 use std::marker::Model;
 use std::sync::ledger::{Book, Share};
 

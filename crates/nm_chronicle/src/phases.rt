@@ -12,10 +12,11 @@ ghost use Rattle.nm_chronicle.specs.Phases.{Follow, Goes, GoesAlong, fresh_phase
 
 use crate::token::named_by;
 use crate::waiting::Waiting;
-use crate::{CellShare, Chronicle, Mark, RunPlans};
+use crate::{CellShare, Chronicle, Mark};
 use nm_base::{ChangeNo, DeviceNo, Label, NoMemory};
 use nm_history::{DeviceEvent, Noted, Undoing};
 use nm_proto::{Reply, Request};
+use nm_run_plan::RunPlans;
 use std::alloc::Global;
 use std::marker::Model;
 

@@ -5,13 +5,13 @@ ghost use Rattle.nm_chronicle.specs.Line.{fresh_line};
 ghost use Rattle.nm_chronicle.specs.Board.{devices_of, fresh_chronicle, BoardHolds};
 ghost use Rattle.nm_chronicle.specs.Shares.{fresh_slot};
 
-use crate::RunPlans;
 use crate::board::Board;
 use crate::chronicle::Chronicle;
 use crate::line::BoardLine;
 use crate::shares::{BookShare, CellShare, Shares, SlotShares};
 use nm_base::NoMemory;
 use nm_proto::ChangePlan;
+use nm_run_plan::RunPlans;
 use std::alloc::Global;
 use std::sync::ledger::{Blank, Share};
 

@@ -2,8 +2,8 @@
 
 ghost use Rattle.std.specs.Prelude.{◌≡◌};
 
-use crate::RunPlans;
 use nm_proto::Verdict;
+use nm_run_plan::RunPlans;
 use std::marker::Model;
 use std::sync::ledger::Share;
 

@@ -4,12 +4,12 @@ ghost use Rattle.std.specs.Prelude.{◌≡◌, Some};
 ghost use Rattle.nm_chronicle.specs.Line.{is_abort, is_commit};
 ghost use Rattle.nm_chronicle.specs.Turn.{allows, allows_commit, commits_for, is_change, is_last_asked};
 
-use crate::RunPlans;
 use crate::count::count_to;
 use crate::shares::SlotShares;
 use crate::token::named_by;
 use nm_base::{ChangeNo, DeviceNo, Label};
 use nm_proto::{ChangePlan, Request, Verdict};
+use nm_run_plan::RunPlans;
 
 impl<N: RunPlans> SlotShares<N> {
     /// Whether the coordinator of a change set, whose slot it is, may ask this of a device: the change set's confirmed commit

@@ -90,6 +90,7 @@ module _ {Config TheEdit Node : Type 0} (m : Meaning Config TheEdit Node) (setti
     pub course : AllOnCourse (verdict_in change entries) devices slot
     pub links : AllLinks (λ d. IsOwnLink m setting entries change (suc d) (slice_get devices d)) slot.sides
 
+  -- the same, as what is kept of each change set
   abbrev pub OfBrought : OfSlot Config Node
   OfBrought change plan entries devices slot = IsBrought change entries devices slot
 

@@ -1,5 +1,5 @@
 -- What a world asks of a scenario that was read, and what its safety does.
-use Rattle.std.proofs.Common.{◌≡◌, ◌≤◌, ◌<◌, ◌+◌, ◌&&◌, ◌⊎◌, inl, inr, ℕ, List, [], ◌∷◌, length, map, get_or, Bool, true, false, Some, None, slice_get, refl, sym, ap, ◌∙◌, subst, arith, lt-ltb}
+use Rattle.std.proofs.Common.{◌≡◌, ◌≤◌, ◌<◌, ◌+◌, ◌&&◌, ◌⊎◌, inl, inr, ℕ, List, [], ◌∷◌, length, map, get_or, Bool, true, false, Some, None, Ok, Err, slice_get, refl, sym, ap, ◌∙◌, subst, arith, lt-ltb}
 use Rattle.std.specs.List.{All, sum_by, fold}
 use Rattle.std.specs.Option.{IfSome}
 use Rattle.std.specs.Str.{bytes_eq}
@@ -30,7 +30,9 @@ use Rattle.nm_edit.specs.declared.edit.EditNode.{EditNode}
 use Rattle.nm_overlay.specs.Differences.{Overlaid}
 use Rattle.nm_content.specs.Meaning.{lifted, yang_meaning}
 use Rattle.nm_content.specs.Laws.{yang_laws}
+use Rattle.nm_scenario_laws.proofs.Whole.{bytes_keep}
 use Rattle.nm_scenario_laws.specs.Kept.{Ascend, BodyKeeps, ChangeKeeps, DataAreKept, DataKeeps, IsOwnOpening, OpensOwn, ScenarioKeeps, StateKeeps, UserKeeps, counts_in, device_of_plan, devices_in}
+use Rattle.nm_scenario.specs.declared.scenario.Body.{Body}
 use Rattle.nm_scenario.specs.declared.scenario.Body.TheVariants.{Flat, Yang}
 use Rattle.nm_scenario.specs.declared.scenario.Scenario.{Scenario}
 use Rattle.nm_safety.specs.Safe.{AreGiven, IsGiven, IsProper, IsSafe}
@@ -64,12 +66,15 @@ use Rattle.nm_outcome_laws.specs.Causes.{HaveCauses}
 use Rattle.nm_outcome_laws.proofs.causes.Runs.{run_has_causes, drained_has_causes}
 use Rattle.nm_outcome_laws.specs.Lapses.{LapsesAreUndone}
 use Rattle.nm_outcome_laws.proofs.lapses.Runs.{run_lapses, drained_lapses}
+use Rattle.nm_outcome_laws.specs.Settled.{IsAtRest}
+use Rattle.nm_outcome_laws.proofs.settled.Ways.{told_unsettled}
+use Rattle.nm_outcome_laws.proofs.settled.Rest.{drained_settles}
 use Rattle.nm_rest_laws.specs.Calm.{IsCalm, IsCommitted}
 use Rattle.nm_rest_laws.proofs.calm.Rests.{calm_commits}
 use Rattle.nm_rest_laws.specs.Rest.{HasDevices, IsWithin}
 use Rattle.nm_rest_laws.proofs.rest.Limit.{run_ends}
 use Rattle.nm_console.proofs.Rests.{few_elementary, has_devices}
-use Rattle.nm_console.specs.Console.{CanRun, IsSafeRun, led_to, setting_of, world_of}
+use Rattle.nm_console.specs.Console.{CanRun, EachRunIsSafe, IsSafeRun, RunsSafelyBy, led_to, setting_of, world_of}
 
 -- ---- devices and change sets
 
@@ -271,9 +276,11 @@ module _ {Config TheEdit Node : Type 0} (m : Meaning Config TheEdit Node) (laws 
   plans_there place = got (λ plan. All (IsWithin (length devices)) plan.edits) s.changes place
       (λ k d less. subst (λ n. All (IsWithin n) (get_or s.changes k d).edits) count (has_devices (devices_in s.body) (get_or s.changes k d) (keeps.changes k d less)))
 
-  rests_if : (drain : Bool) → drain ≡ true → drain_event (setting_of edits s) (led_to m (setting_of edits s) s.events drain (start (setting_of edits s) devices)) ≡ None
+  rests_if : (drain : Bool) → drain ≡ true → IsAtRest m (setting_of edits s) (led_to m (setting_of edits s) s.events drain (start (setting_of edits s) devices))
   rests_if false is = absurd cc
-  rests_if true is = (run_ends m laws (setting_of edits s) devices s.events proper plans_there (few_elementary s.events 100000 keeps.event_count)).left_at_rest
+  rests_if true is =
+      drained_settles m laws (setting_of edits s) devices s.events drain_limit proper unmarked
+      (run_ends m laws (setting_of edits s) devices s.events proper plans_there (few_elementary s.events 100000 keeps.event_count)).left_at_rest
 
   -- what a calm run comes to, where a world began with these events
   abbrev Commits : ChangePlan → Bool → List Event → Type 0
@@ -291,6 +298,7 @@ module _ {Config TheEdit Node : Type 0} (m : Meaning Config TheEdit Node) (laws 
     valid = can.begins.first;
     safe = world_safe;
     reports = safe_tells m (setting_of edits s) devices s.events (world_of m devices edits s) world_safe;
+    settles = told_unsettled (setting_of edits s) (world_of m devices edits s) (safe_tells m (setting_of edits s) devices s.events (world_of m devices edits s) world_safe);
     brings = brings_if s.drain;
     leaves = leaves_if s.drain;
     refuses = refuses_if s.drain;
@@ -300,7 +308,7 @@ module _ {Config TheEdit Node : Type 0} (m : Meaning Config TheEdit Node) (laws 
     stays = stays_if s.drain;
     ends = ends_if s.drain;
     rests = rests_if s.drain;
-    calm = λ plan calm is drained. calm_if plan calm s.events is s.drain drained (rests_if s.drain drained);
+    calm = λ plan calm is drained. calm_if plan calm s.events is s.drain drained (rests_if s.drain drained).over;
   }
 
 -- ---- the contents
@@ -361,3 +369,14 @@ module _ (s : Scenario) (modules : List (List ℕ)) (tree : SchemaTree) (devices
 
   pub yang_safe : IsSafeRun (yang_meaning tree) begun edits s
   yang_safe = safe_run (yang_meaning tree) (yang_laws tree) s begun edits yang_runs yang_count yang_bare keeps
+
+-- ---- whatever is read
+
+-- the world of every scenario is safe
+safe_by : (s : Scenario) (body : Body) → s.body ≡ body → ScenarioKeeps s → RunsSafelyBy body s
+safe_by s (Flat devices edits) is keeps = flat_safe s devices edits is keeps
+safe_by s (Yang modules tree devices edits) is keeps = yang_safe s modules tree devices edits is keeps
+
+pub each_safe : EachRunIsSafe
+each_safe bytes (Err fault) reads = tt
+each_safe bytes (Ok s) reads = safe_by s s.body refl (bytes_keep bytes s reads)

@@ -24,7 +24,8 @@ use Rattle.nm_console.specs.declared.journal.JournalStop.{JournalStop}
 use Rattle.nm_console.specs.declared.command.Command.TheVariants.{Check, Replay}
 use Rattle.nm_world.specs.World.{WorldState}
 use Rattle.nm_proto.specs.declared.plan.Event.{Event}
-use Rattle.nm_console.specs.Console.{Answer, AsSaid, AsTold, IsAstray, IsAstrayBy, IsAstrayIn, IsAstrayOf, IsSoOf, DivergedRun, Stores, Tells, TellsLast, TellsOver, TellsReplay, TellsRun, TellsUnopened, Unread, checked, entries_by, faulted, left_in, not_empty, opened, replay_entries, replayed, told_by, told_of, world_of}
+use Rattle.nm_console.specs.Console.{Answer, AsSaid, AsTold, IsAstray, IsAstrayBy, IsAstrayIn, IsAstrayOf, IsSoOf, DivergedRun, RunsSafely, Stores, Tells, TellsLast, TellsOver, TellsReplay, TellsRun, TellsUnopened, Unread, checked, entries_by, faulted, left_in, not_empty, opened, replay_entries, replayed, told_by, told_of, world_of}
+use Rattle.nm_console.proofs.Given.{each_safe}
 
 -- a scenario that is read is within its limits
 pub read_keeps : (bytes : List ℕ) (scenario : Scenario) → Reads bytes (Ok scenario) → ScenarioKeeps scenario
@@ -40,14 +41,10 @@ fault_replays fault stored status text tells =
     record { image = unwrap_or stored []; kept = some_image stored; goes = inl (record { tells = tells; stores = refl }) }
 
 module _ {Config Node : Type 0} (told : WorldState Config Node → Answer) (last : WorldState Config Node) (events : List Event) (stored mid after : Option (List ℕ)) (status : Status) (text : List ℕ) where
-  other : (IsSome stored → IsSome mid) → DivergedRun told mid status text ⊎ Unread status text → DivergedRun told stored status text ⊎ Unread status text
-  other some (inl has_diverged) = inl (record { untold = λ is. has_diverged.untold (some is); last = has_diverged.last; has = has_diverged.has; tells = has_diverged.tells })
-  other some (inr unread) = inr unread
-
   goes_so : (IsSome stored → IsSome mid) → TellsLast told last events mid after status text
       → AsTold (told last) (Some last.entries) stored after status text ⊎ IsAstray told events stored status text
   goes_so some (inl both) = inl (record { tells = both.0; stores = both.1 })
-  goes_so some (inr astray) = inr (record { crashed = astray.crashed; tells = other some astray.tells })
+  goes_so some (inr astray) = inr (record { crashed = astray.crashed; untold = λ is. astray.untold (some is); tells = astray.tells })
 
   -- a run over an empty journal
   pub run_tells : IfSome stored (λ bytes. bytes ≡ []) → (IsSome stored → IsSome mid) → TellsLast told last events mid after status text → TellsRun told last events stored after status text
@@ -139,30 +136,37 @@ yang_replays s modules tree devices edits stored after (Err stop) is t = tt
 pub read_told : (bytes : List ℕ) (given : Result Scenario Fault) (stored after : Option (List ℕ)) (result : Result Said JournalStop) → ReadsBytes bytes given
     → IfOk result (λ said. TellsReplay given stored after said.status said.text.items)
     → IfOk result (λ said. IsSoOf bytes (λ outcome. TellsReplay outcome stored after said.status said.text.items))
-read_told bytes given stored after (Ok said) reads t = record { outcome = given; reads = reads; is_so = t }
+read_told bytes given stored after (Ok said) reads t = record { outcome = given; reads = reads; is_so = t; safe = each_safe bytes given reads }
 read_told bytes given stored after (Err stop) reads t = tt
 
 pub fault_told : (bytes : List ℕ) (fault : Fault) (stored : Option (List ℕ)) (status : Status) (text : List ℕ) → ReadsBytes bytes (Err fault) → Tells (faulted fault) status text
     → IsSoOf bytes (λ outcome. TellsReplay outcome stored stored status text)
-fault_told bytes fault stored status text reads tells = record { outcome = Err fault; reads = reads; is_so = fault_replays fault stored status text tells }
+fault_told bytes fault stored status text reads tells = record { outcome = Err fault; reads = reads; is_so = fault_replays fault stored status text tells; safe = tt }
 
-said_so : (bytes image : List ℕ) (outcome : Result Scenario Fault) (stored after : Option (List ℕ)) (status : Status) (text : List ℕ) → ReadsBytes bytes outcome
+said_so : (bytes image : List ℕ) (outcome : Result Scenario Fault) (stored after : Option (List ℕ)) (status : Status) (text : List ℕ) → ReadsBytes bytes outcome → RunsSafely outcome
     → AsTold (replayed image outcome) (replay_entries image outcome) stored after status text ⊎ IsAstrayIn outcome stored status text
     → AsSaid (Some Replay) bytes image stored after status text ⊎ IsAstrayOf (Some Replay) bytes stored status text
-said_so bytes image outcome stored after status text reads (inl told) = inl (record { outcome = outcome; reads = reads; is_so = told })
-said_so bytes image outcome stored after status text reads (inr astray) = inr (record { outcome = outcome; reads = reads; is_so = astray })
+said_so bytes image outcome stored after status text reads safe (inl told) = inl (record { outcome = outcome; reads = reads; is_so = told; safe = safe })
+said_so bytes image outcome stored after status text reads safe (inr astray) = inr (record { outcome = outcome; reads = reads; is_so = astray; safe = safe })
 
 pub replay_over : (bytes : List ℕ) (stored after : Option (List ℕ)) (status : Status) (text : List ℕ) → IsSoOf bytes (λ outcome. TellsReplay outcome stored after status text)
     → TellsOver (Some Replay) bytes stored after status text
 replay_over bytes stored after status text t =
-    record { image = t.is_so.image; kept = t.is_so.kept; goes = said_so bytes t.is_so.image t.outcome stored after status text t.reads t.is_so.goes }
+    record { image = t.is_so.image; kept = t.is_so.kept; goes = said_so bytes t.is_so.image t.outcome stored after status text t.reads t.safe t.is_so.goes }
+
+-- the same of an answer, where there is one
+pub replays_over : (bytes : List ℕ) (stored after : Option (List ℕ)) (result : Result Said JournalStop)
+    → IfOk result (λ said. IsSoOf bytes (λ outcome. TellsReplay outcome stored after said.status said.text.items))
+    → IfOk result (λ said. TellsOver (Some Replay) bytes stored after said.status said.text.items)
+replays_over bytes stored after (Ok said) t = replay_over bytes stored after said.status said.text.items t
+replays_over bytes stored after (Err stop) t = tt
 
 pub check_over : (bytes : List ℕ) (stored : Option (List ℕ)) (status : Status) (text : List ℕ) → IsSoOf bytes (λ outcome. Tells (checked outcome) status text)
     → TellsOver (Some Check) bytes stored stored status text
 check_over bytes stored status text t = record {
   image = unwrap_or stored [];
   kept = some_image stored;
-  goes = inl (record { outcome = t.outcome; reads = t.reads; is_so = record { tells = t.is_so; stores = refl } });
+  goes = inl (record { outcome = t.outcome; reads = t.reads; is_so = record { tells = t.is_so; stores = refl }; safe = t.safe });
 }
 
 pub ruleset replays = (fault_told, replay_over, check_over)

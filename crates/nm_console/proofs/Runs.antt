@@ -21,7 +21,8 @@ module _ {TheContent Config TheEdit Node : Type 0} (shown : TheContent → Confi
       inl (subst (λ w. Tells (world_told (shown world.content) trace world.setting w) status text) led_is tells, subst (λ (w : WorldState Config Node). IfSome after (ReadsAs w.entries)) led_is stores)
   ran_by true is same done straight calm stores tells = inr (record {
     crashed = λ h. let no = calm h in absurd cc;
-    tells = inl (record { untold = λ h. let no = straight h in absurd cc; last = last.state; has = is; tells = tells });
+    untold = λ h. let no = straight h in absurd cc;
+    tells = inl (record { last = last.state; has = is; tells = tells });
   })
 
   -- what was told of the world that it came to
@@ -34,13 +35,14 @@ module _ {TheContent Config TheEdit Node : Type 0} (shown : TheContent → Confi
 
 -- or that its journal couldn't be read
 pub damaged_tells : {Config TheEdit Node : Type 0} (shown : Config → List ℕ) (trace : Bool) (setting : Setting TheEdit) (led : WorldState Config Node) (events : List Event) (stored after : Option (List ℕ))
-    (status : Status) (text : List ℕ) (offset : ℕ) → (AreCalm events → ⊥) → Tells (damaged offset) status text → TellsLast (world_told shown trace setting) led events stored after status text
-damaged_tells shown trace setting led events stored after status text offset crashed tells =
-    inr (record { crashed = crashed; tells = inr (record { offset = offset; tells = tells }) })
+    (status : Status) (text : List ℕ) (offset : ℕ) → (AreCalm events → ⊥) → (IsSome stored → ⊥) → Tells (damaged offset) status text → TellsLast (world_told shown trace setting) led events stored after status text
+damaged_tells shown trace setting led events stored after status text offset crashed untold tells =
+    inr (record { crashed = crashed; untold = untold; tells = inr (record { offset = offset; tells = tells }) })
 
 -- the same of an answer, where there is one
 pub damaged_told : {Config TheEdit Node : Type 0} (shown : Config → List ℕ) (trace : Bool) (setting : Setting TheEdit) (led : WorldState Config Node) (events : List Event) (stored after : Option (List ℕ))
-    (result : Result Said JournalStop) (offset : ℕ) → (AreCalm events → ⊥) → IfOk result (λ said. Tells (damaged offset) said.status said.text.items)
+    (result : Result Said JournalStop) (offset : ℕ) → (AreCalm events → ⊥) → (IsSome stored → ⊥) → IfOk result (λ said. Tells (damaged offset) said.status said.text.items)
     → IfOk result (λ said. TellsLast (world_told shown trace setting) led events stored after said.status said.text.items)
-damaged_told shown trace setting led events stored after (Ok said) offset crashed tells = damaged_tells shown trace setting led events stored after said.status said.text.items offset crashed tells
-damaged_told shown trace setting led events stored after (Err stop) offset crashed tells = tt
+damaged_told shown trace setting led events stored after (Ok said) offset crashed untold tells =
+    damaged_tells shown trace setting led events stored after said.status said.text.items offset crashed untold tells
+damaged_told shown trace setting led events stored after (Err stop) offset crashed untold tells = tt

@@ -1,16 +1,11 @@
 -- What is said without the bytes of the input, and what is said where there were too many.
-use Rattle.std.proofs.Common.{◌≡◌, ◌⊎◌, inl, inr, ℕ, ◌<◌, ◌+◌, List, [], length, true, Option, Some, None, Ok, Err, IfSome, unwrap_or, replicate, refl, sym, ◌∙◌, subst, arith}
+use Rattle.std.proofs.Common.{◌≡◌, ◌⊎◌, inl, inr, ℕ, ◌<◌, ◌+◌, List, [], length, true, Option, Some, None, Err, IfSome, unwrap_or, replicate, refl, sym, ◌∙◌, subst, arith}
 use Rattle.std.proofs.lemmas.List.{length-replicate}
 use Rattle.std.specs.Io.KnownBytes.{IsAtEnd}
 use Rattle.nm_io.specs.Bytes.{ReadsUpTo}
 use Rattle.nm_proto.specs.declared.kind.ScenarioKind.TheVariants.{TooLong}
-use Rattle.nm_scenario.specs.declared.scenario.Body.{Body}
-use Rattle.nm_scenario.specs.declared.scenario.Body.TheVariants.{Flat, Yang}
-use Rattle.nm_scenario.specs.declared.scenario.Scenario.{Scenario}
 use Rattle.nm_scenario.specs.Scenario.{byte_limit}
 use Rattle.nm_scenario.proofs.Whole.{one_of_bytes, long_reads}
-use Rattle.nm_scenario_laws.specs.Kept.{ScenarioKeeps}
-use Rattle.nm_scenario_laws.proofs.Whole.{bytes_keep}
 use Rattle.nm_console.specs.declared.status.Status.{Status}
 use Rattle.nm_console.specs.declared.command.Command.{Command}
 use Rattle.nm_console.specs.declared.command.Command.TheVariants.{Check, Replay, Journal}
@@ -18,21 +13,11 @@ use Rattle.nm_console.specs.Refusal.{of_whole}
 use Rattle.nm_journal.specs.Entries.{entries_of}
 use Rattle.nm_journal.specs.Fits.{OfImage}
 use Rattle.nm_console.specs.Words.{reads_input}
-use Rattle.nm_console.specs.Console.{Answer, AsSaid, EachRunIsSafe, HasOneAnswer, IsAstrayOf, RunsSafelyBy, Says, Streams, Tells, TellsJournal, TellsOver, checked, faulted, journalled, replayed, usage_told}
-use Rattle.nm_console.proofs.Given.{flat_safe, yang_safe}
+use Rattle.nm_console.specs.Console.{Answer, AsSaid, HasOneAnswer, IsAstrayOf, Says, Streams, Tells, TellsJournal, TellsOver, checked, faulted, journalled, replayed, usage_told}
 
 held : (left : Option (List ℕ)) (other : List ℕ) → IfSome left (λ told. told ≡ unwrap_or left other)
 held None other = tt
 held (Some told) other = refl
-
--- the world of every scenario is safe
-safe_by : (s : Scenario) (body : Body) → s.body ≡ body → ScenarioKeeps s → RunsSafelyBy body s
-safe_by s (Flat devices edits) is keeps = flat_safe s devices edits is keeps
-safe_by s (Yang modules tree devices edits) is keeps = yang_safe s modules tree devices edits is keeps
-
-pub each_safe : EachRunIsSafe
-each_safe bytes (Err fault) reads = tt
-each_safe bytes (Ok s) reads = safe_by s s.body refl (bytes_keep bytes s reads)
 
 tells_one : (given : Answer) (status other : Status) (text words : List ℕ) → Tells given status text → Tells given other words → (other ≡ status) × (words ≡ text)
 tells_one given status other text words a b = (sym b.status_is ∙ a.status_is, sym b.text_is ∙ a.text_is)
@@ -79,8 +64,8 @@ journal_says left stored after status text same of =
 -- too many bytes are told of by every command that reads them in the same way, and the journal stays
 long_said : (command : Command) (bytes image : List ℕ) (stored : Option (List ℕ)) (status : Status) (text : List ℕ) → reads_input (Some command) ≡ true → byte_limit < length bytes
     → Tells (faulted (of_whole TooLong)) status text → AsSaid (Some command) bytes image stored stored status text
-long_said Check bytes image stored status text reads long tells = record { outcome = Err (of_whole TooLong); reads = long_reads bytes long; is_so = record { tells = tells; stores = refl } }
-long_said Replay bytes image stored status text reads long tells = record { outcome = Err (of_whole TooLong); reads = long_reads bytes long; is_so = record { tells = tells; stores = refl } }
+long_said Check bytes image stored status text reads long tells = record { outcome = Err (of_whole TooLong); reads = long_reads bytes long; is_so = record { tells = tells; stores = refl }; safe = tt }
+long_said Replay bytes image stored status text reads long tells = record { outcome = Err (of_whole TooLong); reads = long_reads bytes long; is_so = record { tells = tells; stores = refl }; safe = tt }
 long_said Journal bytes image stored status text reads long tells = absurd cc
 
 -- so many bytes

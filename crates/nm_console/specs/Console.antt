@@ -19,7 +19,7 @@ use Rattle.nm_scenario.specs.declared.scenario.Body.TheVariants.{Flat, Yang}
 use Rattle.nm_scenario.specs.declared.scenario.Scenario.{Scenario}
 use Rattle.nm_scenario.specs.Scenario.{ReadsBytes}
 use Rattle.nm_world.specs.World.{AreCalm, CanBegin, IsFirst, Setting, WorldState, run, start}
-use Rattle.nm_world.specs.Drain.{drain_event, drain_limit, drained}
+use Rattle.nm_world.specs.Drain.{drain_limit, drained}
 use Rattle.nm_world.specs.Runs.{IsBetween, IsNumbered}
 use Rattle.nm_safety.specs.Safe.{IsSafe}
 use Rattle.nm_commit_laws.specs.Brings.{BringsAlone}
@@ -28,6 +28,7 @@ use Rattle.nm_commit_laws.specs.Refuses.{RefusesGone}
 use Rattle.nm_outcome_laws.specs.Records.{EndsAsRecorded}
 use Rattle.nm_outcome_laws.specs.Causes.{HaveCauses}
 use Rattle.nm_outcome_laws.specs.Lapses.{LapsesAreUndone}
+use Rattle.nm_outcome_laws.specs.Settled.{IsAtRest, TellsUnsettled}
 use Rattle.nm_commit_laws.specs.Marks.{ArePlain, MarksTell}
 use Rattle.nm_commit_laws.specs.Stays.{MarksStay}
 use Rattle.nm_rest_laws.specs.Calm.{IsCalm, IsCommitted}
@@ -182,11 +183,52 @@ abbrev pub checked : Result Scenario Fault → Answer
 checked (Err fault) = faulted fault
 checked (Ok s) = holding s
 
--- this is so of what bytes are read as
+-- the world that a scenario of these devices and edits leads to is safe, its devices begin with valid configurations, what is
+-- reported of it is so (all of a change set or none, but for the devices that are told to differ), and what is brought to rest is there
+pub record IsSafeRun {Config TheEdit Node : Type 0} (m : Meaning Config TheEdit Node) (devices : List Config)
+    (edits : List TheEdit) (s : Scenario) : Type 0 where
+  pub valid : All (IsFirst m) devices
+  pub safe : IsSafe m (setting_of edits s) devices s.events (world_of m devices edits s)
+  pub reports : TellsAll (setting_of edits s) (world_of m devices edits s)
+  -- unsettled is told of exactly what is pending or has a request on its way, as links and histories have it
+  pub settles : TellsUnsettled (setting_of edits s) (world_of m devices edits s)
+  -- each commit of a change set brings its own edit alone, the manager's others leave running as it was, what is refused to the manager
+  -- isn't pending, and each abort in the journal has the cause that it names
+  pub brings : BringsAlone m (setting_of edits s) devices (world_of m devices edits s)
+  pub leaves : LeavesAlone m (setting_of edits s) devices (world_of m devices edits s)
+  pub refuses : RefusesGone m (setting_of edits s) devices (world_of m devices edits s)
+  pub causes : HaveCauses (world_of m devices edits s)
+  -- where that is a lapse of a renewal, the change set was undone there
+  pub lapses : LapsesAreUndone (world_of m devices edits s)
+  -- where no edit of a change set names a mark, marks tell which change sets are at a device
+  pub marks : ArePlain m (setting_of edits s) → MarksTell m (world_of m devices edits s)
+  -- change sets come to a device one after another, and the mark of one that isn't ended stays where that is
+  pub stays : MarksStay m (world_of m devices edits s)
+  -- and what the journal records at the end of a change set is so: nothing of it is pending, and who kept it are those where it is confirmed
+  pub ends : ArePlain m (setting_of edits s) → EndsAsRecorded (setting_of edits s) (world_of m devices edits s)
+  -- a run that is to be brought to rest is at rest: each change set that was submitted is ended, and where no edit of one names a mark
+  -- nothing is unsettled
+  pub rests : s.drain ≡ true → IsAtRest m (setting_of edits s) (world_of m devices edits s)
+  -- one that is calm, whose one change set is submitted and brought to rest, commits it everywhere
+  pub calm : (plan : ChangePlan) → IsCalm m (setting_of edits s) devices plan → s.events ≡ Submit 1 ∷ [] → s.drain ≡ true
+      → IsCommitted m (setting_of edits s) devices plan (world_of m devices edits s)
+
+-- the same by the contents
+abbrev pub RunsSafelyBy : Body → Scenario → Type 0
+RunsSafelyBy (Flat devices edits) s = IsSafeRun flat_meaning devices edits s
+RunsSafelyBy (Yang modules tree devices edits) s = IsSafeRun (yang_meaning tree) (map lifted devices) edits s
+
+-- a scenario runs safely, if it could be read
+abbrev pub RunsSafely : Result Scenario Fault → Type 0
+RunsSafely (Err fault) = Unit {0}
+RunsSafely (Ok s) = RunsSafelyBy s.body s
+
+-- this is so of what bytes are read as, and the run of that is safe
 pub record IsSoOf (bytes : List ℕ) (so : Result Scenario Fault → Type 0) : Type 0 where
   pub outcome : Result Scenario Fault
   pub reads : ReadsBytes bytes outcome
   pub is_so : so outcome
+  pub safe : RunsSafely outcome
 
 -- what journal tells of the bytes of a disk
 abbrev pub TellsJournal : List ℕ → Status → List ℕ → Type 0
@@ -213,10 +255,8 @@ pub record LeavesSoFarOf (left : Option (List ℕ)) (image : List ℕ) : Type 0 
 
 -- ---- a run that a crash led astray
 
--- the manager read another list of entries than it wrote. Only a disk that doesn't tell its bytes can give one
-pub record DivergedRun {Config Node : Type 0} (told_of : WorldState Config Node → Answer) (stored : Option (List ℕ))
-    (status : Status) (text : List ℕ) : Type 0 where
-  pub untold : IsSome stored → ⊥
+-- the manager read another list of entries than it wrote
+pub record DivergedRun {Config Node : Type 0} (told_of : WorldState Config Node → Answer) (status : Status) (text : List ℕ) : Type 0 where
   pub last : WorldState Config Node
   pub has : last.has_diverged ≡ true
   pub tells : Tells (told_of last) status text
@@ -226,11 +266,12 @@ pub record Unread (status : Status) (text : List ℕ) : Type 0 where
   pub offset : ℕ
   pub tells : Tells (damaged offset) status text
 
--- one of both, where the events have a crash
+-- one of both, where the events have a crash and the disk doesn't tell its bytes: over one that does, a journal reads as it was written
 pub record IsAstray {Config Node : Type 0} (told_of : WorldState Config Node → Answer) (events : List Event)
     (stored : Option (List ℕ)) (status : Status) (text : List ℕ) : Type 0 where
   pub crashed : AreCalm events → ⊥
-  pub tells : DivergedRun told_of stored status text ⊎ Unread status text
+  pub untold : IsSome stored → ⊥
+  pub tells : DivergedRun told_of status text ⊎ Unread status text
 
 -- the same of a scenario with these contents, and of one that was read
 abbrev pub IsAstrayBy : Body → Scenario → Option (List ℕ) → Status → List ℕ → Type 0
@@ -299,44 +340,7 @@ abbrev pub TellsUnopened : JournalFault → Status → List ℕ → Type 0
 TellsUnopened (NotEmpty size) status text = Tells (not_empty size) status text
 TellsUnopened _ status text = ⊥
 
--- the world that a scenario of these devices and edits leads to is safe, its devices begin with valid configurations, what is
--- reported of it is so (all of a change set or none, but for the devices that are told to differ), and what is brought to rest is there
-pub record IsSafeRun {Config TheEdit Node : Type 0} (m : Meaning Config TheEdit Node) (devices : List Config)
-    (edits : List TheEdit) (s : Scenario) : Type 0 where
-  pub valid : All (IsFirst m) devices
-  pub safe : IsSafe m (setting_of edits s) devices s.events (world_of m devices edits s)
-  pub reports : TellsAll (setting_of edits s) (world_of m devices edits s)
-  -- each commit of a change set brings its own edit alone, the manager's others leave running as it was, what is refused to the manager
-  -- isn't pending, and each abort in the journal has the cause that it names
-  pub brings : BringsAlone m (setting_of edits s) devices (world_of m devices edits s)
-  pub leaves : LeavesAlone m (setting_of edits s) devices (world_of m devices edits s)
-  pub refuses : RefusesGone m (setting_of edits s) devices (world_of m devices edits s)
-  pub causes : HaveCauses (world_of m devices edits s)
-  -- where that is a lapse of a renewal, the change set was undone there
-  pub lapses : LapsesAreUndone (world_of m devices edits s)
-  -- where no edit of a change set names a mark, marks tell which change sets are at a device
-  pub marks : ArePlain m (setting_of edits s) → MarksTell m (world_of m devices edits s)
-  -- change sets come to a device one after another, and the mark of one that isn't ended stays where that is
-  pub stays : MarksStay m (world_of m devices edits s)
-  -- and what the journal records at the end of a change set is so: nothing of it is pending, and who kept it are those where it is confirmed
-  pub ends : ArePlain m (setting_of edits s) → EndsAsRecorded (setting_of edits s) (world_of m devices edits s)
-  -- a run that is to be brought to rest is at rest
-  pub rests : s.drain ≡ true → drain_event (setting_of edits s) (world_of m devices edits s) ≡ None
-  -- one that is calm, whose one change set is submitted and brought to rest, commits it everywhere
-  pub calm : (plan : ChangePlan) → IsCalm m (setting_of edits s) devices plan → s.events ≡ Submit 1 ∷ [] → s.drain ≡ true
-      → IsCommitted m (setting_of edits s) devices plan (world_of m devices edits s)
-
--- the same by the contents
-abbrev pub RunsSafelyBy : Body → Scenario → Type 0
-RunsSafelyBy (Flat devices edits) s = IsSafeRun flat_meaning devices edits s
-RunsSafelyBy (Yang modules tree devices edits) s = IsSafeRun (yang_meaning tree) (map lifted devices) edits s
-
--- a scenario runs safely, if it could be read
-abbrev pub RunsSafely : Result Scenario Fault → Type 0
-RunsSafely (Err fault) = Unit {0}
-RunsSafely (Ok s) = RunsSafelyBy s.body s
-
--- so is what any bytes are read as
+-- whatever bytes are read as runs safely
 abbrev pub EachRunIsSafe : Type 0
 EachRunIsSafe = (bytes : List ℕ) (outcome : Result Scenario Fault) → ReadsBytes bytes outcome → RunsSafely outcome
 

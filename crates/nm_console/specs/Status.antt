@@ -1,5 +1,5 @@
 -- The exit statuses (this project's own).
-use Rattle.std.specs.Prelude.{ℕ, List, [], ◌∷◌, Bool, true, false}
+use Rattle.std.specs.Prelude.{◌≡◌, ◌≢◌, ◌↔◌, ℕ, List, [], ◌∷◌, Bool, true, false}
 use Rattle.nm_world.specs.declared.report.Pair.{Pair}
 use Rattle.nm_world.specs.declared.report.Report.{Report}
 use Rattle.nm_world.specs.Report.{report_of}
@@ -42,6 +42,12 @@ status_for [] [] = status.Ok
 -- the status of a report
 abbrev pub report_status : Report → Status
 report_status report = status_for report.unsettled report.differ
+
+-- what the status of a report tells of it: one is unsettled, or none is and one differs, or neither
+pub record StatusTells (report : Report) : Type 0 where
+  pub unsettled : (report_status report ≡ status.Unsettled) ↔ (report.unsettled ≢ [])
+  pub differ : (report_status report ≡ status.Differ) ↔ ((report.unsettled ≡ []) × (report.differ ≢ []))
+  pub ok : (report_status report ≡ status.Ok) ↔ ((report.unsettled ≡ []) × (report.differ ≡ []))
 
 -- the status of the world at the end of a run
 abbrev pub world_status : {Config TheEdit Node : Type 0} → Setting TheEdit → WorldState Config Node → Status

@@ -8,7 +8,7 @@ ghost use Rattle.nm_disk.specs.Image.{AnyMoment, LeavesOnly};
 ghost use Rattle.nm_disk.specs.Keeps.{KeepsDisk};
 ghost use Rattle.nm_console.specs.Words.{command_of, is_replay, reads_input, uses_journal, texts_of};
 ghost use Rattle.nm_console.specs.Status.{is_whole};
-ghost use Rattle.nm_console.specs.Console.{Answers, CutOff, EachRunIsSafe, LeavesSoFarBy, LeavesSoFarOf, Says, Tells, TellsOver, usage_told};
+ghost use Rattle.nm_console.specs.Console.{Answers, CutOff, LeavesSoFarBy, LeavesSoFarOf, Says, Tells, TellsOver, usage_told};
 
 use crate::check::check_bytes;
 use crate::command::{Command, command_of};
@@ -37,7 +37,6 @@ enum Stop {
 /// The words are those after the program's name, and `journal` is the disk at the path that they name, if they do.
 /// A run appends each entry to its journal before anything rests on it. Nothing is written to the output before the answer is
 /// whole in memory, so that only a failed write leaves a part of it.
-#[tactic(auto, using(crate::proofs::Saying::each_safe))]
 pub fn console<S: Source, K: Sink, D: Disk>(
     alloc: Global,
     words: &[String],
@@ -45,13 +44,11 @@ pub fn console<S: Source, K: Sink, D: Disk>(
     output: &mut K,
     journal: &mut D,
 ) -> Status
-    // The answer to the words, the input and the journal was written, and nothing else.
+    // The answer to the words, the input and the journal was written, and nothing else. Where it is told of a scenario that was read, the
+    // same record says that the run of that scenario is safe.
     ensures answered { IsTrue (is_whole result)
         → Answers (record { left = S.left input.old; stored = (D.state journal.old).contents; after = (D.state journal.new).contents })
         (command_of (texts_of words.now)) (K.taken output.old) (K.taken output.new) result }
-
-    // What is run for it is safe: the law `runs_are_safe`.
-    ensures safe { EachRunIsSafe }
 
     // The input was read to its end, or past the greatest length of a scenario.
     ensures read_out { IsTrue (is_whole result) → reads_input (command_of (texts_of words.now)) ≡ true

@@ -8,7 +8,7 @@ ghost use Rattle.nm_disk.specs.Keeps.{KeepsDisk};
 ghost use Rattle.nm_journal.specs.Fits.{ReadsAs};
 ghost use Rattle.nm_journal.specs.declared.fault.JournalFault.TheVariants.{DiskFault};
 ghost use Rattle.nm_manager.specs.declared.action.TurnFault.TheVariants as turn_fault;
-ghost use Rattle.nm_world.specs.Runs.{HasTime, IsBetween, IsNumbered, IsReady};
+ghost use Rattle.nm_world.specs.Runs.{HasTime, IsBetween, IsNumbered, IsReady, NoneStrange};
 ghost use Rattle.nm_world.specs.World.{AreCalm, start, with_state};
 ghost use Rattle.nm_content.specs.Meaning.{lifted};
 ghost use Rattle.nm_scenario_laws.specs.Kept.{DataKeeps, ScenarioKeeps};
@@ -203,6 +203,7 @@ fn say_run<C: Show + Drop, D: Disk>(
     requires in_time { HasTime (2 ^ 32 * length events.now) world.state.devices }
     requires numbered { length world.state.operators < 2 ^ 32 }
     requires straight { world.state.has_diverged ≡ false }
+    requires known { NoneStrange world.setting.plans world.state.entries }
     requires ready { IsReady world (D.state disk.old) }
     ensures told { IfOk result (λ said. TellsLast (world_told (C.shown world.content) trace world.setting)
         (led_to (C.Content.meaning world.content) world.setting events.now drain world.state)
@@ -231,6 +232,7 @@ fn lead<C: Show + Drop, D: Disk>(
     requires in_time { HasTime (2 ^ 32 * length events.now) world.state.devices }
     requires numbered { length world.state.operators < 2 ^ 32 }
     requires straight { world.state.has_diverged ≡ false }
+    requires known { NoneStrange world.setting.plans world.state.entries }
     requires ready { IsReady world (D.state disk.old) }
     ensures done { IfOk result (λ last. last.state.has_diverged ≡ false
         → last ≡ with_state world (led_to (C.Content.meaning world.content) world.setting events.now drain world.state)) }
@@ -238,6 +240,7 @@ fn lead<C: Show + Drop, D: Disk>(
     ensures straight { IsSome (D.state disk.old).contents → IfOk result (λ last. last.state.has_diverged ≡ false) }
     ensures calm { AreCalm events.now → IfOk result (λ last. last.state.has_diverged ≡ false) }
     ensures read { AreCalm events.now → (offset : ℕ) → result ≡ Err (turn_fault.Damaged offset) → ⊥ }
+    ensures sound { IsSome (D.state disk.old).contents → (offset : ℕ) → result ≡ Err (turn_fault.Damaged offset) → ⊥ }
     ensures stored { IfOk result (λ last. IfSome (D.state disk.new).contents (ReadsAs last.state.entries)) }
     ensures disk_fault { result ≡ Err turn_fault.DiskFault → Rose (D.state disk.old).faults (D.state disk.new).faults }
     ensures keeps { KeepsDisk (D.state disk.old) (D.state disk.new) }

@@ -77,3 +77,14 @@ fn runs_end(rt: HostRuntime) {
     nm_outcome_laws::records::ends_are_recorded(&content);
     nm_outcome_laws::records::drained_ends_are_recorded(&content);
 }
+
+#[test]
+fn steps_uphold(rt: HostRuntime) {
+    let content = FlatContent::new(rt.alloc());
+    nm_run_laws::due::every_due_entry_comes(&content);
+    nm_run_laws::due::every_due_entry_comes_when_drained(&content);
+    nm_run_laws::upheld::every_step_upholds(&content);
+    nm_run_laws::upheld::every_crash_is_a_new_start(&content);
+    nm_outcome_laws::settled::requests_on_their_way_are_told(&content);
+    nm_outcome_laws::settled::rest_settles_all(&content);
+}

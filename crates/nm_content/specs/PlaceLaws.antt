@@ -1,5 +1,5 @@
 -- When two configurations have the same at a node, and the same marks.
-use Rattle.std.specs.Prelude.{◌≡◌, ◌↔◌, ℕ, List, [], ◌∷◌, Bool, true, false, cond, not, ◌||◌, is_some, Option, Some, None, refl}
+use Rattle.std.specs.Prelude.{◌≡◌, ◌↔◌, ℕ, List, [], ◌∷◌, Bool, true, false, cond, not, ◌&&◌, ◌||◌, is_some, Option, Some, None, refl}
 use Rattle.std.proofs.Common.{inl, inr, sym, ◌∙◌, ap}
 use Rattle.std.proofs.lemmas.Bool.{cases_Bool}
 use Rattle.std.specs.List.{list_all, list_any}
@@ -10,11 +10,14 @@ use Rattle.nm_types.specs.PathLaws.{paths_total, path_cmp-IsAntisymmetric, same_
 use Rattle.nm_types.specs.ValueLaws.{same_value_decides}
 use Rattle.nm_types.specs.declared.value.Value.{Value}
 use Rattle.nm_config.specs.Rows.{Rows}
-use Rattle.nm_config.specs.Under.{is_under, under}
+use Rattle.nm_config.specs.Under.{is_under}
+use Rattle.nm_schema_tree.specs.Nodes.{SchemaTree}
+use Rattle.nm_path.specs.Spelling.{node_of}
+use Rattle.nm_validate_rules.specs.Guards.{front}
 use Rattle.nm_validate_rules.proofs.Among.{both}
 use Rattle.nm_validate_rules.proofs.Placed.{both_true}
 use Rattle.nm_content_place.specs.declared.place.YangNode.{YangNode}
-use Rattle.nm_content_place.specs.Place.{overlaps, part, same_value, is_shared, has_part_of, same_at}
+use Rattle.nm_content_place.specs.Place.{is_key_at, row_of, node_at, path_found, found, overlaps, is_part, part, same_value, is_shared, has_part_of, same_at}
 use Rattle.nm_content.specs.Mark.{mark_path, has_mark, mark_at, is_mark, has_marks_of, same_marks}
 use Rattle.nm_content.specs.MarkLaws.{at_itself, at_is, alike}
 
@@ -76,8 +79,8 @@ or_none (Some x) b h k = h refl
 or_none None (Some y) h k = sym (k refl)
 or_none None None h k = refl
 
-get-under : (rows : Rows) (path q : List PathStep) → get (under rows path) q ≡ cond (is_under path q) (get rows q) None
-get-under rows path q = get-retain_keys rows (is_under path) q (λ x t. ap (is_under path) (sym (path_cmp-IsAntisymmetric q x t)))
+get-part : (rows : Rows) (node : YangNode) (q : List PathStep) → get (part rows node) q ≡ cond (is_part node q) (get rows q) None
+get-part rows node q = get-retain_keys rows (is_part node) q (λ x t. ap (is_part node) (sym (path_cmp-IsAntisymmetric q x t)))
 
 cond_same : {X : Type 0} (b : Bool) (a c : Option X) → (b ≡ true → a ≡ c) → cond b a None ≡ cond b c None
 cond_same true a c h = h refl
@@ -91,33 +94,76 @@ shared_if : (under same : Bool) → (under ≡ true → same ≡ true) → (not 
 shared_if true same h = h refl
 shared_if false same h = refl
 
-module _ (path : List PathStep) where
-  get_same : (one other : Rows) → has_part_of other one path ≡ true → (q : List PathStep) → is_under path q ≡ true
-      → is_some (get one q) ≡ true → get one q ≡ get other q
-  get_same one other h q u there =
-      values_same (get one q) (get other q)
-      (shared_by (is_under path q) (same_value (get one q) (get other q)) u (at_key (is_shared one other path) one q h there))
+get_same : (path : List PathStep) (one other : Rows) → has_part_of other one path ≡ true → (q : List PathStep) → is_under path q ≡ true
+    → is_some (get one q) ≡ true → get one q ≡ get other q
+get_same path one other h q u there =
+    values_same (get one q) (get other q)
+    (shared_by (is_under path q) (same_value (get one q) (get other q)) u (at_key (is_shared one other path) one q h there))
 
-  part_same : (one other : Rows) → has_part_of other one path ≡ true → has_part_of one other path ≡ true → under one path ≡ under other path
-  part_same one other h k = same_map paths_total path_cmp-IsAntisymmetric _ _ (λ q.
-      get-under one path q
-      ∙ cond_same (is_under path q) (get one q) (get other q) (λ u. or_none (get one q) (get other q) (get_same one other h q u) (get_same other one k q u))
-      ∙ sym (get-under other path q))
+module _ (node : YangNode) where
+  get_either : (one other : Rows) → has_part_of other one node.path ≡ true → has_part_of one other node.path ≡ true → get one node.row ≡ get other node.row
+      → (q : List PathStep) (below here : Bool) → is_under node.path q ≡ below → eq_by_cmp path_cmp node.row q ≡ here → (below || here) ≡ true → get one q ≡ get other q
+  get_either one other h k s q true here u e x = or_none (get one q) (get other q) (get_same node.path one other h q u) (get_same node.path other one k q u)
+  get_either one other h k s q false true u e x = let is = (same_path_decides node.row q _ refl).0 e in ap (get one) (sym is) ∙ s ∙ ap (get other) is
+  get_either one other h k s q false false u e x = absurd (cc)
 
-  part_of : (one other : Rows) → under one path ≡ under other path → has_part_of other one path ≡ true
-  part_of one other e = from_keys (is_shared one other path) one (λ q there.
-      shared_if (is_under path q) (same_value (get one q) (get other q)) (λ u.
-      let same : get one q ≡ get other q =
-      sym (cond_true (is_under path q) (get one q) u) ∙ sym (get-under one path q) ∙ ap (λ (m : Rows). get m q) e
-      ∙ get-under other path q ∙ cond_true (is_under path q) (get other q) u in
+  part_same : (one other : Rows) → has_part_of other one node.path ≡ true → has_part_of one other node.path ≡ true → get one node.row ≡ get other node.row
+      → part one node ≡ part other node
+  part_same one other h k s = same_map paths_total path_cmp-IsAntisymmetric _ _ (λ q.
+      get-part one node q
+      ∙ cond_same (is_part node q) (get one q) (get other q) (λ x. get_either one other h k s q (is_under node.path q) (eq_by_cmp path_cmp node.row q) refl refl x)
+      ∙ sym (get-part other node q))
+
+  at_part : (one other : Rows) → part one node ≡ part other node → (q : List PathStep) → is_part node q ≡ true → get one q ≡ get other q
+  at_part one other e q x =
+      sym (cond_true (is_part node q) (get one q) x) ∙ sym (get-part one node q) ∙ ap (λ (m : Rows). get m q) e
+      ∙ get-part other node q ∙ cond_true (is_part node q) (get other q) x
+
+  part_of : (one other : Rows) → part one node ≡ part other node → has_part_of other one node.path ≡ true
+  part_of one other e = from_keys (is_shared one other node.path) one (λ q there.
+      shared_if (is_under node.path q) (same_value (get one q) (get other q)) (λ u.
+      let same = at_part one other e q (or_left (is_under node.path q) (eq_by_cmp path_cmp node.row q) u) in
       ap (same_value (get one q)) (sym same) ∙ value_itself (get one q)))
+
+  row_same : (one other : Rows) → part one node ≡ part other node → same_value (get one node.row) (get other node.row) ≡ true
+  row_same one other e =
+      let same = at_part one other e node.row (or_right (is_under node.path node.row) (eq_by_cmp path_cmp node.row node.row) ((same_path_decides node.row node.row _ refl).1 refl)) in
+      ap (same_value (get one node.row)) (sym same) ∙ value_itself (get one node.row)
 
 -- a node is the same in two configurations exactly where its rows are
 pub parts_tell : (one other : Rows) (node : YangNode) → (same_at one other node ≡ true) ↔ (part one node ≡ part other node)
 parts_tell one other node = (
-  λ h. let b = both (has_part_of other one node.path) (has_part_of one other node.path) h in part_same node.path one other b.0 b.1,
-  λ e. both_true (has_part_of other one node.path) (has_part_of one other node.path) (part_of node.path one other e) (part_of node.path other one (sym e)),
+  λ h.
+      let b = both (has_part_of other one node.path && has_part_of one other node.path) (same_value (get one node.row) (get other node.row)) h in
+      let d = both (has_part_of other one node.path) (has_part_of one other node.path) b.0 in
+      part_same node one other d.0 d.1 (values_same (get one node.row) (get other node.row) b.1),
+  λ e. both_true (has_part_of other one node.path && has_part_of one other node.path) (same_value (get one node.row) (get other node.row))
+      (both_true (has_part_of other one node.path) (has_part_of one other node.path) (part_of node one other e) (part_of node other one (sym e)))
+      (row_same node one other e),
 )
+
+-- the row that a node exists by is the same in configurations that have equal parts there
+pub rows_kept : (one other : Rows) (node : YangNode) → part one node ≡ part other node → get one node.row ≡ get other node.row
+rows_kept one other node e = values_same (get one node.row) (get other node.row) (row_same node one other e)
+
+some_same : {X : Type 0} {a b : X} → ◌≡◌ {A = Option X} (Some a) (Some b) → a ≡ b
+some_same e = cc
+
+-- a key leaf exists by its entry's own row
+key_row : (t : SchemaTree) (path : Option (List PathStep)) (node : YangNode) → node_at t path ≡ Some node → is_key_at t (node_of t node.path) ≡ true → node.row ≡ front node.path
+key_row t None node e key = absurd (cc)
+key_row t (Some path) node e key =
+    let is : record { path = path; row = row_of t path } ≡ node = some_same e in
+    sym (ap (λ (n : YangNode). n.row) is)
+    ∙ ap (λ (n : YangNode). row_of t n.path) is
+    ∙ ap (λ (b : Bool). cond b (front node.path) node.path) key
+
+-- configurations with equal parts at a key leaf have its entry alike: both have it, or both lack it
+pub entry_kept : (t : SchemaTree) (text : List ℕ) (node : YangNode) (one other : Rows) → found t text ≡ Some node → is_key_at t (node_of t node.path) ≡ true
+    → part one node ≡ part other node → get one (front node.path) ≡ get other (front node.path)
+entry_kept t text node one other e key same =
+    let row = key_row t (path_found t text) node e key in
+    ap (get one) (sym row) ∙ rows_kept one other node same ∙ ap (get other) row
 
 -- ---- the same marks
 

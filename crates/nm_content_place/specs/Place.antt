@@ -2,15 +2,16 @@
 use Rattle.std.specs.Prelude.{ℕ, List, Bool, true, false, not, ◌&&◌, ◌||◌, Option, Some, None, if◌then◌else◌}
 use Rattle.std.specs.List.{list_all}
 use Rattle.std.specs.Result.{result_ok}
-use Rattle.std.specs.FinMap.{get, keys}
-use Rattle.nm_types.specs.Path.{PathStep}
+use Rattle.std.specs.Ordering.{eq_by_cmp}
+use Rattle.std.specs.FinMap.{get, keys, retain_keys}
+use Rattle.nm_types.specs.Path.{PathStep, path_cmp}
 use Rattle.nm_types.specs.Value.{is_same_value}
 use Rattle.nm_types.specs.declared.value.Value.{Value}
 use Rattle.nm_schema_tree.specs.Nodes.{SchemaTree, is_key}
 use Rattle.nm_path.specs.Spelling.{node_of}
 use Rattle.nm_path.specs.Reading.{path_of}
 use Rattle.nm_config.specs.Rows.{Rows}
-use Rattle.nm_config.specs.Under.{is_under, has_under, under}
+use Rattle.nm_config.specs.Under.{is_under, has_under}
 use Rattle.nm_validate_rules.specs.Guards.{front}
 use Rattle.nm_content_place.specs.declared.place.YangNode.{YangNode}
 
@@ -48,9 +49,13 @@ overlaps one other = is_under one.path other.path || is_under other.path one.pat
 
 -- ---- what is at and below a node
 
--- the rows at and below a node; none of a key leaf, since its value is in the path of its entry
+-- a row is part of a node: it is at or below it, or it is the row that the node exists by, of a key leaf its entry's own
+abbrev pub is_part : YangNode → List PathStep → Bool
+is_part node row = is_under node.path row || eq_by_cmp path_cmp node.row row
+
+-- what a configuration has at a node: the rows at and below it, and of a key leaf, whose value is in the path of its entry, that entry's own row
 abbrev pub part : Rows → YangNode → Rows
-part rows node = under rows node.path
+part rows node = retain_keys rows (is_part node)
 
 -- two values are the same, or both are missing
 abbrev pub same_value : Option Value → Option Value → Bool
@@ -66,6 +71,6 @@ is_shared one other path row = not (is_under path row) || same_value (get one ro
 abbrev pub has_part_of : Rows → Rows → List PathStep → Bool
 has_part_of other one path = list_all (is_shared one other path) (keys one)
 
--- two configurations have the same rows at and below a node
+-- two configurations have the same rows at and below a node, and the same row that it exists by
 abbrev pub same_at : Rows → Rows → YangNode → Bool
-same_at one other node = has_part_of other one node.path && has_part_of one other node.path
+same_at one other node = has_part_of other one node.path && has_part_of one other node.path && same_value (get one node.row) (get other node.row)

@@ -127,9 +127,10 @@ fn has_part_of<M: RowMap>(other: &M, one: &M, path: &Path) -> bool
     is_kept(other, one, path) && has_rest_of(other, one, path)
 }
 
-/// Whether two configurations have the same rows at and below a node. It takes no memory.
+/// Whether two configurations have the same rows at and below a node, and the same row that it exists by. It takes no memory.
 pub fn same_at<M: RowMap>(one: &M, other: &M, node: &YangNode) -> bool
     ensures { result ≡ spec.same_at (M.rows one.now) (M.rows other.now) node.now }
 {
-    has_part_of(other, one, &node.path) && has_part_of(one, other, &node.path)
+    let same_below = has_part_of(other, one, &node.path) && has_part_of(one, other, &node.path);
+    same_below && same_value(one.value(&node.row), other.value(&node.row))
 }

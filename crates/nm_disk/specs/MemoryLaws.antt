@@ -13,6 +13,7 @@ pub image_now : (calls : List Call) (since : ℕ) (image : List ℕ) → since �
 image_now [] since image le now = (le, now)
 image_now (call ∷ earlier) since image le now = inl (le, now)
 
+-- a moment since which an image might have been left isn't later than now
 pub not_before : (calls : List Call) (since : ℕ) (image : List ℕ) → MightHaveLeft calls since image → since ≤ length calls
 not_before [] since image left = left.0
 not_before (call ∷ earlier) since image (inl now) = now.0

@@ -19,6 +19,7 @@ and_then old mid new P first second = record {
   before = λ start image le left. ⊎_elim (first.before start image le) (λ now. inr now) (second.before start image (omega (arith, first.later)) left);
 }
 
+-- what holds of each image, and so what follows from it
 pub weaker : (old new : DiskState) (P Q : List ℕ → Type 0) → ((image : List ℕ) → P image → Q image) → AnyMoment old new P → AnyMoment old new Q
 weaker old new P Q f run = record {
   later = run.later;

@@ -13,6 +13,7 @@ use Rattle.nm_proto.specs.declared.kind.ScenarioKind.TheVariants.{TooLong}
 use Rattle.nm_scenario_form.specs.Places.{walked}
 use Rattle.nm_scenario.specs.declared.scenario.Scenario.{Scenario}
 use Rattle.nm_scenario.specs.Scenario.{ReadsBytes, json_of}
+use Rattle.nm_lines.specs.Printed.{printed}
 use Rattle.nm_explain.specs.declared.status.Status.{Status}
 use Rattle.nm_explain.specs.declared.status.Status.TheVariants.{Fine, Scenario as Faulty}
 use Rattle.nm_explain.specs.Sentence.{of_data, asks_form}
@@ -38,7 +39,7 @@ byte_told (Some text) byte inner = module_text text byte inner
 
 -- one line: what is wrong at a path
 abbrev pub at_told : List ℕ → List ℕ → List ℕ
-at_told path word = codes "at " ++ path ++ codes ": " ++ of_data word ++ codes "\n"
+at_told path word = codes "at " ++ printed path ++ codes ": " ++ of_data word ++ codes "\n"
 
 -- a line with what the modules of a scenario's JSON value want at a path
 abbrev pub type_in : Bool → List ℕ → Option Data → List ℕ

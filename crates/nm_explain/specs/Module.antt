@@ -4,6 +4,7 @@ use Rattle.nm_yang.specs.Tree.{Tree, statement}
 use Rattle.nm_yang.specs.Module.{reading}
 use Rattle.nm_yang.specs.declared.fault.Fault.{Fault as TextFault}
 use Rattle.nm_scenario_form.specs.declared.fault.Inner.{Inner}
+use Rattle.nm_lines.specs.Printed.{printed}
 use Rattle.nm_explain.specs.Lines.{line_after, last_line, rest_of_line, characters, blanks}
 use Rattle.nm_explain.specs.Sentence.{of_module}
 
@@ -15,20 +16,21 @@ name_in (Ok (statement keyword argument place below)) = argument
 -- a module by its name, where that is known
 abbrev pub named : Option (List ℕ) → List ℕ
 named None = codes "module"
-named (Some name) = codes "module" ++ codes " " ++ name
+named (Some name) = codes "module" ++ codes " " ++ printed name
 
 -- a word behind a colon, where there is one
 abbrev pub about_text : Option (List ℕ) → List ℕ
 about_text None = []
-about_text (Some word) = codes ": " ++ word
+about_text (Some word) = codes ": " ++ printed word
 
 -- the line and the column of what follows these bytes
 abbrev pub spot_text : List ℕ → List ℕ
 spot_text front = codes ", line " ++ decimal (line_after front) ++ codes ", column " ++ decimal (characters (last_line front) + 1) ++ codes ": "
 
--- the line that two parts of a text meet in, and a caret below where they do
+-- the line that two parts of a text meet in, as it is printed, and a caret below where they do
 abbrev pub line_text : List ℕ → List ℕ → List ℕ
-line_text front behind = last_line front ++ rest_of_line behind ++ codes "\n" ++ blanks (last_line front) ++ codes "^\n"
+line_text front behind =
+    printed (last_line front) ++ printed (rest_of_line behind) ++ codes "\n" ++ blanks (printed (last_line front)) ++ codes "^\n"
 
 -- why, and what it is about
 abbrev pub why_text : Inner → List ℕ

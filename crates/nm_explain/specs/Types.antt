@@ -1,6 +1,7 @@
 -- A type in words of YANG (RFC 7950 section 9), and the JSON values that its values are (RFC 7951 section 6).
 use Rattle.std.specs.Prelude.{ℕ, ℤ, pos, List, [], ◌∷◌, ◌++◌, codes, decimal, ◌==◌, Option, Some, None, if◌then◌else◌}
 use Rattle.std.specs.Ordering.{int_eq}
+use Rattle.nm_lines.specs.Printed.{printed}
 use Rattle.nm_types.specs.LeafType.{Kind, integer, boolean, string, enumeration, bits, empty, TypeOfLeaf}
 use Rattle.nm_types.specs.LeafType as leaf
 use Rattle.nm_json.specs.Values.{is_narrow}
@@ -45,12 +46,12 @@ range_text low high (Some parts) = codes ", " ++ parts_text Whole parts
 -- the names behind the first
 abbrev pub others_text : List (List ℕ) → List ℕ
 others_text [] = []
-others_text (name ∷ names) = codes ", " ++ name ++ others_text names
+others_text (name ∷ names) = codes ", " ++ printed name ++ others_text names
 
 -- names, with commas between them
 abbrev pub names_text : List (List ℕ) → List ℕ
 names_text [] = []
-names_text (name ∷ names) = name ++ others_text names
+names_text (name ∷ names) = printed name ++ others_text names
 
 -- names behind a text
 abbrev pub listed_text : List ℕ → List (List ℕ) → List ℕ

@@ -8,6 +8,7 @@ use crate::name::module_name;
 use crate::sentence::of_module;
 use crate::text::put;
 use nm_base::{Label, NoMemory, write_decimal};
+use nm_lines::{printed, put_printed};
 use nm_scenario_form::Inner;
 use std::alloc::Global;
 
@@ -19,7 +20,7 @@ fn put_name(out: &mut Vec<u8>, name: &Option<Label>) -> Result<(), NoMemory>
     match name {
         Some(name) => {
             put(out, " ")?;
-            put(out, name.as_str())
+            put_printed(out, name.as_str().as_bytes())
         }
         None => Ok(()),
     }
@@ -32,7 +33,7 @@ fn put_about(out: &mut Vec<u8>, about: &Option<Label>) -> Result<(), NoMemory>
     match about {
         Some(word) => {
             put(out, ": ")?;
-            put(out, word.as_str())
+            put_printed(out, word.as_str().as_bytes())
         }
         None => Ok(()),
     }
@@ -50,14 +51,14 @@ fn put_spot(out: &mut Vec<u8>, front: &[u8]) -> Result<(), NoMemory>
 }
 
 // The line of the text, and below it a caret.
-fn put_line(out: &mut Vec<u8>, front: &[u8], behind: &[u8]) -> Result<(), NoMemory>
+fn put_line(alloc: Global, out: &mut Vec<u8>, front: &[u8], behind: &[u8]) -> Result<(), NoMemory>
     ensures { OnOk result (out.new.items ≡ out.old.items ++ spec.line_text front.now behind.now) }
 {
-    let before = last_line(front);
-    out.extend_from_slice(before)?;
-    out.extend_from_slice(rest_of_line(behind))?;
+    let before = printed(alloc, last_line(front))?;
+    out.extend_from_slice(&before)?;
+    put_printed(out, rest_of_line(behind))?;
     put(out, "\n")?;
-    write_blanks(out, before)?;
+    write_blanks(out, &before)?;
     put(out, "^\n")
 }
 
@@ -72,6 +73,7 @@ fn put_why(out: &mut Vec<u8>, inner: &Inner) -> Result<(), NoMemory>
 
 // What is wrong behind a front of a module's text.
 fn put_split(
+    alloc: Global,
     out: &mut Vec<u8>,
     name: &Option<Label>,
     front: &[u8],
@@ -83,7 +85,7 @@ fn put_split(
     put_name(out, name)?;
     put_spot(out, front)?;
     put_why(out, inner)?;
-    put_line(out, front, behind)
+    put_line(alloc, out, front, behind)
 }
 
 // The bytes before a place.
@@ -120,6 +122,7 @@ pub(crate) fn put_module(
     let bytes = text.as_bytes();
     let place = byte as usize;
     put_split(
+        alloc,
         out,
         &name,
         front_of(bytes, place),

@@ -14,6 +14,7 @@ use crate::text::put;
 use crate::tree::put_wanted_in;
 use crate::wanted::{at_place, of_kind};
 use nm_base::NoMemory;
+use nm_lines::put_printed;
 use nm_proto::Listed;
 use nm_scenario::{ReadError, read_scenario};
 use nm_scenario_form::{Cause, Fault, Inner, InnerPlace, ScenarioKind, write_line};
@@ -126,7 +127,7 @@ fn put_at(out: &mut Vec<u8>, path: &str, word: &str) -> Result<(), NoMemory>
     ensures { OnOk result (out.new.items ≡ out.old.items ++ spec.at_told path.now word.now) }
 {
     put(out, "at ")?;
-    put(out, path)?;
+    put_printed(out, path.as_bytes())?;
     put(out, ": ")?;
     put(out, of_data(word))?;
     put(out, "\n")

@@ -8,6 +8,7 @@ use crate::numbers::{Numbers, put_parts};
 use crate::text::put;
 use nm_base::{Label, NoMemory, write_decimal};
 use nm_json::leafs::is_narrow;
+use nm_lines::put_printed;
 use nm_types::{LeafType, Parts, TypeKind};
 use std::alloc::Global;
 
@@ -103,7 +104,7 @@ fn put_others(out: &mut Vec<u8>, names: &[Label]) -> Result<(), NoMemory>
     let mut rest = names;
     'names: while let [name, more @ ..] = rest {
         put(out, ", ")?;
-        put(out, name.as_str())?;
+        put_printed(out, name.as_str().as_bytes())?;
         rest = more;
     }
     Ok(())
@@ -116,7 +117,7 @@ fn put_names(out: &mut Vec<u8>, names: &[Label]) -> Result<(), NoMemory>
     match names {
         [] => Ok(()),
         [first, others @ ..] => {
-            put(out, first.as_str())?;
+            put_printed(out, first.as_str().as_bytes())?;
             put_others(out, others)
         }
     }

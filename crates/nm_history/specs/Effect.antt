@@ -61,3 +61,14 @@ effect_of_event Restarted done undone = effect_if undone (Undoes Restart)
 -- what an entry of a history did to the pending commit, read from the entry alone
 abbrev pub noted_effect : Noted → Effect
 noted_effect entry = effect_of_event entry.event (is_done_reply entry.reply) entry.undone
+
+-- something became of a commit
+abbrev pub is_effect : Effect → Bool
+is_effect (Begins persist) = true
+is_effect Ends = true
+is_effect (Undoes by) = true
+is_effect Neither = false
+
+-- an entry at which something became of a commit: no other entry changes an outcome
+abbrev pub tells : Noted → Bool
+tells entry = is_effect (noted_effect entry)

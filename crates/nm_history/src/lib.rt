@@ -8,7 +8,9 @@ pub mod event;
 pub mod laws;
 pub mod outcome;
 pub mod recorded;
+pub mod telling;
 
 pub use event::{DeviceEvent, Noted};
 pub use outcome::{Outcome, Undoing, outcome_of};
 pub use recorded::{Recorded, Told};
+pub use telling::{Telling, tellings_of};

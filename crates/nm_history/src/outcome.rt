@@ -1,7 +1,7 @@
 //! What has become of a change set at a device, read from its history alone.
 
-ghost use Rattle.std.specs.Prelude.{◌≡◌, List, ℕ};
-ghost use Rattle.nm_history.specs.Effect.{noted_effect, effect_of, effect_if, effect_of_commit, is_done_reply};
+ghost use Rattle.std.specs.Prelude.{◌≡◌, List, ℕ, map};
+ghost use Rattle.nm_history.specs.Effect.{noted_effect, effect_of, effect_if, effect_of_commit, is_done_reply, is_effect, tells};
 ghost use Rattle.nm_history.specs.Effect.Effect.{Begins, Ends, Undoes};
 ghost use Rattle.nm_history.specs.Outcome.{outcome_of, standing_after, is_token, is_final, is_pending, is_undone};
 
@@ -216,6 +216,51 @@ pub fn outcome_of(token: &Label, history: &[Noted]) -> Outcome
         }
     }
     standing.outcome
+}
+
+/// The same from the entries of a history that are given, which are borrowed one by one.
+pub(crate) fn outcome_by(token: &Label, entries: &[&Noted]) -> Outcome
+    ensures { result ≡ outcome_of token.now (map (λ entry. entry.now) entries.now) }
+{
+    let mut standing = Standing {
+        outcome: Outcome::Never,
+        other: false,
+    };
+    for entry in entries {
+        standing = standing.after(token, entry);
+        if standing.outcome.is_final() {
+            return standing.outcome;
+        }
+    }
+    standing.outcome
+}
+
+/// Whether something became of a commit at an entry: no other entry changes an outcome.
+pub(crate) fn tells(entry: &Noted) -> bool
+    ensures { result ≡ tells entry.now }
+{
+    match &entry.event {
+        DeviceEvent::Asked { request, .. } => {
+            has_effect(request, is_done(&entry.reply), entry.undone)
+        }
+        DeviceEvent::Entered { .. } => false,
+        DeviceEvent::Lost { .. } => entry.undone,
+        DeviceEvent::Advanced { .. } => entry.undone,
+        DeviceEvent::Restarted => entry.undone,
+    }
+}
+
+// Whether something became of a commit at a request, with whether it was done and whether it undid what was pending.
+fn has_effect(request: &Request, done: bool, undone: bool) -> bool
+    ensures { result ≡ is_effect (effect_of request.now done undone) }
+{
+    match request {
+        Request::Commit { .. } => done,
+        Request::CancelCommit { .. } => done,
+        Request::Kill { .. } => undone,
+        Request::CloseSession => undone,
+        _ => false,
+    }
 }
 
 // Whether a reply is Done.

@@ -13,29 +13,17 @@ use Rattle.nm_validate_rules.specs.Violation.{Violation}
 use Rattle.nm_validate_rules.proofs.Among.{Among, filter_passes, contains_among, among_contains}
 use Rattle.nm_validate_rules.proofs.Placed.{key_there}
 use Rattle.nm_validate_places.proofs.Counting.{AllAfter, InOrder, in_order}
-use Rattle.nm_validate_places.proofs.Gathered.{Gathered, flat_among, either}
+use Rattle.nm_validate_places.proofs.Gathered.{Gathered, filter_among, flat_among, either}
 use Rattle.nm_validate_rules.specs.Reads.{reads}
 use Rattle.nm_validate_rules.specs.Candidates.{candidates, has_candidates}
 use Rattle.nm_validate_rules.specs.Reaches.{Reaches}
-use Rattle.nm_incremental.specs.Bound.{AreApart, IsBounded}
+use Rattle.nm_incremental.specs.Bound.{AreApart, IsPlace, IsBounded}
 use Rattle.nm_incremental.specs.Differing.{differing}
 use Rattle.nm_incremental.specs.Read.{read_at, read_of, read_set, judged_by, all_judged}
 use Rattle.nm_incremental.proofs.Sets.{set_from}
-use Rattle.nm_incremental.proofs.Covering.{is_reached}
-
--- what a list was mapped from
-record Mapped {X Y : Type 0} (f : X → Y) (xs : List X) (y : Y) : Type 0 where
-  x : X
-  among : Among xs x
-  is : y ≡ f x
-
-mapped_later : {X Y : Type 0} (f : X → Y) (z : X) (xs : List X) (y : Y) → Mapped f xs y → Mapped f (z ∷ xs) y
-mapped_later f z xs y h = record { x = h.x; among = inr h.among; is = h.is }
-
-mapped : {X Y : Type 0} (f : X → Y) (xs : List X) (y : Y) → Among (map f xs) y → Mapped f xs y
-mapped f [] y a = absurd a
-mapped f (x ∷ xs) y (inl e) = record { x = x; among = inl refl; is = e }
-mapped f (x ∷ xs) y (inr a) = mapped_later f x xs y (mapped f xs y a)
+use Rattle.nm_incremental.proofs.Mapping.{mapped}
+use Rattle.nm_incremental.proofs.Covering.{is_reached, differing_there}
+use Rattle.nm_incremental.proofs.Placing.{candidate_placed}
 
 abbrev at : Rule → List PathStep → Violation
 at rule path = record { rule = rule; path = path }
@@ -131,11 +119,29 @@ module _ (t : SchemaTree) (base next : Rows) (touched : List (List PathStep)) wh
       let g = flat_among (judged_by t (differing base next touched)) all_rules v a in
       reached_by g.x (has_candidates g.x) v g.within
 
+  placed_by : (rule : Rule) (b : Bool) (v : Violation) → Among (if b then map (at rule) (keys (read_set t rule (differing base next touched))) else []) v → IsPlace base next v.path
+  placed_by rule false v a = absurd a
+  placed_by rule true v a =
+      let m = mapped (at rule) (keys (read_set t rule (differing base next touched))) v a in
+      let from = set_from (read_of t rule (differing base next touched)) m.x (key_there (read_set t rule (differing base next touched)) m.x m.among) in
+      let g = flat_among (read_at t rule) (differing base next touched) m.x from in
+      subst (λ (w : Violation). IsPlace base next w.path) (sym m.is) (record {
+        row = g.x;
+        there = differing_there base next touched g.x g.among;
+        place = candidate_placed t g.x rule m.x (filter_among (λ path. reads t rule path g.x) (candidates t rule g.x) m.x g.within);
+      })
+
+  pub judged_placed : (v : Violation) → Among (all_judged t (differing base next touched) all_rules) v → IsPlace base next v.path
+  judged_placed v a =
+      let g = flat_among (judged_by t (differing base next touched)) all_rules v a in
+      placed_by g.x (has_candidates g.x) v g.within
+
   -- the steps that are taken are bounded by them
   pub bounded : (before after : ℕ) → after ≤ before + length (all_judged t (differing base next touched) all_rules) → IsBounded t base next touched before after
   bounded before after e = record {
     constraints = all_judged t (differing base next touched) all_rules;
     reached = λ c a. judged_reached c (contains_among (all_judged t (differing base next touched) all_rules) c a);
+    placed = λ c a. judged_placed c (contains_among (all_judged t (differing base next touched) all_rules) c a);
     apart = judged_apart t (differing base next touched);
     bound = e;
   }

@@ -95,6 +95,12 @@ module _ (base next : Rows) (touched : List (List PathStep)) where
         there = or_right (contains_key base row) (contains_key next row) (key_there next row (filter_among (is_under by) (keys next) row at));
       }
 
+  -- a row that differs is a row of the one or the other
+  pub differing_there : (row : List PathStep) → Among (differing base next touched) row → (contains_key base row || contains_key next row) ≡ true
+  differing_there row a =
+      let g = flat_among (differing_at base next) touched row a in
+      (lies_by row g.x g.among (either (filter (differs base next) (rows_at base g.x)) (filter (λ r. not (contains_key base r)) (rows_at next g.x)) row g.within)).there
+
   -- what reads a row that differs is reached
   pub is_reached : (t : SchemaTree) (rule : Rule) (path row : List PathStep) → Among (differing base next touched) row → reads t rule path row ≡ true → Reaches t base next touched rule path
   is_reached t rule path row a read =

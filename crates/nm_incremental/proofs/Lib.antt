@@ -6,6 +6,8 @@ pub mod Mandatory
 pub mod Covering
 pub mod Cased
 pub mod Joined
+pub mod Mapping
+pub mod Placing
 pub mod Bounding
 pub mod Walks
 pub mod Beside

@@ -11,7 +11,7 @@ ghost use Rattle.nm_journal.specs.declared.fault.JournalFault.TheVariants.{Damag
 
 use crate::fault::JournalFault;
 use crate::reading::{MOST_BYTES, MOST_ENTRIES};
-use crate::steps::{begin, close, look_at, read_back, write_record};
+use crate::steps::{begin, begin_anew, close, look_at, read_back, write_record};
 use nm_disk::Disk;
 use nm_proto::Entry;
 use std::alloc::Global;
@@ -69,6 +69,34 @@ impl Journal {
                 failed: None,
             }),
             Err(fault) => Err(fault),
+        }
+    }
+
+    /// A journal of no entries on a disk from which all is taken.
+    ///
+    /// It takes the room of all its entries first.
+    pub fn anew<D: Disk>(alloc: Global, disk: &mut D) -> Result<Journal, JournalFault>
+        ensures value { IfOk result (λ journal. journal ≡ record { entries = []; failed = None }) }
+        ensures fits { IfOk result (λ journal. Fits journal (D.state disk.new)) }
+        ensures written { OnOk result (IsSome (D.state disk.old).contents → (D.state disk.new).contents ≡ Some (0 ∷ [])) }
+        ensures length { OnOk result (HasLength (D.state disk.new).contents []) }
+
+        ensures disk_fault { result ≡ Err DiskFault → Rose (D.state disk.old).faults (D.state disk.new).faults }
+        ensures no_memory { result ≡ Err NoMemory → disk.new ≡ disk.old }
+        ensures no_other { IfErr result (λ fault. (fault ≡ DiskFault) ⊎ (fault ≡ NoMemory)) }
+
+        // A crash during the call leaves an image that was there, or one that reads as an empty list.
+        ensures any_moment { IsSome (D.state disk.old).contents
+            → AnyMoment (D.state disk.old) (D.state disk.new) (WasThereOrReadsAs (D.state disk.old) []) }
+        ensures keeps { KeepsDisk (D.state disk.old) (D.state disk.new) }
+    {
+        let entries = Vec::with_capacity(alloc, MOST_ENTRIES)?;
+        match begin_anew(disk) {
+            Ok(()) => Ok(Journal {
+                entries,
+                failed: None,
+            }),
+            Err(_) => Err(JournalFault::DiskFault),
         }
     }
 

@@ -5,7 +5,7 @@ ghost use Rattle.nm_disk.specs.Image.{contents_with_piece, LeavesOnly, IsPerhaps
 ghost use Rattle.nm_disk.specs.Keeps.{KeepsDisk};
 ghost use Rattle.nm_journal.specs.Record.{open_record};
 ghost use Rattle.nm_journal.specs.Entries.{entries_of, MayAppend, IsInOrder};
-ghost use Rattle.nm_journal.specs.Fits.{EndsAtGate, HasLength, IsDamagedAt, OfImage, closed_behind, ReadsAs, ReadsWithOrWithout, MayTear, IsRead};
+ghost use Rattle.nm_journal.specs.Fits.{EndsAtGate, HasLength, IsDamagedAt, OfImage, closed_behind, ReadsAs, ReadsWithOrWithout, MayTear, IsRead, WasThereOrReadsAs};
 ghost use Rattle.nm_journal.specs.declared.fault.JournalFault.TheVariants.{Damaged, DiskFault, NotEmpty};
 
 use crate::fault::JournalFault;
@@ -165,6 +165,30 @@ pub(crate) fn close<D: Disk>(disk: &mut D, entries: &[Entry], size: u64) -> Resu
     let end = 16 * entries.len() as u64;
     cut_behind(disk, end, size)?;
     write_and_sync(disk, end, &[0])
+}
+
+// Takes all from a disk.
+fn take_all<D: Disk>(disk: &mut D) -> Result<(), Failed>
+    ensures done { OnOk result (IsSome (D.state disk.old).contents → (D.state disk.new).contents ≡ Some []) }
+    ensures durable { OnOk result (IsSome (D.state disk.old).contents → LeavesOnly [] (D.state disk.new)) }
+    ensures any_moment { IsSome (D.state disk.old).contents → AnyMoment (D.state disk.old) (D.state disk.new) (WasThereOrReadsAs (D.state disk.old) []) }
+    ensures keeps { KeepsDisk (D.state disk.old) (D.state disk.new) }
+    ensures failed { OnErr result (Rose (D.state disk.old).faults (D.state disk.new).faults) }
+{
+    disk.cut(0)
+}
+
+// Writes the closed gate of an empty list onto a disk from which all is taken.
+pub(crate) fn begin_anew<D: Disk>(disk: &mut D) -> Result<(), Failed>
+    ensures closed { OnOk result (IsSome (D.state disk.old).contents → (image : List ℕ) → (D.state disk.new).crash_images image → EndsAtGate [] image) }
+    ensures written { OnOk result (IsSome (D.state disk.old).contents → (D.state disk.new).contents ≡ Some (0 ∷ [])) }
+    ensures length { OnOk result (HasLength (D.state disk.new).contents []) }
+    ensures any_moment { IsSome (D.state disk.old).contents → AnyMoment (D.state disk.old) (D.state disk.new) (WasThereOrReadsAs (D.state disk.old) []) }
+    ensures keeps { KeepsDisk (D.state disk.old) (D.state disk.new) }
+    ensures failed { OnErr result (Rose (D.state disk.old).faults (D.state disk.new).faults) }
+{
+    take_all(disk)?;
+    write_and_sync(disk, 0, &[0])
 }
 
 // Writes the closed gate of an empty list onto an empty disk.

@@ -6,7 +6,6 @@ use Rattle.std.specs.Prelude.{codes, FitsSigned}
 use Rattle.std.specs.Int.{w64, w128}
 use Rattle.std.specs.Fmt.{signed_decimal}
 use Rattle.serde_json.specs.Data.{Data, null, boolean as flag, number, string as text, array, object, no_items, item}
-use Rattle.serde_json.specs.Find.{as_integer}
 use Rattle.nm_types.specs.LeafType.{Kind, integer, decimal, boolean, string, enumeration, bits, empty, TypeOfLeaf}
 use Rattle.nm_types.specs.Limits.{meets_limits, is_within, is_within_kind, i64_part}
 use Rattle.nm_types.specs.Canonical.{IsHeld}
@@ -21,7 +20,7 @@ use Rattle.nm_types.proofs.Integers.{fits_between}
 use Rattle.nm_path.specs.Sound.{HasHeldBounds}
 use Rattle.nm_json.specs.declared.fault.JsonKind.{JsonKind}
 use Rattle.nm_json.specs.declared.fault.JsonKind.TheVariants.{BadValue}
-use Rattle.nm_json.specs.Values.{read_or_bad, text_value, number_value, integer_value, flag_value, null_value, empty_value, is_narrow, value_of_kind, leaf_value}
+use Rattle.nm_json.specs.Values.{read_or_bad, text_value, number_value, integer_of, integer_value, flag_value, null_value, empty_value, is_narrow, value_of_kind, leaf_value}
 use Rattle.nm_json.specs.Laws.{IsOfType}
 
 abbrev typed : Option (List (ℤ × ℤ)) → Kind → TypeOfLeaf
@@ -85,7 +84,7 @@ integer_by limits low high v None h e = absurd cc
 integer_by limits low high v (Some z) h e = number_by limits low high z v (meets_limits (typed limits (integer low high)) (Int z)) h refl e
 
 of_number : (limits : Option (List (ℤ × ℤ))) (low high : ℤ) (v : Value) (d : Data) → HasHeldBounds (integer low high) → number_value (typed limits (integer low high)) d ≡ Ok v → IsOfType (typed limits (integer low high)) v
-of_number limits low high v (number n) h e = integer_by limits low high v (as_integer n) h e
+of_number limits low high v (number n) h e = integer_by limits low high v (integer_of n) h e
 of_number limits low high v null h e = absurd cc
 of_number limits low high v (flag b) h e = absurd cc
 of_number limits low high v (text s) h e = absurd cc

@@ -3,7 +3,7 @@ use Rattle.std.proofs.Common.{◌≡◌, ℕ, ℤ, pos, negsuc, List, Bool, true
 use Rattle.std.proofs.lemmas.Int.{ints}
 use Rattle.std.specs.Prelude.{int_lt, int_le, ◌≤ℤ◌}
 use Rattle.serde_json.specs.Data.{string as text}
-use Rattle.serde_json.specs.Find.{as_integer, of_integer}
+use Rattle.serde_json.specs.Find.{of_integer}
 use Rattle.nm_types.specs.LeafType.{Kind, integer, decimal, boolean, string, enumeration, bits, empty, TypeOfLeaf}
 use Rattle.nm_types.specs.Limits.{MeetsLimits}
 use Rattle.nm_types.specs.Canonical.{canonical}
@@ -16,7 +16,7 @@ use Rattle.nm_types.proofs.Readings.{spelled-complete, limits-complete}
 use Rattle.nm_types.proofs.Written.{canonical-spells}
 use Rattle.nm_json.specs.declared.fault.JsonKind.{JsonKind}
 use Rattle.nm_json.specs.declared.fault.JsonKind.TheVariants.{BadValue}
-use Rattle.nm_json.specs.Values.{read_or_bad, text_value, number_value, integer_value, is_narrow, value_of_kind, leaf_value}
+use Rattle.nm_json.specs.Values.{read_or_bad, text_value, number_value, integer_of, integer_value, is_narrow, value_of_kind, leaf_value}
 use Rattle.nm_json.specs.Writing.{is_small, integer_data, narrow_kind, value_data}
 use Rattle.nm_json.specs.Laws.{HasLow, IsYangType, IsOfType}
 
@@ -27,7 +27,7 @@ small z low high n a b c =
     let right : int_lt z (pos 4294967296) ≡ true = grind (arith, ints) in
     rw (left, right) refl
 
-integer_back : (z : ℤ) → as_integer (of_integer z) ≡ Some z
+integer_back : (z : ℤ) → integer_of (of_integer z) ≡ Some z
 integer_back (pos n) = refl
 integer_back (negsuc n) = refl
 

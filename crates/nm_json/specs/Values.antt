@@ -1,7 +1,9 @@
 -- What a JSON value is as the value of a leaf (RFC 7951 section 6).
-use Rattle.std.specs.Prelude.{◌≡◌, ℤ, pos, int_lt, Bool, Option, Some, None, Result, Ok, Err, if◌then◌else◌}
-use Rattle.serde_json.specs.Data.{Data, null, boolean as flag, number, string as text, array, no_items, item}
-use Rattle.serde_json.specs.Find.{as_integer}
+use Rattle.std.specs.Prelude.{◌≡◌, ◌==◌, ◌^◌, ℤ, pos, int_lt, is_nan, to_bits, Float, Bool, false, Option, Some, None, Result, Ok, Err, if◌then◌else◌}
+use Rattle.std.specs.Option.{option_or}
+use Rattle.std.specs.Float.{binary64}
+use Rattle.serde_json.specs.Data.{Num, Data, null, boolean as flag, number, string as text, array, no_items, item}
+use Rattle.serde_json.specs.Find.{as_integer, to_float}
 use Rattle.nm_types.specs.LeafType.{Kind, integer, decimal, boolean, string, enumeration, bits, empty, TypeOfLeaf}
 use Rattle.nm_types.specs.Limits.{meets_limits}
 use Rattle.nm_types.specs.Reading.{reading}
@@ -23,6 +25,18 @@ abbrev pub text_value : TypeOfLeaf → Data → Result Value JsonKind
 text_value t (text s) = read_or_bad (reading t s)
 text_value t _ = Err BadForm
 
+-- a float is -0: of its bits the sign alone is set
+abbrev pub is_minus_zero : Float → Bool
+is_minus_zero x = if is_nan x then false else to_bits binary64 x == 2 ^ 63
+
+-- zero, where a number is -0, which the reader of JSON keeps as a float
+abbrev pub minus_zero : Num → Option ℤ
+minus_zero n = if is_minus_zero (to_float n) then Some (pos 0) else None
+
+-- the integer that a JSON number is; `-0` is zero (RFC 7950 section 9.2.1)
+abbrev pub integer_of : Num → Option ℤ
+integer_of n = option_or (as_integer n) (minus_zero n)
+
 -- an integer within the limits of its type, and not a float
 abbrev pub integer_value : TypeOfLeaf → Option ℤ → Result Value JsonKind
 integer_value t None = Err BadValue
@@ -30,7 +44,7 @@ integer_value t (Some z) = if meets_limits t (Int z) then Ok (Int z) else Err Ba
 
 -- a JSON number is an integer of at most 32 bits (RFC 7951 section 6.1)
 abbrev pub number_value : TypeOfLeaf → Data → Result Value JsonKind
-number_value t (number n) = integer_value t (as_integer n)
+number_value t (number n) = integer_value t (integer_of n)
 number_value t _ = Err BadForm
 
 -- a JSON boolean (RFC 7951 section 6.3)

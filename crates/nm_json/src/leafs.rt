@@ -1,18 +1,21 @@
 //! The values of leafs.
 
 ghost use Rattle.std.specs.Prelude.{◌≡◌};
-ghost use Rattle.serde_json.specs.View.{view, items_view};
+ghost use Rattle.serde_json.specs.View.{view, items_view, number_view};
 ghost use Rattle.serde_json.specs.Data.{array};
 ghost use Rattle.nm_types.specs.LeafType.{integer};
 ghost use Rattle.nm_json.specs.Values as spec;
 
 use crate::fault::{JsonKind, Refusal};
 use nm_types::{LeafType, TypeKind, Value, ValueFault, meets_range, read_value};
-use serde_json::Value as Json;
+use serde_json::{Number, Value as Json};
 use std::alloc::Global;
 
 /// From this number on the highest one of a type makes its values JSON strings (RFC 7951 section 6.1).
 const WIDE: i128 = 4_294_967_296;
+
+/// The bits of the float -0: its sign alone.
+const MINUS_ZERO: u64 = 0x8000_0000_0000_0000;
 
 // The value of a JSON string.
 fn text_value(alloc: Global, leaf_type: &LeafType, part: &Json) -> Result<Value, Refusal>
@@ -28,6 +31,40 @@ fn text_value(alloc: Global, leaf_type: &LeafType, part: &Json) -> Result<Value,
     }
 }
 
+fn is_minus_zero(float: f64) -> bool
+    ensures { result ≡ spec.is_minus_zero float }
+{
+    if float.is_nan() {
+        return false;
+    }
+    float.to_bits() == MINUS_ZERO
+}
+
+// Zero, where a number is -0.
+fn minus_zero(number: &Number) -> Option<i128>
+    ensures { result ≡ spec.minus_zero (number_view number.now) }
+{
+    match number.as_f64() {
+        None => None,
+        Some(float) => {
+            if is_minus_zero(float) {
+                return Some(0);
+            }
+            None
+        }
+    }
+}
+
+// The integer that a number is.
+fn integer_of(number: &Number) -> Option<i128>
+    ensures { result ≡ spec.integer_of (number_view number.now) }
+{
+    match number.as_i128() {
+        Some(integer) => Some(integer),
+        None => minus_zero(number),
+    }
+}
+
 // The value of a number of at most 32 bits.
 fn number_value(leaf_type: &LeafType, low: i128, high: i128, part: &Json) -> Result<Value, Refusal>
     requires { leaf_type.now.kind ≡ integer low high }
@@ -36,7 +73,7 @@ fn number_value(leaf_type: &LeafType, low: i128, high: i128, part: &Json) -> Res
     let Json::Number(number) = part else {
         return Err(Refusal::Bad(JsonKind::BadForm));
     };
-    let Some(number) = number.as_i128() else {
+    let Some(number) = integer_of(number) else {
         return Err(Refusal::Bad(JsonKind::BadValue));
     };
     if low <= number && number <= high && meets_range(&leaf_type.limits, number) {

@@ -5,3 +5,4 @@ pub mod Moments
 pub mod Kept
 pub mod Reach
 pub mod Entered
+pub mod Left

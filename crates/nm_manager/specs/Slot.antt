@@ -1,6 +1,6 @@
 -- What the manager keeps of one change set (this project's own): its course, and for each device the links and the
 -- resynchronisation. That of device d stands at place d - 1. Each step is a change of the course and of one side.
-use Rattle.std.specs.Prelude.{ℕ, ◌-◌, List, map, replicate, slice_get, slice_set, Bool, true, false, Option, Some, None}
+use Rattle.std.specs.Prelude.{◌≡◌, ℕ, ◌-◌, List, map, replicate, slice_get, slice_set, Bool, true, false, Option, Some, None}
 use Rattle.nm_proto.specs.declared.ask.Ask.{Ask}
 use Rattle.nm_proto.specs.declared.ask.Ask.TheVariants as ask
 use Rattle.nm_proto.specs.declared.message.Request.{Request}
@@ -16,7 +16,7 @@ use Rattle.nm_resync.specs.Resync as resync
 use Rattle.nm_resync.specs.Resync.{ResyncState, fresh_resync, resync_ask, settled_in}
 use Rattle.nm_wire.specs.declared.link.Exchange.{Exchange}
 use Rattle.nm_wire.specs.Wire as wire
-use Rattle.nm_wire.specs.Wire.{WireState, no_links, begun, sent, handled, broken, told, lost, restarted, due}
+use Rattle.nm_wire.specs.Wire.{WireState, no_links, is_left_open, begun, sent, handled, broken, told, lost, restarted, due}
 use Rattle.nm_manager.specs.declared.action.Action.{Action}
 use Rattle.nm_manager.specs.declared.action.Action.TheVariants as action
 use Rattle.nm_manager.specs.Requests.{request_for}
@@ -275,3 +275,7 @@ wires_on happens slot device (Some side) = with_side slot device (with_wire side
 -- the device restarts
 abbrev pub restarted_slot : ℕ → SlotState → SlotState
 restarted_slot device slot = wires_on restarted slot device (side_at slot device)
+
+-- of these sides no link is left open: one that isn't current has no open side at its device
+abbrev pub IsNoneLeft : List SideState → Type 0
+IsNoneLeft sides = (place link : ℕ) → is_left_open (wire_of_side (slice_get sides place)) link ≡ false

@@ -42,7 +42,7 @@ impl Model for JournalQueues {
 }
 
 impl JournalQueues {
-    /// A journal_queues of no entries.
+    /// The queues of a journal of no entries.
     pub(crate) fn new(journal: Journal) -> JournalQueues
         requires empty { journal ≡ record { entries = []; failed = None } }
         ensures { result ≡ record { entries = []; failed = None; has_failed = false } }
@@ -54,7 +54,7 @@ impl JournalQueues {
         }
     }
 
-    /// A journal_queues of a journal that was reopened.
+    /// The queues of a journal that was reopened.
     pub(crate) fn reopened(journal: Journal) -> JournalQueues
         requires whole { journal.failed ≡ None }
         ensures { result ≡ record { entries = journal.entries; failed = None; has_failed = false } }

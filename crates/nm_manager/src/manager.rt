@@ -1,13 +1,13 @@
 //! The manager's calls.
 
-ghost use Rattle.std.specs.Prelude.{◌≡◌, ◌≤◌, ◌<◌, ◌-◌, length, ◌⊎◌, ◌*◌, ℕ, IfSome, position, slice_get, map, Err, Some, None, IsSome, option_copied, IfOk, IfErr, OnOk, OnErr, [], true, false, is_ok};
+ghost use Rattle.std.specs.Prelude.{◌≡◌, ◌≤◌, ◌<◌, ◌-◌, length, ◌⊎◌, ◌*◌, ℕ, IfSome, IfNone, position, slice_get, map, Err, Some, None, IsSome, option_copied, IfOk, IfErr, OnOk, OnErr, [], true, false, is_ok};
 ghost use Rattle.std.specs.List.{All};
 ghost use Rattle.nm_base.specs.Count.{Rose};
 ghost use Rattle.nm_disk.specs.Image.{AnyMoment};
 ghost use Rattle.nm_disk.specs.Keeps.{KeepsDisk};
 ghost use Rattle.nm_journal.specs.Fits.{Fits, ReadsAs, ReadsWithOrWithout, IsDamagedAt, WasThereOrReadsAs};
 ghost use Rattle.nm_journal.specs.Keeps.{KeepsJournal};
-ghost use Rattle.nm_wire.specs.Wire.{outstanding_at, session_at, is_open_at, counts_of, link_at};
+ghost use Rattle.nm_wire.specs.Wire.{outstanding_at, session_at, is_open_at, is_left_open, counts_of, link_at};
 ghost use Rattle.nm_manager.specs.Requests.{IsWellFormed};
 ghost use Rattle.nm_manager.specs.Slot.{restarted_slot};
 ghost use Rattle.nm_manager.specs.Manager.{slots_from, slot_at, sent_by, decided_by, finishes, FailsAt, MayRead, acts, start_at, entry_of, entry_turned, start_anew, fault_of, change_of, is_strange};
@@ -384,17 +384,35 @@ impl Manager {
 
 // The manager begins again.
 impl Manager {
-    ghost use Rattle.nm_manager.specs.Manager.{fresh_manager};
+    ghost use Rattle.nm_manager.specs.Manager.{fresh_manager, journal_of};
 
-    /// Begins again with a journal that holds nothing: nothing was submitted. The change sets are the same.
-    pub fn begin_again(&mut self, journal: Journal) -> Result<(), NoMemory>
-        requires empty { journal ≡ record { entries = []; failed = None } }
-        ensures { OnOk result (self.new ≡ fresh_manager self.old.plans) }
+    /// Begins again, with a journal of no entries on a disk from which all is taken: nothing was submitted. The change sets are
+    /// the same.
+    ///
+    /// It takes its room first.
+    pub fn begin_again<D: Disk>(&mut self, disk: &mut D) -> Result<(), TurnFault>
+        ensures begun { OnOk result (self.new ≡ fresh_manager self.old.plans) }
+        ensures fits { OnOk result (Fits (journal_of self.new) (D.state disk.new)) }
+        ensures unchanged { OnErr result (self.new ≡ self.old) }
+        ensures disk_fault { result ≡ Err fault.DiskFault → Rose (D.state disk.old).faults (D.state disk.new).faults }
+        ensures no_memory { result ≡ Err fault.NoMemory → disk.new ≡ disk.old }
+        ensures no_other { IfErr result (λ why. (why ≡ fault.DiskFault) ⊎ (why ≡ fault.NoMemory)) }
+        // A crash during the call leaves an image that was there, or one that reads as an empty list.
+        ensures any_moment { IsSome (D.state disk.old).contents
+            → AnyMoment (D.state disk.old) (D.state disk.new) (WasThereOrReadsAs (D.state disk.old) []) }
+        ensures keeps { KeepsDisk (D.state disk.old) (D.state disk.new) }
     {
-        let slots = fresh_slots(self.alloc, self.plans.as_slice())?;
-        self.slots = slots;
-        self.journal_queues = JournalQueues::new(journal);
-        Ok(())
+        let Ok(slots) = fresh_slots(self.alloc, self.plans.as_slice()) else {
+            return Err(TurnFault::NoMemory);
+        };
+        match Journal::anew(self.alloc, disk) {
+            Ok(journal) => {
+                self.slots = slots;
+                self.journal_queues = JournalQueues::new(journal);
+                Ok(())
+            }
+            Err(fault) => Err(fault_of(&fault)),
+        }
     }
 }
 
@@ -429,6 +447,24 @@ impl Manager {
         ensures entries { self.new.state.entries ≡ self.old.state.entries }
     {
         self.slots[place_of(change)].drop_link(device, link)
+    }
+
+    /// Whether a link of a change set that isn't current may be open at its device. Where it is false none is.
+    pub fn has_left_open(&self, change: ChangeNo) -> bool
+        requires given { change ≤ length self.now.plans }
+        ensures { result ≡ false → (device link : ℕ) → is_left_open (wire_in self.now.state change device) link ≡ false }
+    {
+        self.slots[place_of(change)].has_left_open()
+    }
+
+    /// The least link to a device that isn't current and is open there, and None exactly where there is none.
+    pub fn first_left_open(&self, change: ChangeNo, device: DeviceNo) -> Option<u32>
+        requires given { change ≤ length self.now.plans }
+        ensures found { IfSome result (λ number. is_left_open (wire_in self.now.state change device) number ≡ true) }
+        ensures least { IfSome result (λ number. (other : ℕ) → other < number → is_left_open (wire_in self.now.state change device) other ≡ false) }
+        ensures none { IfNone result ((other : ℕ) → is_left_open (wire_in self.now.state change device) other ≡ false) }
+    {
+        self.wire(change, device).first_left_open()
     }
 
     /// How many links were made.

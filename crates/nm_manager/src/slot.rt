@@ -1,11 +1,11 @@
 //! What the manager keeps of one change set: its course, and the links and the resynchronisation of each device.
 
-ghost use Rattle.std.specs.Prelude.{◌≡◌, ◌<◌, ◌++◌, length, map, replicate, slice_get, take, drop, ◌-◌, true, Some, IsSome, IfSome, IfOk, OnOk, OnErr};
+ghost use Rattle.std.specs.Prelude.{◌≡◌, ◌<◌, ◌++◌, length, map, replicate, slice_get, take, drop, ℕ, ◌-◌, true, false, Some, IsSome, IfSome, IfOk, OnOk, OnErr};
 ghost use Rattle.nm_decider.specs.Course.{seat_count};
 ghost use Rattle.nm_decider.specs.Course as course;
-ghost use Rattle.nm_manager.specs.Slot.{SideState, fresh_side, asked_in_fact, opens, may_go, gone, number_of, is_resync, awaits_resync, settled_by, learns, resync_goes_on, is_commit, to_commit, anew, cut_off, with_wire, told_wire, lost_wire, sends_pair, renews_pair, receives_pair, breaks_pair};
+ghost use Rattle.nm_manager.specs.Slot.{SideState, fresh_side, asked_in_fact, opens, may_go, gone, number_of, is_resync, awaits_resync, settled_by, learns, resync_goes_on, is_commit, to_commit, anew, cut_off, with_wire, told_wire, lost_wire, IsNoneLeft, sends_pair, renews_pair, receives_pair, breaks_pair};
 ghost use Rattle.nm_manager.specs.declared.action.Action.TheVariants as action;
-ghost use Rattle.nm_wire.specs.Wire.{outstanding_at, is_open_at, restarted};
+ghost use Rattle.nm_wire.specs.Wire.{outstanding_at, is_open_at, is_left_open, restarted};
 ghost use Rattle.nm_recovery.specs.Recovery.{verdict_in};
 ghost use Rattle.nm_manager.specs.Manager.{starts_anew, course_after};
 
@@ -124,6 +124,13 @@ impl Side {
         self.wire.restart();
     }
 
+    // Whether a link that isn't current is open at the device.
+    fn has_left_open(&self) -> bool
+        ensures { result ≡ false → (link : ℕ) → is_left_open self.now.wire link ≡ false }
+    {
+        self.wire.first_left_open().is_some()
+    }
+
     // What became of the device is to be found out from the beginning.
     fn anew(&mut self, commit: bool)
         ensures { self.new ≡ anew commit self.old }
@@ -189,6 +196,13 @@ impl Slot {
         ensures { side_at self.now device ≡ Some result.now }
     {
         &self.sides[place_of(device)]
+    }
+
+    /// Whether a link that isn't current may be open at its device. Where it is false none is.
+    pub(crate) fn has_left_open(&self) -> bool
+        ensures { result ≡ false → IsNoneLeft self.now.sides }
+    {
+        any_left_open(self.sides.as_slice())
     }
 
     /// Asks this of a device. Where there is no memory nothing changes.
@@ -483,4 +497,16 @@ fn all_cut_off(sides: &mut Vec<Side>, commit: bool)
     for place in 0..sides.len() {
         sides[place].cut_off(commit);
     }
+}
+
+// Whether one of the sides has a link that isn't current and is open at its device.
+fn any_left_open(sides: &[Side]) -> bool
+    ensures { result ≡ false → IsNoneLeft sides.now }
+{
+    for side in sides {
+        if side.has_left_open() {
+            return true;
+        }
+    }
+    false
 }

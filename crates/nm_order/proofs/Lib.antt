@@ -1,2 +1,3 @@
 mod Once
 mod Heads
+mod Finished

@@ -57,6 +57,9 @@ impl Order {
     pub fn is_ready(&self, change: ChangeNo) -> bool
         ensures { result ≡ is_ready self.now change }
     {
+        if self.finished.contains(change) {
+            return false;
+        }
         let tickets = self.tickets.as_slice();
         for (place, ticket) in tickets.iter().enumerate() {
             if change.get() == ticket.change.get()

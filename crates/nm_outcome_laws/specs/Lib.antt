@@ -5,3 +5,4 @@ pub mod Lapses
 pub mod LapsesSupport
 pub mod Records
 pub mod RecordsSupport
+pub mod Settled

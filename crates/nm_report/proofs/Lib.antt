@@ -1,3 +1,4 @@
 pub mod Ascending
+pub mod Breaks
 pub mod Lines
 pub mod Texts

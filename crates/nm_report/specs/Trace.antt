@@ -1,6 +1,7 @@
 -- What came of each event, as text (this project's own). Each line ends with one newline.
 use Rattle.std.specs.Prelude.{ℕ, ◌+◌, List, [], ◌∷◌, ◌++◌, Bool, true, false, Option, Some, None, codes, decimal}
 use Rattle.nm_base.specs.declared.tag.Tag.{Tag}
+use Rattle.nm_lines.specs.Printed.{printed}
 use Rattle.nm_base.specs.Tag.{tag_text}
 use Rattle.nm_proto.specs.declared.message.Store.{Store}
 use Rattle.nm_proto.specs.declared.message.Store.TheVariants.{Running, Candidate}
@@ -40,7 +41,7 @@ session_text (Some session) = codes " session " ++ decimal session
 -- the path that an error names, where it names one
 abbrev pub path_text : Option (List ℕ) → List ℕ
 path_text None = []
-path_text (Some path) = codes " path " ++ path
+path_text (Some path) = codes " path " ++ printed path
 
 -- a truth value as a word
 abbrev pub truth_text : Bool → List ℕ

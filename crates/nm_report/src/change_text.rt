@@ -12,7 +12,7 @@ use crate::text::{HEADING, put, write_devices_running};
 use crate::trace::{write_trace, write_verdict};
 use nm_base::token::token_of;
 use nm_base::{ChangeNo, DeviceMask, DeviceNo, Label, NoMemory, write_decimal};
-use nm_history::{Noted, Outcome, Recorded, outcome_of};
+use nm_history::{Outcome, Recorded, Telling, tellings_of};
 use nm_proto::{ChangePlan, Content, Entry, Show, Verdict};
 use nm_recovery::{is_ended_in, is_started, verdict_in};
 use nm_world::{Pair, Report, TraceEntry, World};
@@ -94,22 +94,22 @@ fn write_outcome(
 
 // The outcome at the device of a number, where it is one of the change set.
 #[tactic(auto, unfolding(crate::specs::Text::outcome_text))]
-fn write_if_member(
+fn write_if_member<C: Content>(
     out: &mut Vec<u8>,
     change: ChangeNo,
     members: DeviceMask,
     number: usize,
     token: &Label,
-    history: &[Noted],
+    telling: &Telling<C>,
 ) -> Result<(), NoMemory>
     requires low { 1 ≤ number }
     requires high { number ≤ 32 }
     requires token { token.now ≡ token_of change }
-    ensures { OnOk result (out.new.items ≡ out.old.items ++ outcome_text change members.0 number history.now) }
+    ensures { OnOk result (out.new.items ≡ out.old.items ++ outcome_text change members.0 number telling.now.history) }
 {
     match DeviceNo::new(number as u8) {
         Some(device) if members.contains(device) => {
-            write_outcome(out, change, device, outcome_of(token, history))
+            write_outcome(out, change, device, telling.outcome(token))
         }
         _ => Ok(()),
     }
@@ -121,14 +121,14 @@ fn write_outcomes<C: Content>(
     change: ChangeNo,
     members: DeviceMask,
     token: &Label,
-    devices: &[Recorded<C>],
+    devices: &[Telling<C>],
 ) -> Result<(), NoMemory>
     requires few { length devices.now ≤ 32 }
     requires token { token.now ≡ token_of change }
     ensures { OnOk result (out.new.items ≡ out.old.items ++ outcome_texts change members.0 1 devices.now) }
 {
     for (place, device) in devices.iter().enumerate() {
-        write_if_member(out, change, members, place + 1, token, device.history())?;
+        write_if_member(out, change, members, place + 1, token, device)?;
     }
     Ok(())
 }
@@ -140,7 +140,7 @@ fn write_change_text<C: Content>(
     out: &mut Vec<u8>,
     change: ChangeNo,
     plan: &ChangePlan,
-    devices: &[Recorded<C>],
+    devices: &[Telling<C>],
     entries: &[Entry],
 ) -> Result<(), NoMemory>
     requires few { length devices.now ≤ 32 }
@@ -159,7 +159,25 @@ fn change_in(place: usize) -> ChangeNo
     ChangeNo::new(place as u32 + 1).unwrap()
 }
 
-// All change sets.
+// All change sets, at devices with what their histories tell.
+fn write_each_change<C: Content>(
+    alloc: Global,
+    out: &mut Vec<u8>,
+    plans: &[ChangePlan],
+    devices: &[Telling<C>],
+    entries: &[Entry],
+) -> Result<(), NoMemory>
+    requires few { length plans.now ≤ 64 }
+    requires few_devices { length devices.now ≤ 32 }
+    ensures { OnOk result (out.new.items ≡ out.old.items ++ change_texts devices.now entries.now 1 plans.now) }
+{
+    for (place, plan) in plans.iter().enumerate() {
+        write_change_text(alloc, out, change_in(place), plan, devices, entries)?;
+    }
+    Ok(())
+}
+
+// All change sets. It goes through each history once.
 fn write_change_sets<C: Content>(
     alloc: Global,
     out: &mut Vec<u8>,
@@ -171,10 +189,8 @@ fn write_change_sets<C: Content>(
     requires few_devices { length devices.now ≤ 32 }
     ensures { OnOk result (out.new.items ≡ out.old.items ++ change_texts devices.now entries.now 1 plans.now) }
 {
-    for (place, plan) in plans.iter().enumerate() {
-        write_change_text(alloc, out, change_in(place), plan, devices, entries)?;
-    }
-    Ok(())
+    let tellings = tellings_of(alloc, devices)?;
+    write_each_change(alloc, out, plans, tellings.as_slice(), entries)
 }
 
 fn write_pair_line(out: &mut Vec<u8>, word: &str, pair: Pair) -> Result<(), NoMemory>

@@ -7,6 +7,7 @@
 pub mod change_text;
 pub mod check;
 pub mod journal_text;
+pub mod laws;
 pub mod text;
 pub mod trace;
 

@@ -5,6 +5,7 @@ ghost use Rattle.nm_report.specs.Trace.{store_word, store_text, request_text, se
 
 use crate::text::put;
 use nm_base::{DeviceNo, Label, NoMemory, Tag, write_decimal};
+use nm_lines::put_printed;
 use nm_proto::{AbortCause, Reply, Request, Store, Verdict};
 use nm_world::{Happened, TraceEntry};
 
@@ -61,7 +62,7 @@ fn write_path(out: &mut Vec<u8>, path: &Option<Label>) -> Result<(), NoMemory>
     match path {
         Some(path) => {
             put(out, " path ")?;
-            put(out, path.as_str())
+            put_printed(out, path.as_str().as_bytes())
         }
         None => Ok(()),
     }

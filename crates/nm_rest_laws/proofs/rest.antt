@@ -6,10 +6,10 @@ pub mod Closes
 pub mod Right
 pub mod Wires
 pub mod Able
-pub mod Moves
 pub mod Serving
-pub mod Relating
 pub mod Holding
+pub mod Relating
+pub mod Moves
 pub mod Lasting
 pub mod Calm
 pub mod Running
@@ -34,9 +34,8 @@ pub mod Turning
 pub mod Plain
 pub mod Counting
 pub mod Idle
-pub mod Lengths
+pub mod Making
 pub mod Ending
 pub mod Rested
-pub mod Making
 pub mod Within
 pub mod Limit

@@ -112,6 +112,12 @@ module _ {Config Node : Type 0} (r : RecordedState Config Node) where
       let c = open_if (is_open r.device.sessions one) one session e in
       (ap Some c.1, subst (λ t. is_open r.device.sessions t ≡ true) c.1 c.0)
 
+-- who may ask for one has none
+none_had : (opening : Bool) (had : Option ℕ) → opening ≡ true → (opening && is_some had) ≡ false → had ≡ None
+none_had true None e f = refl
+none_had true (Some session) e f = absurd (let g : true ≡ false = f in cc)
+none_had false had e f = absurd (let g : false ≡ true = e in cc)
+
 operator_there : (operators : List (List (Option ℕ))) (number : ℕ) (operator : List (Option ℕ)) → operator_at operators number ≡ Some operator
     → slice_get operators (number - 1) ≡ Some operator
 operator_there operators number operator e = by_zero (number == 0) e
@@ -409,20 +415,21 @@ module _ {Config TheEdit Node : Type 0} (m : Meaning Config TheEdit Node) (setti
       abbrev acting : IsOperating w number device
       acting = record { operator = operator; there = there; r = r; here = here }
 
-      enters_now : (request : Request) → IsOwnOpening setting number request → (user : List ℕ) → request ≡ OpenSession user
-          → (d : Answers m setting r (Entered user))
+      enters_now : (request : Request) → IsOwnOpening setting number request → has_on operator r (device - 1) ≡ None → (user : List ℕ)
+          → request ≡ OpenSession user → (d : Answers m setting r (Entered user))
           → G (Foreign number device request) (asked_by w number device (answered_to operator (device - 1)
           (Some (record { reply = d.reply; undone = d.h.undone; after = recorded_with r (Entered user) d.h }))))
-      enters_now request own user opening d =
+      enters_now request own free user opening d =
           subst (λ one. G (Foreign number device one) (asked_by w number device (answered_to operator (device - 1)
           (Some (record { reply = d.reply; undone = d.h.undone; after = recorded_with r (Entered user) d.h }))))) (sym opening)
-          (cases.enters number device acting user (subst (IsOwnOpening setting number) opening own) d)
+          (cases.enters number device acting user (subst (IsOwnOpening setting number) opening own) free d)
 
-      asks_if : (request : Request) → IsOwnOpening setting number request
+      asks_if : (request : Request) → IsOwnOpening setting number request → (is_opening request && is_some (has_on operator r (device - 1))) ≡ false
           → G (Foreign number device request) (asked_by w number device (answered_to operator (device - 1) (served m setting.tables r (has_on operator r (device - 1)) request)))
-      asks_if request own =
+      asks_if request own may =
           serves m setting r request (λ now. G (Foreign number device request) (asked_by w number device (answered_to operator (device - 1) now)))
-          (cases.nothing (Foreign number device request)) (has_on operator r (device - 1)) (enters_now request own)
+          (cases.nothing (Foreign number device request)) (has_on operator r (device - 1))
+          (λ user opening. enters_now request own (none_had (is_opening request) (has_on operator r (device - 1)) (ap is_opening opening) may) user opening)
           (λ plain u has d.
           let had = has_by r (given_on operator (device - 1)) u has in
           cases.asks number device acting request plain u had.0 had.1 d)
@@ -433,7 +440,7 @@ module _ {Config TheEdit Node : Type 0} (m : Meaning Config TheEdit Node) (setti
           cond_both (is_opening request && is_some (has_on operator r (device - 1))) None
           (answered_to operator (device - 1) (served m setting.tables r (has_on operator r (device - 1)) request))
           (λ (now : Option (Asking Config Node)). G (Foreign number device request) (asked_by w number device now))
-          (λ _. cases.nothing (Foreign number device request)) (λ _. asks_if request own)
+          (λ _. cases.nothing (Foreign number device request)) (asks_if request own)
 
       leaves_now : (session : Option ℕ) → has_on operator r (device - 1) ≡ session → G (Leave number device) (moved w device (left_with m r session))
       leaves_now None has = cases.nothing (Leave number device)

@@ -194,7 +194,7 @@ module _ {Config TheEdit Node : Type 0} (m : Meaning Config TheEdit Node) (setti
   abbrev AllIn : WorldState Config Node → Type 0
   AllIn w = AllAt w.devices
 
-  one_keeps : (w : WorldState Config Node) (event : Event) → AllIn w → AllIn (world_step m setting w event)
+  pub one_keeps : (w : WorldState Config Node) (event : Event) → AllIn w → AllIn (world_step m setting w event)
   one_keeps w event all = came_keeps (core_of w) event all
 
   followed_keeps : (w : WorldState Config Node) (change : ℕ) (sending : Option Sending) → AllIn w → AllIn (followed m setting w change sending)

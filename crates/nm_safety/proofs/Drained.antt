@@ -30,7 +30,7 @@ step_given setting (Leave operator device) step = step
 step_given setting (Round change turns) step = absurd step
 
 -- and no round
-step_single : (event : Event) → IsStep event → is_round event ≡ false
+pub step_single : (event : Event) → IsStep event → is_round event ≡ false
 step_single (Submit change) step = refl
 step_single (Turn change) step = refl
 step_single (Deliver change device link) step = refl

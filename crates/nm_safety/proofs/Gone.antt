@@ -1,10 +1,10 @@
 -- Links of a wire, place by place, after what happens on it.
-use Rattle.std.proofs.Common.{◌≡◌, ◌∙◌, ℕ, zero, suc, ◌+◌, ◌-◌, ◌==◌, Bool, true, false, cond, List, [], ◌∷◌, ◌++◌, length, map, slice_get, slice_set, Option, Some, None, IfSome, unwrap_or, refl, sym, ap, subst, arith}
+use Rattle.std.proofs.Common.{◌≡◌, ◌∙◌, ℕ, zero, suc, ◌+◌, ◌-◌, ◌==◌, Bool, true, false, cond, List, [], ◌∷◌, ◌++◌, length, map, slice_get, slice_set, Option, Some, None, IfSome, option_and_then, unwrap_or, refl, sym, ap, subst, arith}
 use Rattle.std.proofs.lemmas.Bool.Decides.{nat_tests}
 use Rattle.nm_proto.specs.declared.message.Request.{Request}
 use Rattle.nm_wire.specs.declared.link.Exchange.{Exchange}
 use Rattle.nm_wire.specs.Link.{LinkState, fresh_link, is_quiet_way, sent_on, handled_on, closed_link}
-use Rattle.nm_wire.specs.Wire.{WireState, link_at, is_quiet_link, changed, sent, handled_at, restarted, may_send}
+use Rattle.nm_wire.specs.Wire.{WireState, current_link, link_at, is_quiet_link, changed, sent, handled_at, restarted, may_send}
 use Rattle.nm_manager.specs.Slot.{may_go, gone}
 use Rattle.nm_safety.specs.Pair.{first_link}
 use Rattle.nm_safety.proofs.Wires.{IsDue}
@@ -94,15 +94,24 @@ first_gone Q false wire request goes step q =
     let one : GoesOnOne wire request (sent wire request) = sent_one wire request goes in
     subst (λ w. Q (first_link w)) (sym one.after_is) (first_set Q wire.links one.place one.link (sent_on request one.link) one.here (λ z e f. step one.link e one.quiet f) q)
 
+plus_one : (place : ℕ) → (place + 1 == 0) ≡ false
+plus_one place = grind (arith, nat_tests)
+
+-- the current link is the one at its place
+current_at : (wire : WireState) (place : ℕ) (link : LinkState) → wire.current ≡ Some (place + 1) → slice_get wire.links place ≡ Some link → current_link wire ≡ Some link
+current_at wire place link current here =
+    let same : place + 1 - 1 ≡ place = omega arith in
+    ap (option_and_then (link_at wire)) current ∙ ap (λ b. cond b None (slice_get wire.links (place + 1 - 1))) (plus_one place) ∙ ap (slice_get wire.links) same ∙ here
+
 pub each_gone : (P : ℕ → LinkState → Type 0) (new : Bool) (wire : WireState) (request : Request) → may_go new wire ≡ true → ((place : ℕ) → P place fresh_link)
-    → ((place : ℕ) (link : LinkState) → (new ≡ false → wire.current ≡ Some (place + 1)) → is_quiet_way link.way ≡ true → P place link → P place (sent_on request link))
+    → ((place : ℕ) (link : LinkState) → (new ≡ false → (wire.current ≡ Some (place + 1)) × (current_link wire ≡ Some link)) → is_quiet_way link.way ≡ true → P place link → P place (sent_on request link))
     → ((place : ℕ) → IfSome (slice_get wire.links place) (P place)) → (place : ℕ) → IfSome (slice_get (gone new wire request).links place) (P place)
 each_gone P true wire request goes fresh step all place =
     each_more P wire.links (sent_on request fresh_link) (step (length wire.links) fresh_link (λ e. absurd (let g : true ≡ false = e in cc)) refl (fresh (length wire.links))) all place
 each_gone P false wire request goes fresh step all place =
     let one : GoesOnOne wire request (sent wire request) = sent_one wire request goes in
     subst (λ w. IfSome (slice_get w.links place) (P place)) (sym one.after_is)
-    (each_set P wire.links one.place one.link (sent_on request one.link) one.here (λ p. step one.place one.link (λ e. one.current) one.quiet p) all place)
+    (each_set P wire.links one.place one.link (sent_on request one.link) one.here (λ p. step one.place one.link (λ e. (one.current, current_at wire one.place one.link one.current one.here)) one.quiet p) all place)
 
 -- ---- a reply is handled
 

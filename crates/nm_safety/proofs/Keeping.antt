@@ -340,7 +340,7 @@ module _ {Config TheEdit Node : Type 0} (m : Meaning Config TheEdit Node) (laws 
           (keeps.asked_by_operator w b (device - 1) a.r a.here session opened (not_managed m setting (core_of w) s a session given opened) request d.h d.happens
           (device_now (device - 1) a.r a.here));
     };
-    enters = λ number device a user own d later. record {
+    enters = λ number device a user own free d later. record {
       slots = λ place plan planned.
           slots_aside (device - 1) a.r a.here (Entered user) d.h d.happens place plan planned (entered_others (s.owners (device - 1)) a.r user (suc place));
       devices = devices_with (device - 1) a.r a.here (Entered user) d.h d.happens

@@ -53,6 +53,7 @@ pub mod EachPair
 pub mod LinkPairs
 pub mod Along
 pub mod Runs
+pub mod Current
 pub mod Safely
 pub mod Drained
 pub mod Tells

@@ -1,5 +1,5 @@
 -- What stands at the places of lists.
-use Rattle.std.proofs.Common.{◌≡◌, ℕ, zero, suc, List, [], ◌∷◌, Option, Some, None, IfSome, slice_get, slice_set, refl, ap, subst}
+use Rattle.std.proofs.Common.{◌≡◌, ℕ, zero, suc, ◌-◌, List, [], ◌∷◌, ◌++◌, length, replicate, Option, Some, None, IfSome, slice_get, slice_set, refl, ap, subst, arith}
 
 pub some_is : {A : Type 0} (x : A) (P : A → Type 0) (found : Option A) → found ≡ Some x → IfSome found P → P x
 some_is x P None e h = absurd (let g : None ≡ Some x = e in cc)
@@ -30,3 +30,18 @@ module _ {A : Type 0} where
   set_none [] k x e = refl
   set_none (z ∷ xs) zero x e = absurd (let g : Some z ≡ None = e in cc)
   set_none (z ∷ xs) (suc k) x e = ap (λ rest. z ∷ rest) (set_none xs k x e)
+
+-- as many of one
+pub all_equal : {A : Type 0} (P : A → Type 0) (n : ℕ) (x : A) → P x → (j : ℕ) → IfSome (slice_get (replicate n x) j) P
+all_equal P zero x p j = tt
+all_equal P (suc n) x p zero = p
+all_equal P (suc n) x p (suc j) = all_equal P n x p j
+
+-- the place before a number
+pub down : {A : Type 0} (xs : List A) (j : ℕ) → slice_get xs (suc j - 1) ≡ slice_get xs j
+down xs j = let e : suc j - 1 ≡ j = omega arith in ap (slice_get xs) e
+
+-- one more at the end
+pub one_longer : {A : Type 0} (xs : List A) (x : A) → length (xs ++ x ∷ []) ≡ suc (length xs)
+one_longer [] x = refl
+one_longer (y ∷ xs) x = ap suc (one_longer xs x)

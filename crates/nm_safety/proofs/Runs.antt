@@ -101,7 +101,7 @@ module _ {Config TheEdit Node : Type 0} (m : Meaning Config TheEdit Node) (laws 
       passes = λ device seconds r here. silent_moves m laws setting edits (core_of w) s (device - 1) r (Advanced seconds) (advancing m r.device seconds) refl here refl;
       asks = λ number device a request plain session given opened d.
           asked_moves m laws setting edits (core_of w) s number device a session given opened request d.h d.happens d.reply d.replies;
-      enters = λ number device a user own d.
+      enters = λ number device a user own free d.
           entered_moves m laws setting edits (core_of w) s number device a user
           (some_is user (λ one. is_manager (Some one) ≡ false) (slice_get setting.users (number - 1)) own (strangers (number - 1))) d.h d.happens d.reply d.replies;
       leaves = λ number device a session given opened h happens. silent_moves m laws setting edits (core_of w) s (device - 1) a.r (Lost session) h happens a.here refl;

@@ -31,7 +31,7 @@ pub listed : {A : Type 0} (P : A → Type 0) (xs : List A) → All P xs → (pla
 listed P xs all place x there = subst P (get_or_from_slice_get xs place x x there) (all place x (slice_get_within xs place x there))
 
 module _ (change members : ℕ) (entries : List Entry) (slot : SlotState) (in_step : IsInStep change members entries slot) where
-  long : length slot.course.seats ≡ seat_count
+  pub long : length slot.course.seats ≡ seat_count
   long =
       same_length slot.course.seats slot.sides
       (λ j. both_there members (j + 1) slot.course.verdict (slice_get slot.course.seats j) (slice_get slot.sides j) (in_step.pairs j))

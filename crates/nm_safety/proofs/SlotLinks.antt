@@ -31,7 +31,7 @@ module _ (P : ℕ → ℕ → LinkState → Type 0) (slot : SlotState) (all : Al
   pub set_links : (d : ℕ) (side new : SideState) → slice_get slot.sides d ≡ Some side → Links (P d) new.wire → AllLinks P (slice_set slot.sides d new)
   set_links d side new there now = at_set (λ k one. Links (P k) one.wire) slot.sides d side new there now all
 
-  same_links : (d : ℕ) (side : SideState) → slice_get slot.sides d ≡ Some side → AllLinks P (slice_set slot.sides d side)
+  pub same_links : (d : ℕ) (side : SideState) → slice_get slot.sides d ≡ Some side → AllLinks P (slice_set slot.sides d side)
   same_links d side there = subst (AllLinks P) (sym (set_same slot.sides d side there)) all
 
   map_links : (change : SideState → SideState) → ((d : ℕ) (side : SideState) → Links (P d) side.wire → Links (P d) (change side).wire) → AllLinks P (map change slot.sides)

@@ -21,14 +21,14 @@ first_at P (config ∷ running) begins zero = begins zero config refl
 first_at P (config ∷ running) begins (suc place) = first_at (λ k. P (suc k)) running (λ k first there. begins (suc k) first there) place
 
 module _ {Config TheEdit Node : Type 0} (m : Meaning Config TheEdit Node) (laws : Laws m) (setting : Setting TheEdit) (running : List Config) where
-  abbrev IsSoundAt : ℕ → RecordedState Config Node → Type 0
+  abbrev pub IsSoundAt : ℕ → RecordedState Config Node → Type 0
   IsSoundAt place r = (first : Config) → slice_get running place ≡ Some first → m.violation first ≡ None → Leads m setting.tables (fresh_device first) r
 
-  happened_sound : (place : ℕ) (r : RecordedState Config Node) (event : DeviceEvent) (h : Happened Config Node) → Happens m setting.tables r.device event h → IsSoundAt place r → IsSoundAt place (recorded_with r event h)
+  pub happened_sound : (place : ℕ) (r : RecordedState Config Node) (event : DeviceEvent) (h : Happened Config Node) → Happens m setting.tables r.device event h → IsSoundAt place r → IsSoundAt place (recorded_with r event h)
   happened_sound place r event h happens sound first begins valid =
       subst (λ done. Leads m setting.tables (fresh_device first) (recorded_if r event done)) happens (leads_push m laws setting.tables (fresh_device first) r event (sound first begins valid))
 
-  first_sound : (place : ℕ) (first : Config) → slice_get running place ≡ Some first → IsSoundAt place (recorded first)
+  pub first_sound : (place : ℕ) (first : Config) → slice_get running place ≡ Some first → IsSoundAt place (recorded first)
   first_sound place config here first begins valid =
       let is : Some config ≡ Some first = sym here ∙ begins in
       let same : first ≡ config = cc in

@@ -20,17 +20,12 @@ use Rattle.nm_safety.proofs.Begun.{fresh_pair}
 use Rattle.nm_safety.proofs.PairSteps.{fresh_stays}
 use Rattle.nm_world.specs.World.{Setting, IsFirst, begin, given_on}
 use Rattle.nm_safety.specs.Support.{Owners, IsLinked, IsKept, KeptAt, IsDevice, IsOperator, IsSupported}
-use Rattle.nm_safety.proofs.Lists.{some_is, to_some}
+use Rattle.nm_safety.proofs.Lists.{all_equal, some_is, to_some}
 use Rattle.nm_safety.proofs.Sound.{first_at}
 
 -- nobody has a session
 abbrev pub nobody : ℕ → Owners
 nobody device session = None
-
-all_equal : {A : Type 0} (P : A → Type 0) (n : ℕ) (x : A) → P x → (j : ℕ) → IfSome (slice_get (replicate n x) j) P
-all_equal P zero x p j = tt
-all_equal P (suc n) x p zero = p
-all_equal P (suc n) x p (suc j) = all_equal P n x p j
 
 seats_within : (members device count j : ℕ) → IfSome (slice_get (seats_from members (Live 0) device count) j) (λ one. one ≡ seat_of members (Live 0) (device + j))
 unfolding seats_from

@@ -69,7 +69,7 @@ module _ {Config TheEdit Node : Type 0} (m : Meaning Config TheEdit Node) (setti
       restarts = λ device r here. all;
       passes = λ device seconds r here. all;
       asks = λ number device a request plain session given opened d. all;
-      enters = λ number device a user own d. all;
+      enters = λ number device a user own free d. all;
       leaves = λ number device a session given opened h happens. all;
     }
 

@@ -61,7 +61,7 @@ module _ (decided : Option Verdict) (request : Request) (new : Bool) (wire : Wir
   }
 
   each_turned : ((place : ℕ) → IfSome (slice_get wire.links place) (EachLink decided place)) → (place : ℕ) → IfSome (slice_get (gone new wire request).links place) (EachLink decided place)
-  each_turned all = each_gone (EachLink decided) new wire request goes (fresh_each decided) each_sent all
+  each_turned all = each_gone (EachLink decided) new wire request goes (fresh_each decided) (λ place link on. each_sent place link (λ e. (on e).0)) all
 
   first_turned : {Config Node : Type 0} (token : List ℕ) (r : RecordedState Config Node) → FirstLink token (first_link wire) r → FirstLink token (first_link (gone new wire request)) r
   first_turned token r first =

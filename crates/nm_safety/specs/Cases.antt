@@ -29,7 +29,7 @@ use Rattle.nm_manager.specs.Queues.{is_ready_in}
 use Rattle.nm_manager.specs.Slot.{SideState, SlotState, breaks, decided, lost_memory, lost_wire, receives, renews, sends, told_wire, wires_on}
 use Rattle.nm_manager.specs.Manager.{restarted_on, start_of, with_entry, with_slot, with_step}
 use Rattle.nm_world.specs.declared.happened.Happened.TheVariants as happened
-use Rattle.nm_world.specs.World.{Setting, CoreState, Came, by_manager, came, crashing, device_at, given_on, idle, is_side_open, manager_in, with_device, with_manager, with_opened}
+use Rattle.nm_world.specs.World.{Setting, CoreState, Came, by_manager, came, crashing, device_at, given_on, has_on, idle, is_side_open, manager_in, with_device, with_manager, with_opened}
 
 -- ---- what an event is about
 
@@ -150,14 +150,14 @@ module _ {Config TheEdit Node : Type 0} (m : Meaning Config TheEdit Node) (setti
     pub passes : (device seconds : ℕ) (r : RecordedState Config Node) → device_at w device ≡ Some r
         → G (Advance device seconds) (came (with_device w device (recorded_with r (Advanced seconds) (advancing m r.device seconds)))
         (happened.Now (r.device.clock + seconds) (advancing m r.device seconds).undone))
-    -- an operator asks with its session, asks for one under its own name, and leaves
+    -- an operator asks with its session, asks for one under its own name where it has none, and leaves
     pub asks : (number device : ℕ) (a : IsOperating w number device) (request : Request) → opening_user request ≡ None
         → (session : ℕ) → given_on a.operator (device - 1) ≡ Some session → is_open a.r.device.sessions session ≡ true
         → (d : Answers m setting a.r (Asked session request))
         → G (Foreign number device request) (came (operated w a (recorded_with a.r (Asked session request) d.h) d.reply)
         (happened.Replied d.reply d.h.undone))
     pub enters : (number device : ℕ) (a : IsOperating w number device) (user : List ℕ) → slice_get setting.users (number - 1) ≡ Some user
-        → (d : Answers m setting a.r (Entered user))
+        → has_on a.operator a.r (device - 1) ≡ None → (d : Answers m setting a.r (Entered user))
         → G (Foreign number device (OpenSession user)) (came (operated w a (recorded_with a.r (Entered user) d.h) d.reply)
         (happened.Replied d.reply d.h.undone))
     pub leaves : (number device : ℕ) (a : IsOperating w number device)

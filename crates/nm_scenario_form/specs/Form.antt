@@ -46,8 +46,8 @@ mutual
 abbrev pub not_built : {A : Type 0} → Form A
 not_built = leaf (λ part. Err (plain NotBuilt))
 
--- an argument
 infixr 40 ◌▹◌
+-- an argument
 abbrev pub ◌▹◌ : {B F A : Type 0} → Form B → Parts F A → Parts (B → F) A
 form ▹ parts = slot next None form parts
 
@@ -67,8 +67,8 @@ optional name missing form parts = slot (named name) (Some missing) form parts
 abbrev pub built : {F A : Type 0} → List ℕ → Parts F A → F → Form A → Form A
 built word parts make others = line word (arguments 1 parts make) others
 
--- a line of a table, and those below it
 infixr 20 ◌or◌
+-- a line of a table, and those below it
 abbrev pub ◌or◌ : {A : Type 0} → (Form A → Form A) → Form A → Form A
 first or others = first others
 

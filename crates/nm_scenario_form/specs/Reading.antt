@@ -9,8 +9,8 @@ use Rattle.nm_scenario_form.specs.declared.fault.Fault.{Fault}
 use Rattle.nm_scenario_form.specs.declared.fault.ReadError.{ReadError}
 use Rattle.nm_scenario_form.specs.declared.fault.ReadError.TheVariants as error
 
--- The next reader reads what the one before gave; a fault ends reading.
 infixl 10 ◌>>=◌
+-- The next reader reads what the one before gave; a fault ends reading.
 abbrev pub ◌>>=◌ : {A B : Type 0} → Result A Fault → (A → Result B Fault) → Result B Fault
 (Ok x) >>= f = f x
 (Err e) >>= f = Err e

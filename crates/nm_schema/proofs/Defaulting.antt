@@ -21,7 +21,7 @@ use Rattle.nm_schema_names.specs.Leads.{leads_to}
 use Rattle.nm_schema_uses.specs.Worth.{worth_within}
 use Rattle.nm_schema_typing.specs.Restricting.{argument_at, argument_in, argument_below}
 use Rattle.nm_schema_typing.specs.TypeGraph.{is_typed, typedef_at, named_typedef, at_most_one, type_below, leads}
-use Rattle.nm_schema_typing.specs.Defaults.{is_empty, is_read, fits_type, is_default, default_in as flaw_in_default, default_by, default_flaw, own_or, default_at, joined, first_text, default_step, default_of}
+use Rattle.nm_schema_typing.specs.Defaults.{is_empty, is_octal, is_read, fits_type, is_default, is_mandatory, default_in as flaw_in_default, default_by, default_flaw, own_or, default_at, joined, first_text, default_step, default_of}
 use Rattle.nm_schema_keys.specs.Keys.{IsKey}
 use Rattle.nm_schema_nodes.specs.declared.instance.Instance.{Instance}
 use Rattle.nm_schema_nodes.proofs.Unfolding.{split, unfold_one}
@@ -209,11 +209,11 @@ module _ (rows : List Row) (facts : Facts) (are : AreFacts rows facts) (all : Ar
       let c : flaw_in_default rows defs s.row s.row.argument s.row.parent ≡ None =
       sym (ap (λ (x : Bool). cond x (flaw_in_default rows defs s.row s.row.argument s.row.parent) None) (same_itself s.row.word word.Default s.word_is)) ∙ b in
       let d : flaw_in_default rows defs s.row (Some text) (Some i) ≡ None = sym (ap (λ (x : Option (List ℕ)). flaw_in_default rows defs s.row x s.row.parent) mine ∙ ap (flaw_in_default rows defs s.row (Some text)) s.parent) ∙ c in
-      by s.row (is_default rows defs i text) d
+      by s.row (is_default rows defs i text) (is_mandatory rows i) d
     where
-      by : (r : Row) (b : Bool) → cond b None (Some (flaw.BadArgument r.keyword)) ≡ None → b ≡ true
-      by r true f = refl
-      by r false f = absurd (cc)
+      by : (r : Row) (b must : Bool) → cond (b && not must) None (Some (flaw.BadArgument r.keyword)) ≡ None → b ≡ true
+      by r true must f = refl
+      by r false must f = absurd (cc)
 
   none_first : (i : ℕ) (o : Option ℕ) → first_below rows i word.Default ≡ o → argument_below rows i word.Default ≡ None → o ≡ None
   none_first i None first e = refl
@@ -316,7 +316,7 @@ module _ (rows : List Row) (facts : Facts) (are : AreFacts rows facts) (all : Ar
         let typed : is_typed r.word ≡ true = ap is_typed leaf in
         let fits = suited (has_word word.Leaf (slice_get rows place.row)) (is_key_node rows facts place) (is_meant rows place.row) (suits (default_of rows defs place.row) (type_of_node defs (tree rows facts) x)) leaf_there key (meant place.row r text is typed of) none in
         let read : fits_type text (Some t) ≡ true = sym (ap (λ (o : Option (List ℕ)). suits o (type_of_node defs (tree rows facts) x)) of ∙ ap (suits (Some text)) type_is) ∙ fits in
-        read_value text (is_empty t.kind) (reading t text) read
+        read_value text (is_empty t.kind || is_octal t.kind text) (reading t text) read
 
     -- the default of a leaf is known
     pub default_known : (d : Option Value) × (default_in rows facts place t ≡ Some d)

@@ -1,9 +1,9 @@
 -- The texts of arguments (RFC 7950 sections 6.2 and 14).
-use Rattle.std.specs.Prelude.{ℕ, ◌-◌, ◌^◌, List, [], ◌∷◌, length, codes, Bool, true, false, not, ◌==◌, ◌||◌, ◌&&◌, nat_le, Option, Some, None, if◌then◌else◌, slice_get}
-use Rattle.std.specs.Str.{bytes_eq}
+use Rattle.std.specs.Prelude.{ℕ, ◌-◌, ◌^◌, List, [], ◌∷◌, codes, Bool, true, false, ◌==◌, ◌||◌, ◌&&◌, nat_le, Option, Some, None, if◌then◌else◌}
+use Rattle.std.specs.Str.{bytes_eq, trim}
 use Rattle.std.specs.List.{list_all, before_first, after_first}
 use Rattle.nm_base.specs.Decimal.{number_of}
-use Rattle.nm_yang.specs.Byte.{is_white, is_start, is_name}
+use Rattle.nm_yang.specs.Byte.{is_start, is_name}
 use Rattle.nm_schema_statements.specs.Word.{has_colon}
 
 -- bytes that an identifier goes on with (RFC 7950 section 6.2)
@@ -66,14 +66,9 @@ abbrev pub is_some_text : List ℕ → Bool
 is_some_text [] = false
 is_some_text (b ∷ bytes) = true
 
--- a byte that is there and is no blank
-abbrev pub is_dark : Option ℕ → Bool
-is_dark None = false
-is_dark (Some b) = not (is_white b)
-
--- the name of an enum: at least one byte, and no blank first or last (RFC 7950 section 9.6.4)
+-- the name of an enum: at least one character, and no white space of Unicode first or last (RFC 7950 section 9.6.4)
 abbrev pub is_enum_name : List ℕ → Bool
-is_enum_name text = is_dark (slice_get text 0) && is_dark (slice_get text (length text - 1))
+is_enum_name text = is_some_text text && bytes_eq (trim text) text
 
 -- the built-in types of numbers (RFC 7950 section 4.2.4)
 unfoldable pub is_number_type : List ℕ → Bool

@@ -7,12 +7,6 @@ ghost use Rattle.nm_schema_statements.specs.Text as spec;
 
 use nm_base::read_decimal;
 
-fn is_white(byte: u8) -> bool
-    ensures { result ≡ byte_spec.is_white byte }
-{
-    byte == b' ' || byte == b'\t' || byte == b'\r' || byte == b'\n'
-}
-
 fn is_start(byte: u8) -> bool
     ensures { result ≡ byte_spec.is_start byte }
 {
@@ -136,11 +130,7 @@ pub fn is_some_text(text: &str) -> bool
 pub fn is_enum_name(text: &str) -> bool
     ensures { result ≡ spec.is_enum_name text.now }
 {
-    let bytes = text.as_bytes();
-    if bytes.is_empty() {
-        return false;
-    }
-    !is_white(bytes[0]) && !is_white(bytes[bytes.len() - 1])
+    is_some_text(text) && text.trim() == text
 }
 
 #[tactic(auto, unfolding(crate::specs::Text::is_number_type))]

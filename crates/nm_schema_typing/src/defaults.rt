@@ -16,7 +16,7 @@ use crate::types::Types;
 use nm_base::{Label, NoMemory};
 use nm_graph::{Visitor, order, values};
 use nm_schema_statements::{Flaw, Rows, Word};
-use nm_types::{LeafType, TypeKind, Value, ValueFault, read_value};
+use nm_types::{LeafType, TypeKind, Value, ValueFault, read_value, without_sign};
 use std::alloc::Global;
 use std::marker::Model;
 
@@ -25,6 +25,26 @@ fn is_empty(kind: &TypeKind) -> bool
 {
     match kind {
         TypeKind::Empty => true,
+        _ => false,
+    }
+}
+
+fn has_leading_zero(digits: &[u8]) -> bool
+    ensures { result ≡ spec.has_leading_zero digits.now }
+{
+    match digits {
+        [] => false,
+        [_] => false,
+        [first, _, ..] => *first == b'0',
+    }
+}
+
+// Whether a text is an integer in octal notation, by the kind of a type.
+fn is_octal(kind: &TypeKind, text: &str) -> bool
+    ensures { result ≡ spec.is_octal (kind_of kind.now) text.now }
+{
+    match kind {
+        TypeKind::Integer { .. } => has_leading_zero(without_sign(text).as_bytes()),
         _ => false,
     }
 }
@@ -41,11 +61,15 @@ fn is_read(read: Result<Value, ValueFault>) -> Result<bool, NoMemory>
     }
 }
 
-/// Whether a text may be a default of a type: a value of it, and the type isn't empty (RFC 7950 sections 7.6.4 and 9.11.1).
+/// Whether a text may be a default of a type: a value of it, an integer in decimal notation, and the type isn't empty
+/// (RFC 7950 sections 7.6.4, 9.2.1 and 9.11.1).
 pub fn fits_type(alloc: Global, text: &str, leaf_type: &LeafType) -> Result<bool, NoMemory>
     ensures { IfOk result (λ fits. fits ≡ spec.fits_type text.now (Some leaf_type.now)) }
 {
     if is_empty(&leaf_type.kind) {
+        return Ok(false);
+    }
+    if is_octal(&leaf_type.kind, text) {
         return Ok(false);
     }
     is_read(read_value(alloc, leaf_type, text))
@@ -94,8 +118,19 @@ pub fn is_default(
     }
 }
 
+// Whether a row is mandatory, by its number.
+#[tactic(auto, unfolding(crate::specs::Defaults::is_mandatory))]
+fn is_mandatory(rows: &Rows, at: usize) -> Result<bool, NoMemory>
+    ensures { IfOk result (λ is. is ≡ spec.is_mandatory rows.now at) }
+{
+    match argument_below(rows, at, Word::Mandatory)? {
+        None => Ok(false),
+        Some(text) => Ok(text.as_str() == "true"),
+    }
+}
+
 /// What is wrong with a `default` statement, by its row's number: a bad argument where its text may be no default of
-/// what it stands in. None for other rows.
+/// what it stands in, or where that is mandatory. None for other rows.
 #[tactic(auto, unfolding(crate::specs::Defaults::default_flaw))]
 pub fn default_flaw(
     alloc: Global,
@@ -119,10 +154,13 @@ pub fn default_flaw(
     let Some(parent) = row.parent else {
         return Ok(None);
     };
-    if is_default(alloc, rows, typedefs, types, parent, text.as_str())? {
-        return Ok(None);
+    if !is_default(alloc, rows, typedefs, types, parent, text.as_str())? {
+        return bad_argument(row);
     }
-    bad_argument(row)
+    if is_mandatory(rows, parent)? {
+        return bad_argument(row);
+    }
+    Ok(None)
 }
 
 /// The text of a default, if there is one.

@@ -1,13 +1,13 @@
 -- The canonical text of bits is a spelling of them.
-use Rattle.std.proofs.Common.{◌≡◌, ℕ, ◌<◌, ◌+◌, ◌-◌, Bool, true, false, List, [], ◌∷◌, ◌++◌, filter, fold, length, get_or, ap, refl, sym, ◌∙◌, arith, inl, inr, append_assoc, length-append}
-use Rattle.std.specs.Prelude.{◌==◌, ◌&&◌, ◌||◌, not, All}
+use Rattle.std.proofs.Common.{◌≡◌, ℕ, Bool, true, false, List, [], ◌∷◌, ◌++◌, filter, fold, length, ap, refl, sym, ◌∙◌, inl, inr, append_assoc}
+use Rattle.std.specs.Prelude.{◌==◌, ◌&&◌, not, All}
 use Rattle.std.specs.List.{slice_split, onto_first, list_all}
 use Rattle.std.proofs.lemmas.Bool.{cases_Bool, false_from_ne_true, false≢true}
-use Rattle.std.proofs.lemmas.List.{append-nil, get_or-append-add}
+use Rattle.std.proofs.lemmas.List.{append-nil}
 use Rattle.std.proofs.lemmas.List.Splits.{slice_split_none, slice_split_at}
-use Rattle.std.proofs.lemmas.List.Elements.{All-nil, All-cons, All-get_or}
+use Rattle.std.proofs.lemmas.List.Elements.{All-nil, All-cons}
 use Rattle.nm_types.specs.Names.{has_text, is_once}
-use Rattle.nm_types.specs.Reading.{words, has_outer_space, are_bits, spaced, bits_text}
+use Rattle.nm_types.specs.Reading.{words, are_bits, spaced, bits_text}
 use Rattle.nm_types.specs.Spells.{IsOnce, SpellsBits}
 use Rattle.nm_types.proofs.Decimals.{and_parts}
 use Rattle.nm_types.proofs.Readings.{are_bits-sound, has_text-sound, has_text-complete}
@@ -101,44 +101,6 @@ words-spaced ((a ∷ as') ∷ ws) h =
     ∙ ap (filter is_filled) (split-tails (a ∷ as') ws p.0 p.1)
     ∙ filled-words ((a ∷ as') ∷ ws) h
 
--- ---- no space around
-
-last-word : (w : List ℕ) → is_word w ≡ true → (get_or w (length w - 1) 0 == 32) ≡ false
-last-word [] h = cc
-last-word (b ∷ bs) h = All-get_or (λ c. (c == 32) ≡ false) (b ∷ bs) (length (b ∷ bs) - 1) 0 (omega arith) (spaceless (b ∷ bs) (and_parts (is_filled (b ∷ bs)) (no_space (b ∷ bs)) h).1)
-
-last-append : (xs ys : List ℕ) → 0 < length ys → get_or (xs ++ ys) (length (xs ++ ys) - 1) 0 ≡ get_or ys (length ys - 1) 0
-last-append xs ys h =
-    let e : length (xs ++ ys) - 1 ≡ length xs + (length ys - 1) = omega (arith, length-append xs ys) in
-    ap (λ (k : ℕ). get_or (xs ++ ys) k 0) e ∙ get_or-append-add xs ys (length ys - 1) 0
-
-word-long : (w : List ℕ) → is_word w ≡ true → 0 < length w
-word-long [] h = cc
-word-long (b ∷ bs) h = omega arith
-
-last-tails : (w : List ℕ) (ws : List (List ℕ)) → is_word w ≡ true → list_all is_word ws ≡ true → (get_or (w ++ tails ws) (length (w ++ tails ws) - 1) 0 == 32) ≡ false
-unfolding tails
-last-tails w [] h k = ap (λ (t : List ℕ). get_or t (length t - 1) 0 == 32) (append-nil w) ∙ last-word w h
-last-tails w (v ∷ vs) h k =
-    let p = and_parts (is_word v) (list_all is_word vs) k in
-    let long : 0 < length (v ++ tails vs) = omega (arith, length-append v (tails vs), word-long v p.0) in
-    let e : w ++ 32 ∷ (v ++ tails vs) ≡ (w ++ 32 ∷ []) ++ (v ++ tails vs) = sym (append_assoc w (32 ∷ []) (v ++ tails vs)) in
-    ap (λ (t : List ℕ). get_or t (length t - 1) 0 == 32) e
-    ∙ ap (λ (c : ℕ). c == 32) (last-append (w ++ 32 ∷ []) (v ++ tails vs) long)
-    ∙ last-tails v vs p.0 p.1
-
-bare-spaced : (ws : List (List ℕ)) → list_all is_word ws ≡ true → has_outer_space (fold spaced [] ws) ≡ false
-unfolding has_outer_space
-bare-spaced [] h = refl
-bare-spaced ([] ∷ ws) h = cc
-bare-spaced ((a ∷ as') ∷ ws) h =
-    let p = and_parts (is_word (a ∷ as')) (list_all is_word ws) h in
-    let q = and_parts (not (a == 32)) (no_space as') (and_parts (is_filled (a ∷ as')) (no_space (a ∷ as')) p.0).1 in
-    let first : (a == 32) ≡ false = elim (cases_Bool (a == 32)) [ inl y ↦ (let g = rw y at q.0 in cc) | inr n ↦ n ] in
-    let last = last-tails (a ∷ as') ws p.0 p.1 in
-    let e = fold-spaced a as' ws in
-    ap (λ (t : List ℕ). (get_or t 0 0 == 32) || (get_or t (length t - 1) 0 == 32)) e ∙ rw (first, last) refl
-
 -- ---- the canonical text
 
 pub once-test : (ts : List (List ℕ)) → IsOnce ts → is_once ts ≡ true
@@ -164,7 +126,6 @@ bits-canonical names text t distinct s =
     let same : filter (has_text ns) names ≡ ns = chosen-same p (has_text ns) names (λ x m. chosen-has p names x ∙ rw m refl) in
     let back : words t ≡ ns = ap words s.canonical ∙ words-spaced ns ns-words in
     record {
-      bare = ap has_outer_space s.canonical ∙ bare-spaced ns ns-words;
       named = are_bits-sound names (words t) (ap (are_bits names) back ∙ bits-from names ns ns-names ns-once);
       canonical = s.canonical ∙ ap (fold spaced []) (sym same) ∙ ap (λ (l : List (List ℕ)). fold spaced [] (filter (has_text l) names)) (sym back);
     }

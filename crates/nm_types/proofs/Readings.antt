@@ -15,7 +15,7 @@ use Rattle.nm_types.specs.LeafType.{Kind, integer, decimal, boolean, string, enu
 use Rattle.nm_types.specs.Limits.{IsWithin, MeetsRange, IsWithinKind, measured, MeetsLimits, is_within, meets_range, is_within_kind, meets_limits, i64_part}
 use Rattle.nm_types.specs.Spells.{AreNames, SpellsBits, SpellsValue}
 use Rattle.nm_types.specs.Names.{has_text}
-use Rattle.nm_types.specs.Reading.{integer_of, decimal_of, words, has_outer_space, are_bits, bits_text, bits_of, spelled}
+use Rattle.nm_types.specs.Reading.{integer_of, decimal_of, are_characters, words, are_bits, bits_text, bits_of, spelled}
 use Rattle.nm_types.proofs.Decimals.{and_parts}
 use Rattle.nm_types.proofs.Signs.{integer-sound, integer-complete}
 use Rattle.nm_types.proofs.Spelling.{decimal-sound, decimal-complete}
@@ -56,21 +56,16 @@ are_bits-complete names (w ∷ ws) h =
 
 bits-sound : (names : List (List ℕ)) (text t : List ℕ) → bits_of names text ≡ Some t → SpellsBits names text t
 unfolding bits_of
-bits-sound names text t e = elim (cases_Bool (not (has_outer_space text) && are_bits names (words text))) [
-  | inl y ↦ (let p = and_parts (not (has_outer_space text)) (are_bits names (words text)) y in
-      let f = rw y at e in
+bits-sound names text t e = elim (cases_Bool (are_bits names (words text))) [
+  | inl y ↦ (let f = rw y at e in
       let g : t ≡ bits_text names (words text) = cc in
-      record {
-        bare = elim (cases_Bool (has_outer_space text)) [ inl s ↦ absurd (false≢true (rw s at p.0)) | inr s ↦ s ];
-        named = are_bits-sound names (words text) p.1;
-        canonical = g;
-      })
+      record { named = are_bits-sound names (words text) y; canonical = g })
   | inr n ↦ (let f = rw n at e in cc)
 ]
 
 bits-complete : (names : List (List ℕ)) (text t : List ℕ) → SpellsBits names text t → bits_of names text ≡ Some t
 unfolding bits_of
-bits-complete names text t s = let b = s.bare in let n = are_bits-complete names (words text) s.named in rw (b, n) (ap Some (sym s.canonical))
+bits-complete names text t s = let n = are_bits-complete names (words text) s.named in rw n (ap Some (sym s.canonical))
 
 -- what the function finds, the relation relates
 pub spelled-sound : (k : Kind) (text : List ℕ) (v : Value) → spelled k text ≡ Some v → SpellsValue k text v
@@ -92,7 +87,10 @@ spelled-sound boolean text v e = elim (cases_Bool (bytes_eq text (codes "true"))
     | inr m ↦ (let g = rw m at f in cc)
   ])
 ]
-spelled-sound string text v e = let h : Text text ≡ v = cc in subst (SpellsValue string text) h refl
+spelled-sound string text v e = elim (cases_Bool (are_characters text)) [
+  | inl y ↦ (let f = rw y at e in let h : Text text ≡ v = cc in subst (SpellsValue string text) h (refl, y))
+  | inr n ↦ (let f = rw n at e in cc)
+]
 spelled-sound (enumeration names) text v e = elim (cases_Bool (has_text names text)) [
   | inl y ↦ (let f = rw y at e in let h : Name text ≡ v = cc in subst (SpellsValue (enumeration names) text) h (refl, has_text-sound names text y))
   | inr n ↦ (let f = rw n at e in cc)
@@ -112,7 +110,7 @@ spelled-complete (integer low high) text (Int z) s = ap (option_map Int) (intege
 spelled-complete (decimal d) text (Decimal z e) s = ap (option_map (λ w. Decimal w d)) (decimal-complete d text z s.1) ∙ ap (λ (f : ℕ). Some (Decimal z f)) (sym s.0)
 spelled-complete boolean text (Flag true) s = let f : bytes_eq text (codes "true") ≡ true = (bytes_decides text (codes "true")).1 s in rw f refl
 spelled-complete boolean text (Flag false) s = subst (λ (t : List ℕ). spelled boolean t ≡ Some (Flag false)) (sym s) refl
-spelled-complete string text (Text t) s = ap (λ (u : List ℕ). Some (Text u)) (sym s)
+spelled-complete string text (Text t) s = let y = s.1 in rw y (ap (λ (u : List ℕ). Some (Text u)) (sym s.0))
 spelled-complete (enumeration names) text (Name t) s = let f = has_text-complete names text s.1 in rw f (ap (λ (u : List ℕ). Some (Name u)) (sym s.0))
 spelled-complete (bits all) text (Bits t) s = ap (option_map Bits) (bits-complete all text t s)
 spelled-complete empty text Empty s = subst (λ (t : List ℕ). spelled empty t ≡ Some Empty) (sym s) refl

@@ -1,15 +1,14 @@
 -- Reading texts, names and bits.
-use Rattle.std.proofs.Common.{◌≡◌, ℕ, ◌<◌, ◌^◌, Bool, true, false, List, length, Option, Ok, Err, ℤ, pos, to_z, ap, refl, sym, ◌∙◌, arith, inl, inr}
+use Rattle.std.proofs.Common.{◌≡◌, ℕ, ◌<◌, ◌^◌, Bool, true, false, List, length, Option, Ok, Err, ℤ, pos, to_z, ap, refl, sym, ◌∙◌, arith}
 use Rattle.std.specs.Int.{w128}
 use Rattle.std.specs.Str.{chars}
-use Rattle.std.proofs.lemmas.Bool.{cases_Bool}
 use Rattle.std.proofs.lemmas.Int.{to_z_pos}
 use Rattle.nm_types.specs.declared.value.Value.TheVariants.{Text, Name, Bits}
 use Rattle.nm_types.specs.declared.fault.ValueFault.TheVariants.{BadText, OutOfRange}
 use Rattle.nm_types.specs.LeafType.{string, enumeration, bits, TypeOfLeaf}
 use Rattle.nm_types.specs.Limits.{meets_range}
 use Rattle.nm_types.specs.Names.{has_text}
-use Rattle.nm_types.specs.Reading.{words, has_outer_space, are_bits, bits_text, bits_of, spelled, reading}
+use Rattle.nm_types.specs.Reading.{are_characters, words, are_bits, bits_text, bits_of, spelled, reading}
 use Rattle.nm_types.proofs.Integers.{reading_none, reading_some, reading_out}
 
 module _ (range : Option (List (ℤ × ℤ))) (text : List ℕ) where
@@ -23,13 +22,17 @@ module _ (range : Option (List (ℤ × ℤ))) (text : List ℕ) where
       let p : to_z w128 n ≡ pos (length (chars text)) = to_z_pos w128 n wide ∙ ap pos e in
       sym (m ∙ ap (meets_range range) p)
 
-  pub text_out : (n : ℕ) → n ≡ length (chars text) → n < 2 ^ 64 → false ≡ meets_range range (to_z w128 n) → reading t text ≡ Err OutOfRange
+  pub text_bad : false ≡ are_characters text → reading t text ≡ Err BadText
   unfolding spelled
-  text_out n e h m = reading_out t text (Text text) refl (count_alike false n e h m)
+  text_bad e = let s = sym e in reading_none t text (rw s refl)
 
-  pub text_in : (n : ℕ) → n ≡ length (chars text) → n < 2 ^ 64 → true ≡ meets_range range (to_z w128 n) → reading t text ≡ Ok (Text text)
+  pub text_out : true ≡ are_characters text → (n : ℕ) → n ≡ length (chars text) → n < 2 ^ 64 → false ≡ meets_range range (to_z w128 n) → reading t text ≡ Err OutOfRange
   unfolding spelled
-  text_in n e h m = reading_some t text (Text text) refl (count_alike true n e h m)
+  text_out k n e h m = let s = sym k in reading_out t text (Text text) (rw s refl) (count_alike false n e h m)
+
+  pub text_in : true ≡ are_characters text → (n : ℕ) → n ≡ length (chars text) → n < 2 ^ 64 → true ≡ meets_range range (to_z w128 n) → reading t text ≡ Ok (Text text)
+  unfolding spelled
+  text_in k n e h m = let s = sym k in reading_some t text (Text text) (rw s refl) (count_alike true n e h m)
 
 -- reading a name
 module _ (names : List (List ℕ)) (limits : Option (List (ℤ × ℤ))) (text : List ℕ) where
@@ -49,14 +52,10 @@ module _ (names : List (List ℕ)) (limits : Option (List (ℤ × ℤ))) (text :
   abbrev b : TypeOfLeaf
   b = record { kind = bits names; limits = limits }
 
-  pub bits_spaced : true ≡ has_outer_space text → reading b text ≡ Err BadText
-  unfolding spelled bits_of
-  bits_spaced e = let s = sym e in reading_none b text (rw s refl)
-
   pub bits_bad : false ≡ are_bits names (words text) → reading b text ≡ Err BadText
   unfolding spelled bits_of
-  bits_bad e = let s = sym e in reading_none b text (rw s (elim (cases_Bool (has_outer_space text)) [ inl t ↦ rw t refl | inr f ↦ rw f refl ]))
+  bits_bad e = let s = sym e in reading_none b text (rw s refl)
 
-  pub bits_good : false ≡ has_outer_space text → true ≡ are_bits names (words text) → reading b text ≡ Ok (Bits (bits_text names (words text)))
+  pub bits_good : true ≡ are_bits names (words text) → reading b text ≡ Ok (Bits (bits_text names (words text)))
   unfolding spelled bits_of
-  bits_good e f = let s = sym e in let g = sym f in reading_some b text (Bits (bits_text names (words text))) (rw (s, g) refl) refl
+  bits_good e = let s = sym e in reading_some b text (Bits (bits_text names (words text))) (rw s refl) refl

@@ -1,10 +1,11 @@
 -- The canonical text of a value spells it.
-use Rattle.std.proofs.Common.{◌≡◌, ℕ, true, false, List, Result, Ok, Err, refl, sym, subst}
+use Rattle.std.proofs.Common.{◌≡◌, ℕ, true, false, List, Result, Ok, Err, refl, sym, ap, ◌∙◌, subst}
 use Rattle.std.specs.Prelude.{Contains, IfOk}
 use Rattle.nm_types.specs.declared.value.Value.{Value}
 use Rattle.nm_types.specs.declared.value.Value.TheVariants.{Int, Decimal, Text, Name, Bits, Empty, Bool as Flag}
 use Rattle.nm_types.specs.LeafType.{Kind, integer, decimal, boolean, string, enumeration, bits, empty}
 use Rattle.nm_types.specs.Spells.{SpellsDecimal, SpellsValue, HasDistinctNames}
+use Rattle.nm_types.specs.Reading.{are_characters}
 use Rattle.nm_types.specs.Canonical.{canonical, decimal_text, IsHeld}
 use Rattle.nm_types.proofs.Canonicals.{integer-canonical, decimal-canonical}
 use Rattle.nm_types.proofs.BitTexts.{bits-canonical}
@@ -15,7 +16,7 @@ canonical-spells (integer low high) text (Int z) h d s = integer-canonical z h
 canonical-spells (decimal c) text (Decimal z e) h d s = (s.0, subst (λ (n : ℕ). SpellsDecimal n (decimal_text z e) z) s.0 (decimal-canonical z e h))
 canonical-spells boolean text (Flag true) h d s = refl
 canonical-spells boolean text (Flag false) h d s = refl
-canonical-spells string text (Text t) h d s = refl
+canonical-spells string text (Text t) h d s = (refl, ap are_characters s.0 ∙ s.1)
 canonical-spells (enumeration names) text (Name t) h d s = (refl, subst (Contains names) (sym s.0) s.1)
 canonical-spells (bits all) text (Bits t) h d s = bits-canonical all text t d s
 canonical-spells empty text Empty h d s = refl

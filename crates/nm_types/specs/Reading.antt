@@ -1,7 +1,7 @@
 -- What reading a value gives: a function of the text.
-use Rattle.std.specs.Prelude.{◌≡◌, ℕ, ◌-◌, ◌*◌, ◌^◌, ℤ, pos, neg_ℤ, Bool, true, false, not, ◌&&◌, ◌||◌, List, [], ◌∷◌, ◌++◌, filter, fold, take, drop, length, codes, nat_lt, ◌==◌, if◌then◌else◌, slice_index, Option, Some, None, option_map, Result, Ok, Err, ⊤}
+use Rattle.std.specs.Prelude.{◌≡◌, ℕ, ◌-◌, ◌*◌, ◌^◌, ◌%◌, ℤ, pos, neg_ℤ, Bool, true, false, not, ◌&&◌, ◌||◌, List, [], ◌∷◌, ◌++◌, filter, fold, take, drop, length, codes, nat_lt, nat_le, ◌==◌, if◌then◌else◌, Option, Some, None, option_map, Result, Ok, Err, ⊤}
 use Rattle.std.specs.List.{list_all, slice_split, position_or_len, before_first, after_first}
-use Rattle.std.specs.Str.{bytes_eq, all_ascii_digits}
+use Rattle.std.specs.Str.{bytes_eq, all_ascii_digits, chars}
 use Rattle.std.specs.Str.Parse.{digits_value, without_leading_sign, starts_with_minus}
 use Rattle.nm_types.specs.declared.value.Value.{Value}
 use Rattle.nm_types.specs.declared.value.Value.TheVariants.{Int, Decimal, Text, Name, Bits, Empty, Bool as Flag}
@@ -58,10 +58,6 @@ decimal_of digits text = option_map (with_sign text) (magnitude_of digits (witho
 unfoldable pub words : List ℕ → List (List ℕ)
 words text = filter (λ w. not (length w == 0)) (slice_split (λ b. b == 32) text)
 
--- whether a text begins or ends with a space
-unfoldable pub has_outer_space : List ℕ → Bool
-has_outer_space text = slice_index text 0 == 32 || slice_index text (length text - 1) == 32
-
 -- whether the words are names, each once
 unfoldable pub are_bits : List (List ℕ) → List (List ℕ) → Bool
 are_bits names [] = true
@@ -78,14 +74,30 @@ bits_text names ws = fold spaced [] (filter (has_text ws) names)
 
 -- the canonical text of the bits that a text names
 unfoldable pub bits_of : List (List ℕ) → List ℕ → Option (List ℕ)
-bits_of names text = if not (has_outer_space text) && are_bits names (words text) then Some (bits_text names (words text)) else None
+bits_of names text = if are_bits names (words text) then Some (bits_text names (words text)) else None
+
+-- a control character below U+0020, but for tab, line feed and carriage return
+abbrev pub is_barred : ℕ → Bool
+is_barred c = nat_lt c 32 && not (c == 9 || c == 10 || c == 13)
+
+-- a noncharacter of Unicode: U+FDD0 to U+FDEF, and the last two code points of each plane
+abbrev pub is_noncharacter : ℕ → Bool
+is_noncharacter c = (nat_le 64976 c && nat_le c 65007) || nat_le 65534 (c % 65536)
+
+-- the characters that YANG's text may have (RFC 7950 section 14, yang-char)
+abbrev pub is_character : ℕ → Bool
+is_character c = not (is_barred c) && not (is_noncharacter c)
+
+-- each character of a text is one that a string may have (RFC 7950 section 9.4)
+unfoldable pub are_characters : List ℕ → Bool
+are_characters text = list_all is_character (chars text)
 
 -- the value that a text spells
 unfoldable pub spelled : Kind → List ℕ → Option Value
 spelled (integer low high) text = option_map Int (integer_of text)
 spelled (decimal digits) text = option_map (λ z. Decimal z digits) (decimal_of digits text)
 spelled boolean text = if bytes_eq text (codes "true") then Some (Flag true) else (if bytes_eq text (codes "false") then Some (Flag false) else None)
-spelled string text = Some (Text text)
+spelled string text = if are_characters text then Some (Text text) else None
 spelled (enumeration names) text = if has_text names text then Some (Name text) else None
 spelled (bits names) text = option_map Bits (bits_of names text)
 spelled empty text = if length text == 0 then Some Empty else None

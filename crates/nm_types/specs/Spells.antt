@@ -4,7 +4,7 @@ use Rattle.std.specs.Str.Parse.{IsNumeral, digits_value}
 use Rattle.nm_types.specs.declared.value.Value.{Value}
 use Rattle.nm_types.specs.declared.value.Value.TheVariants.{Int, Decimal, Text, Name, Bits, Empty, Bool as Flag}
 use Rattle.nm_types.specs.LeafType.{Kind, integer, decimal, boolean, string, enumeration, bits, empty}
-use Rattle.nm_types.specs.Reading.{words, has_outer_space, bits_text}
+use Rattle.nm_types.specs.Reading.{words, bits_text, are_characters}
 
 -- a text is a sign and a rest that spells a magnitude: without a sign and with + it spells that number, with - its negation (RFC 7950 section 9.2.1)
 pub data IsSigned (text rest : List ℕ) (magnitude : ℕ) (z : ℤ) : Type 0 where
@@ -50,9 +50,8 @@ abbrev pub HasDistinctNames : Kind → Type 0
 HasDistinctNames (bits names) = IsOnce names
 HasDistinctNames _ = ⊤
 
--- bits: names in any order, each once, with runs of spaces between them and none around (RFC 7950 section 9.7.2)
+-- bits: names in any order, each once, with runs of spaces between and around them (RFC 7950 section 9.7.2; the runs are this project's own)
 pub record SpellsBits (names : List (List ℕ)) (text set : List ℕ) : Type 0 where
-  pub bare : has_outer_space text ≡ false
   pub named : AreNames names (words text)
   pub canonical : set ≡ bits_text names (words text)
 
@@ -62,7 +61,7 @@ SpellsValue (integer low high) text (Int z) = SpellsInteger text z
 SpellsValue (decimal digits) text (Decimal z d) = (d ≡ digits) × SpellsDecimal digits text z
 SpellsValue boolean text (Flag true) = text ≡ codes "true"
 SpellsValue boolean text (Flag false) = text ≡ codes "false"
-SpellsValue string text (Text t) = t ≡ text
+SpellsValue string text (Text t) = (t ≡ text) × (are_characters text ≡ true)
 SpellsValue (enumeration names) text (Name t) = (t ≡ text) × Contains names text
 SpellsValue (bits names) text (Bits t) = SpellsBits names text t
 SpellsValue empty text Empty = text ≡ []

@@ -5,7 +5,7 @@ ghost use Rattle.std.specs.Ordering.{nat_cmp};
 ghost use Rattle.std.specs.BTreeSet.{contains, IsOrdered};
 ghost use Rattle.nm_types.specs.LeafType.{bits as bits_kind};
 ghost use Rattle.nm_types.specs.Names.{Chooses};
-ghost use Rattle.nm_types.specs.Reading.{words, has_outer_space, are_bits, spaced, reading, Gives};
+ghost use Rattle.nm_types.specs.Reading.{words, are_bits, spaced, reading, Gives};
 
 use crate::fault::ValueFault;
 use crate::names::Names;
@@ -46,15 +46,6 @@ fn places_of(
     Ok(Some(places))
 }
 
-// Whether a text begins or ends with a space.
-#[tactic(auto, unfolding(crate::specs::Reading::has_outer_space))]
-fn has_outer_space(text: &str) -> bool
-    ensures { result ≡ has_outer_space text.now }
-{
-    let bytes = text.as_bytes();
-    !bytes.is_empty() && (bytes[0] == b' ' || bytes[bytes.len() - 1] == b' ')
-}
-
 // Puts a name behind those before it, parted by one space.
 fn push_spaced(text: &mut String, name: &str) -> Result<(), AllocError>
     ensures { OnOk result (string_bytes text.new ≡ spaced (string_bytes text.old) name.now) }
@@ -90,9 +81,6 @@ fn bits_text(alloc: Global, names: &Names, places: &BTreeSet<usize>) -> Result<L
 pub(crate) fn read_bits(alloc: Global, names: &Names, text: &str) -> Result<Value, ValueFault>
     ensures { (limits : Option (List (ℤ × ℤ))) → Gives result (reading (record { kind = bits_kind names.now; limits = limits }) text.now) }
 {
-    if has_outer_space(text) {
-        return Err(ValueFault::BadText);
-    }
     let words = words(alloc, text)?;
     let Some(places) = places_of(alloc, names, &words)? else {
         return Err(ValueFault::BadText);

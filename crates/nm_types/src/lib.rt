@@ -5,6 +5,7 @@
 #![tactic(auto)]
 
 mod bits;
+mod characters;
 mod decimal;
 pub mod fault;
 pub mod laws;
@@ -18,10 +19,12 @@ mod read;
 pub mod value;
 mod write;
 
+pub use characters::are_characters;
 pub use fault::ValueFault;
 pub use leaf_type::{LeafType, TypeKind};
 pub use limits::meets_range;
 pub use names::Names;
+pub use numeral::without_sign;
 pub use parts::Parts;
 pub use path::{Chosen, Path, Step};
 pub use read::read_value;

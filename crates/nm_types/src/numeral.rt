@@ -17,8 +17,8 @@ pub(crate) fn is_numeral(text: &str) -> bool
     !text.is_empty() && text.as_bytes().iter().all(|byte| byte.is_ascii_digit())
 }
 
-// A text without the sign that it begins with.
-pub(crate) fn without_sign(text: &str) -> &str
+/// A text without the sign that it begins with.
+pub fn without_sign(text: &str) -> &str
     ensures { result.now ≡ without_leading_sign text.now }
 {
     if let Some(rest) = text.strip_prefix('-') {

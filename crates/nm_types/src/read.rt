@@ -7,6 +7,7 @@ ghost use Rattle.nm_types.specs.Spells.{SpellsValue};
 ghost use Rattle.nm_types.specs.Reading.{reading, Gives};
 
 use crate::bits::read_bits;
+use crate::characters::are_characters;
 use crate::decimal::read_decimal;
 use crate::fault::ValueFault;
 use crate::leaf_type::{LeafType, TypeKind};
@@ -32,11 +33,14 @@ fn read_boolean(text: &str) -> Result<Value, ValueFault>
     }
 }
 
-// The text itself, if it meets the length.
+// The text itself, if its characters are those of strings and it meets the length.
 #[tactic(auto, unfolding(crate::specs::Reading::spelled))]
 fn read_text(alloc: Global, length: &Option<Parts>, text: &str) -> Result<Value, ValueFault>
     ensures { Gives result (reading (record { kind = string; limits = length.now }) text.now) }
 {
+    if !are_characters(text) {
+        return Err(ValueFault::BadText);
+    }
     if !meets_range(length, text.chars().count() as i128) {
         return Err(ValueFault::OutOfRange);
     }
@@ -85,7 +89,8 @@ fn reading(alloc: Global, leaf_type: &LeafType, text: &str) -> Result<Value, Val
 /// The value of a type that a text spells (RFC 7950 section 9).
 ///
 /// Integers are decimal, with or without a sign and leading zeros. Decimals may end in zeros beyond the
-/// fraction digits. Bits stand in any order with one space or more between them. Lengths count characters.
+/// fraction digits. Bits stand in any order with one space or more between them and any number around. Lengths count
+/// characters; a string has no control character below U+0020 but tab, line feed and carriage return, and no noncharacter.
 pub fn read_value(alloc: Global, leaf_type: &LeafType, text: &str) -> Result<Value, ValueFault>
     // Ok exactly for the spellings of a value that meets every limit.
     ensures found { IfOk result (λ value. SpellsValue leaf_type.now.kind text.now value × MeetsLimits leaf_type.now value) }

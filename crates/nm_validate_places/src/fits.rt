@@ -9,14 +9,19 @@ ghost use Rattle.nm_validate_rules.specs.Violated as spec;
 
 use nm_base::NoMemory;
 use nm_schema_tree::Schema;
-use nm_types::{Parts, TypeKind, Value, ValueFault, meets_range, read_value, write_value};
+use nm_types::{
+    Parts, TypeKind, Value, ValueFault, are_characters, meets_range, read_value, write_value,
+};
 use std::alloc::Global;
 
-// Whether a text is of a string type with this length. It makes no text to find out.
+// Whether a text is of a string type with this length, by its characters and their number. It makes no text to find out.
 #[tactic(auto, unfolding(nm_validate_rules::specs::Violated::is_of_type))]
 fn text_fits(length: &Option<Parts>, text: &str) -> bool
     ensures { result ≡ spec.is_of_type (kind.Text text.now) (record { kind = string; limits = length.now }) }
 {
+    if !are_characters(text) {
+        return false;
+    }
     if !meets_range(length, text.chars().count() as i128) {
         return false;
     }

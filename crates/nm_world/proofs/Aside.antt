@@ -6,7 +6,7 @@ use Rattle.nm_proto.specs.declared.plan.Event.{Event}
 use Rattle.nm_proto.specs.declared.plan.Event.TheVariants.{Submit, Turn, Deliver, Answer, Break, Lose, Advance, Restart, Forget, Crash, Renew, Foreign, Leave, Round}
 use Rattle.nm_world.specs.declared.happened.Happened.{Happened}
 use Rattle.nm_world.specs.World.{Setting, CoreState, CoreValue, IsCome, elementary, entry_of, touches_journal, core_journal}
-use Rattle.nm_world.proofs.Growing.{Enters, event_enters, event_strays, event_as_many}
+use Rattle.nm_world.proofs.Growing.{Enters, event_enters, event_diverges, event_as_many}
 
 abbrev IsAside : Event → Type 0
 IsAside event = touches_journal event ≡ false
@@ -33,8 +33,8 @@ module _ {TheContent Config TheEdit Node : Type 0} (m : Meaning Config TheEdit N
   pub others_stay : new ≡ record old { state = new.state }
   others_stay = came.1 ∙ ap (λ s. record old { state = s }) (sym (ap (λ (w : CoreValue TheContent Config TheEdit Node). w.state) came.1))
 
-  pub strays_not : new.state.has_diverged ≡ old.state.has_diverged
-  strays_not = ap (λ (w : CoreValue TheContent Config TheEdit Node). w.state.has_diverged) came.1 ∙ event_strays m old.setting old.state event
+  pub diverges_not : new.state.has_diverged ≡ old.state.has_diverged
+  diverges_not = ap (λ (w : CoreValue TheContent Config TheEdit Node). w.state.has_diverged) came.1 ∙ event_diverges m old.setting old.state event
 
   pub operators_stay : length new.state.operators ≡ length old.state.operators
   operators_stay = ap (λ (w : CoreValue TheContent Config TheEdit Node). length w.state.operators) came.1 ∙ event_as_many m old.setting old.state event

@@ -1,8 +1,7 @@
--- The devices before anything has happened, and the disk.
-use Rattle.std.proofs.Common.{◌≡◌, ◌≤◌, ℕ, List, Option, Some, None, IfSome, is_some, length, map, refl, arith}
+-- The devices before anything has happened.
+use Rattle.std.proofs.Common.{List, map}
 use Rattle.std.specs.List.{All}
 use Rattle.std.proofs.lemmas.List.Elements.{All-map}
-use Rattle.nm_disk.specs.Image.{contents_cut}
 use Rattle.nm_proto.specs.Content.{Meaning}
 use Rattle.nm_device.specs.Device.{IsSound}
 use Rattle.nm_history.specs.History.{RecordedState, recorded}
@@ -16,13 +15,3 @@ fresh_sound {Config} {TheEdit} {Node} m running h = All-map (λ (r : RecordedSta
       belong = record { stores_belong = record { running = (h k d within).belongs; candidate = tt }; before_belongs = tt };
       steady = record { valid = (h k d within).valid; before_valid = tt; guarded = tt };
     })
-
--- there is a byte at nothing, or the end
-pub from_nothing : (contents : Option (List ℕ)) → IfSome contents (λ bytes. 0 ≤ length bytes)
-from_nothing None = tt
-from_nothing (Some bytes) = omega arith
-
--- a cut tells its bytes where they were told before
-pub cut_tells : (contents : Option (List ℕ)) (to : ℕ) → is_some (contents_cut contents to) ≡ is_some contents
-cut_tells None to = refl
-cut_tells (Some bytes) to = refl

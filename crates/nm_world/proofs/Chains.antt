@@ -216,8 +216,8 @@ module _ {TheContent Config TheEdit Node : Type 0} (meaning : TheContent → Mea
   -- it came to rest before
   pub drained_early : (k n : ℕ) (now : WorldValue TheContent Config TheEdit Node) (old new : DiskState) → k ≤ n → Does (Drained k) first now old new → drain_event now.setting now.state ≡ None
       → now.state.has_diverged ≡ false → now ≡ with_state first (Drained n first.state)
-  drained_early k n now old new le did rests unstrayed =
-      let done = did.done unstrayed in
+  drained_early k n now old new le did rests undiverged =
+      let done = did.done undiverged in
       let rest : drain_event first.setting (Drained k first.state) ≡ None =
       ap (drain_event first.setting) (sym done) ∙ sym (ap (λ (w : WorldValue TheContent Config TheEdit Node). drain_event w.setting now.state) did.others) ∙ rests in
       did.others ∙ ap (with_state first) (done ∙ drained_at_rest (meaning first.content) first.setting k n first.state le rest)

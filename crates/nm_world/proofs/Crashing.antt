@@ -8,7 +8,7 @@ use Rattle.nm_manager.specs.declared.action.TurnFault.{TurnFault}
 use Rattle.nm_world.specs.declared.happened.Happened.{Happened}
 use Rattle.nm_world.proofs.Order.{same_list, reads_whole}
 
-reads_now : (journal : JournalState) (disk : DiskState) (bytes : List ℕ) → disk.contents ≡ Some bytes → journal.failed ≡ None → Fits journal disk
+pub reads_now : (journal : JournalState) (disk : DiskState) (bytes : List ℕ) → disk.contents ≡ Some bytes → journal.failed ≡ None → Fits journal disk
     → ((bytes : List ℕ) → disk.contents ≡ Some bytes → disk.crash_images bytes) → ReadsAs journal.entries bytes
 reads_now journal disk bytes is whole fits as_read = reads_whole journal.failed journal.entries bytes whole (fits (subst IsSome (sym is) refl) bytes (as_read bytes is))
 

@@ -190,17 +190,17 @@ module _ {Config Node : Type 0} (w : CoreState Config Node) where
   asked_enters number device None = refl
   asked_enters number device (Some a) = refl
 
-  met_strays : (device : ℕ) (x : Option (Meeting Config Node)) → (met w device x).after.has_diverged ≡ w.has_diverged
-  met_strays device None = refl
-  met_strays device (Some m) = refl
+  met_diverges : (device : ℕ) (x : Option (Meeting Config Node)) → (met w device x).after.has_diverged ≡ w.has_diverged
+  met_diverges device None = refl
+  met_diverges device (Some m) = refl
 
-  moved_strays : (device : ℕ) (x : Option (Moved Config Node)) → (moved w device x).after.has_diverged ≡ w.has_diverged
-  moved_strays device None = refl
-  moved_strays device (Some now) = refl
+  moved_diverges : (device : ℕ) (x : Option (Moved Config Node)) → (moved w device x).after.has_diverged ≡ w.has_diverged
+  moved_diverges device None = refl
+  moved_diverges device (Some now) = refl
 
-  asked_strays : (number device : ℕ) (x : Option (Asking Config Node)) → (asked_by w number device x).after.has_diverged ≡ w.has_diverged
-  asked_strays number device None = refl
-  asked_strays number device (Some a) = refl
+  asked_diverges : (number device : ℕ) (x : Option (Asking Config Node)) → (asked_by w number device x).after.has_diverged ≡ w.has_diverged
+  asked_diverges number device None = refl
+  asked_diverges number device (Some a) = refl
 
   abbrev AsMany : Came Config Node → Type 0
   AsMany c = length c.after.operators ≡ length w.operators
@@ -236,21 +236,21 @@ module _ {Config TheEdit Node : Type 0} (m : Meaning Config TheEdit Node) (setti
   event_enters w (Leave operator device) = moved_enters w device (leaving_at m device (operator_at w.operators operator) (device_at w device))
   event_enters w (Round change turns) = refl
 
-  pub event_strays : (w : CoreState Config Node) (event : Event) → (elementary m setting w event).after.has_diverged ≡ w.has_diverged
-  event_strays w (Submit change) = refl
-  event_strays w (Turn change) = refl
-  event_strays w (Deliver change device link) = met_strays w device (delivering_at m setting.tables (manager_in w) change device link (device_at w device))
-  event_strays w (Answer change device link number) = refl
-  event_strays w (Break change device) = refl
-  event_strays w (Lose change device link) = met_strays w device (losing_at m (manager_in w) change device link (device_at w device))
-  event_strays w (Advance device seconds) = moved_strays w device (later_at m seconds (device_at w device))
-  event_strays w (Restart device) = met_strays w device (anew_at m (manager_in w) device (device_at w device))
-  event_strays w (Forget change) = refl
-  event_strays w Crash = refl
-  event_strays w (Renew change device) = refl
-  event_strays w (Foreign operator device request) = asked_strays w operator device (asking_at m setting.tables device request (operator_at w.operators operator) (device_at w device))
-  event_strays w (Leave operator device) = moved_strays w device (leaving_at m device (operator_at w.operators operator) (device_at w device))
-  event_strays w (Round change turns) = refl
+  pub event_diverges : (w : CoreState Config Node) (event : Event) → (elementary m setting w event).after.has_diverged ≡ w.has_diverged
+  event_diverges w (Submit change) = refl
+  event_diverges w (Turn change) = refl
+  event_diverges w (Deliver change device link) = met_diverges w device (delivering_at m setting.tables (manager_in w) change device link (device_at w device))
+  event_diverges w (Answer change device link number) = refl
+  event_diverges w (Break change device) = refl
+  event_diverges w (Lose change device link) = met_diverges w device (losing_at m (manager_in w) change device link (device_at w device))
+  event_diverges w (Advance device seconds) = moved_diverges w device (later_at m seconds (device_at w device))
+  event_diverges w (Restart device) = met_diverges w device (anew_at m (manager_in w) device (device_at w device))
+  event_diverges w (Forget change) = refl
+  event_diverges w Crash = refl
+  event_diverges w (Renew change device) = refl
+  event_diverges w (Foreign operator device request) = asked_diverges w operator device (asking_at m setting.tables device request (operator_at w.operators operator) (device_at w device))
+  event_diverges w (Leave operator device) = moved_diverges w device (leaving_at m device (operator_at w.operators operator) (device_at w device))
+  event_diverges w (Round change turns) = refl
 
   pub event_as_many : (w : CoreState Config Node) (event : Event) → length (elementary m setting w event).after.operators ≡ length w.operators
   event_as_many w (Submit change) = refl

@@ -9,8 +9,10 @@ pub mod Absent
 pub mod Aside
 pub mod Passing
 pub mod Crashing
+pub mod Rereading
 pub mod Chains
 pub mod Failing
 pub mod Searches
 pub mod Numbered
 pub mod ToRest
+pub mod Skipping

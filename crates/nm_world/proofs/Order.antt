@@ -22,10 +22,10 @@ pub reads_whole : (failed : Option Entry) (entries : List Entry) (image : List �
 reads_whole None entries image h is = is.reads
 reads_whole (Some entry) entries image h is = absurd (let e : Some entry ≡ None = h in cc)
 
-abbrev Read : List Entry → Result (List Entry) ℕ
+abbrev pub Read : List Entry → Result (List Entry) ℕ
 Read entries = Ok entries
 
-abbrev Bad : ℕ → Result (List Entry) ℕ
+abbrev pub Bad : ℕ → Result (List Entry) ℕ
 Bad offset = Err offset
 
 pub same_list : (a b : List Entry) → Read a ≡ Read b → a ≡ b

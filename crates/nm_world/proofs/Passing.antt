@@ -1,5 +1,5 @@
 -- From one call of a world to many.
-use Rattle.std.proofs.Common.{◌≡◌, ◌≤◌, ◌<◌, ◌+◌, ◌-◌, ℕ, zero, suc, List, [], ◌∷◌, ◌++◌, Bool, true, false, Option, Some, None, Result, Ok, Err, OnOk, IsSome, IfSome, refl, sym, ap, ◌∙◌, subst, arith, inl, length, take, get_or}
+use Rattle.std.proofs.Common.{◌≡◌, ◌≤◌, ◌<◌, ◌+◌, ◌-◌, ℕ, zero, suc, List, [], ◌∷◌, ◌++◌, Bool, true, false, Option, Some, None, Result, Ok, Err, OnOk, OnErr, IsSome, IfSome, refl, sym, ap, ◌∙◌, subst, arith, inl, length, take, get_or}
 use Rattle.std.proofs.lemmas.List.{take_more}
 use Rattle.nm_base.specs.Count.{Rose}
 use Rattle.nm_disk.specs.Image.{DiskState, AnyMoment}
@@ -169,9 +169,9 @@ module _ {Config Node : Type 0} where
   pub left_more : (first mid last : WorldState Config Node) (old new : DiskState) → GoesOnAs mid.entries last.entries → Journals first mid old new → Journals first last old new
   left_more first mid last old new goes left = record {
     keeps = left.keeps;
-    any_moment = λ there unstrayed.
+    any_moment = λ there undiverged.
         weaker old new (IsBetween first.entries mid.entries) (IsBetween first.entries last.entries) (between_more first.entries mid.entries last.entries goes)
-        (left.any_moment there unstrayed);
+        (left.any_moment there undiverged);
   }
 
 module _ {TheContent Config TheEdit Node : Type 0} where
@@ -181,13 +181,13 @@ module _ {TheContent Config TheEdit Node : Type 0} where
       → Does act first now old mid → Journals now.state (more now.state) mid new → Journals first.state (more (act first.state)) old new
   then_left act more first now old mid new began goes did left = record {
     keeps = keeps_then old mid new did.journals.keeps left.keeps;
-    any_moment = λ there unstrayed.
-        let still = did.straight there ∙ unstrayed in
+    any_moment = λ there undiverged.
+        let still = did.straight there ∙ undiverged in
         let before = first.state.entries in
         let last = (more (act first.state)).entries in
         and_then old mid new (IsBetween before last)
         (weaker old mid (IsBetween before (act first.state).entries) (IsBetween before last) (between_more before (act first.state).entries last goes)
-        (did.journals.any_moment there unstrayed))
+        (did.journals.any_moment there undiverged))
         (weaker mid new (IsBetween (act first.state).entries last) (IsBetween before last) (between_earlier before (act first.state).entries last began)
         (subst (λ (w : WorldState Config Node). AnyMoment mid new (IsBetween w.entries (more w).entries)) (did.done still)
         (left.any_moment (did.journals.keeps.tells ∙ there) still)));
@@ -198,8 +198,8 @@ module _ {TheContent Config TheEdit Node : Type 0} where
       → Does act first now old mid → Does more now later mid new → Does (λ w. more (act w)) first later old new
   then_did act more first now later old mid new began goes did next = record {
     others = next.others ∙ ap (λ (w : WorldValue TheContent Config TheEdit Node). with_state w later.state) did.others;
-    done = λ unstrayed. next.done unstrayed ∙ ap more (did.done (next.once unstrayed));
-    once = λ unstrayed. did.once (next.once unstrayed);
+    done = λ undiverged. next.done undiverged ∙ ap more (did.done (next.once undiverged));
+    once = λ undiverged. did.once (next.once undiverged);
     straight = λ there. next.straight (did.journals.keeps.tells ∙ there) ∙ did.straight there;
     operators = next.operators ∙ did.operators;
     fits = next.fits;
@@ -211,7 +211,7 @@ module _ {TheContent Config TheEdit Node : Type 0} where
       → act first.state ≡ other first.state → Does act first now old new → Does other first now old new
   did_as act other first now old new same did = record {
     others = did.others;
-    done = λ unstrayed. did.done unstrayed ∙ same;
+    done = λ undiverged. did.done undiverged ∙ same;
     once = did.once;
     straight = did.straight;
     operators = did.operators;
@@ -243,7 +243,7 @@ module _ {TheContent Config TheEdit Node : Type 0} where
       → ((image : List ℕ) → disk.images_since disk.moment image → disk.crash_images image) → GoesOnAs first.state.entries last.entries → Journals first.state last disk disk
   none_left first last disk ready only goes = record {
     keeps = keeps_itself disk;
-    any_moment = λ there unstrayed.
+    any_moment = λ there undiverged.
         weaker disk disk (ReadsAs first.state.entries) (IsBetween first.state.entries last.entries) (between_first first.state.entries last.entries goes)
         (no_moment (journal_of first) disk ready.whole ready.fits only there);
   }
@@ -252,8 +252,8 @@ module _ {TheContent Config TheEdit Node : Type 0} where
       → ((image : List ℕ) → disk.images_since disk.moment image → disk.crash_images image) → Does (λ w. w) first first disk disk
   none_did first disk ready only = record {
     others = refl;
-    done = λ unstrayed. refl;
-    once = λ unstrayed. unstrayed;
+    done = λ undiverged. refl;
+    once = λ undiverged. undiverged;
     straight = λ there. refl;
     operators = refl;
     fits = ready.fits;
@@ -273,6 +273,11 @@ on_ok (Err fault) holds = tt
 pub ok_then : {A E : Type 0} {P Q : Type 0} (result : Result A E) → OnOk result P → (P → Q) → OnOk result Q
 ok_then (Ok value) holds then_holds = then_holds holds
 ok_then (Err fault) holds then_holds = tt
+
+-- what holds in any case holds of an error
+pub err_always : {A E : Type 0} {P : Type 0} (result : Result A E) → P → OnErr result P
+err_always (Ok value) holds = tt
+err_always (Err fault) holds = holds
 
 -- ---- what stands, with its trail
 
@@ -307,7 +312,7 @@ module _ {TheContent Config TheEdit Node : Type 0} (m : Meaning Config TheEdit N
       → Journals (whole_of core trail).state (world_step m core.setting (whole_of core trail).state event) old new
   come_left core trail event old new keeps moments = record {
     keeps = keeps;
-    any_moment = λ there unstrayed.
+    any_moment = λ there undiverged.
         let entry = entry_of core.setting core.state event in
         let after = (elementary m core.setting core.state event).after.entries in
         weaker old new (MayRead core.state.entries entry) (IsBetween core.state.entries after)
@@ -323,7 +328,7 @@ module _ {TheContent Config TheEdit Node : Type 0} (m : Meaning Config TheEdit N
       → Does (λ w. world_step m core.setting w event) (whole_of core trail) (whole_of new later) disk after
   come_did core new trail later event noted what disk after happened copied tells came others once straight as_many fits keeps moments = record {
     others = ap (λ s. whole_of s later) others;
-    done = λ unstrayed. applied_so core new trail later event noted what (elementary m core.setting core.state event) (came unstrayed) happened copied tells;
+    done = λ undiverged. applied_so core new trail later event noted what (elementary m core.setting core.state event) (came undiverged) happened copied tells;
     once = once;
     straight = straight;
     operators = as_many;

@@ -39,8 +39,8 @@ pub record Setting (TheEdit : Type 0) : Type 0 where
   pub users : List (List ℕ)
 
 -- what stands at a moment. Device d stands at place d - 1, what is kept of change set c at place c - 1, and for operator o at
--- place o - 1 the session that it was last given on each device. It has has_diverged where the manager once read another journal
--- than it wrote
+-- place o - 1 the session that it was last given on each device. It has diverged where the manager once read another journal than
+-- it wrote
 pub record CoreState (Config Node : Type 0) : Type 0 where
   pub devices : List (RecordedState Config Node)
   pub entries : List Entry
@@ -364,6 +364,7 @@ module _ {Config TheEdit Node : Type 0} (m : Meaning Config TheEdit Node) where
   leaving w number device = moved w device (leaving_at device (operator_at w.operators number) (device_at w device))
 
 module _ {Config Node : Type 0} where
+  -- the session that an operator has on a device at a place, where both are there
   abbrev pub session_by : ℕ → Option (List (Option ℕ)) → Option (RecordedState Config Node) → Option ℕ
   session_by place None r = None
   session_by place (Some operator) None = None
@@ -554,6 +555,7 @@ module _ {TheContent Config TheEdit Node : Type 0} where
     state = begin setup.setting setup.first_configs;
   }
 
+  -- what stands when a world begins again
   abbrev pub core_anew : CoreValue TheContent Config TheEdit Node → CoreValue TheContent Config TheEdit Node
   core_anew w = record w { failed = None; has_failed = false; state = begin w.setting w.first_configs }
 

@@ -1,9 +1,13 @@
 //! How a world begins, and begins again.
 
-ghost use Rattle.std.specs.Prelude.{◌≡◌, ◌≤◌, ◌++◌, ◌∷◌, [], length, map, replicate, is_some, None, IfOk, OnOk};
+ghost use Rattle.std.specs.Prelude.{◌≡◌, ◌≤◌, ◌⊎◌, ◌++◌, ◌∷◌, [], length, map, replicate, None, Err, IfOk, IfErr, OnOk, OnErr, IsSome};
 ghost use Rattle.std.specs.Arc.{arc_value};
-ghost use Rattle.nm_journal.specs.Fits.{Fits};
+ghost use Rattle.nm_base.specs.Count.{Rose};
+ghost use Rattle.nm_disk.specs.Image.{AnyMoment};
+ghost use Rattle.nm_disk.specs.Keeps.{KeepsDisk};
+ghost use Rattle.nm_journal.specs.Fits.{Fits, WasThereOrReadsAs};
 ghost use Rattle.nm_history.specs.History.{recorded};
+ghost use Rattle.nm_manager.specs.declared.action.TurnFault.TheVariants as fault;
 ghost use Rattle.nm_world.specs.World.{AreSound};
 
 use crate::operator::Operator;
@@ -13,7 +17,7 @@ use nm_base::NoMemory;
 use nm_disk::Disk;
 use nm_history::Recorded;
 use nm_journal::Journal;
-use nm_manager::Manager;
+use nm_manager::{Manager, TurnFault};
 use nm_proto::Content;
 use std::alloc::Global;
 use std::sync::Arc;
@@ -45,40 +49,31 @@ impl<C: Content + Drop> WorldCore<C> {
         })
     }
 
-    // As before anything happened, with an empty journal on a disk from which all is taken.
-    pub(crate) fn begin_again<D: Disk>(&mut self, disk: &mut D) -> Result<(), NoMemory>
+    // As before anything happened, with an empty journal on a disk from which all is taken. It takes its room first.
+    pub(crate) fn begin_again<D: Disk>(&mut self, disk: &mut D) -> Result<(), TurnFault>
         ensures begun { OnOk result (self.new ≡ core_anew self.old) }
         ensures fits { OnOk result (Fits (core_journal self.new) (D.state disk.new)) }
-        ensures tells { OnOk result (is_some (D.state disk.new).contents ≡ is_some (D.state disk.old).contents) }
+        ensures unchanged { OnErr result (self.new ≡ self.old) }
+        ensures disk_fault { result ≡ Err fault.DiskFault → Rose (D.state disk.old).faults (D.state disk.new).faults }
+        ensures no_memory { result ≡ Err fault.NoMemory → disk.new ≡ disk.old }
+        ensures no_other { IfErr result (λ why. (why ≡ fault.DiskFault) ⊎ (why ≡ fault.NoMemory)) }
+        ensures any_moment { IsSome (D.state disk.old).contents
+            → AnyMoment (D.state disk.old) (D.state disk.new) (WasThereOrReadsAs (D.state disk.old) []) }
+        ensures keeps { KeepsDisk (D.state disk.old) (D.state disk.new) }
     {
-        let journal = empty_journal(self.alloc, disk)?;
         let setup: &Setup<C> = &self.setup;
-        let operators = fresh_operators(
-            self.alloc,
-            setup.users().len(),
-            setup.first_configs().len(),
-        )?;
-        let devices = fresh_devices(self.alloc, setup)?;
-        self.manager.begin_again(journal)?;
+        let users = setup.users().len();
+        let Ok(operators) = fresh_operators(self.alloc, users, setup.first_configs().len()) else {
+            return Err(TurnFault::NoMemory);
+        };
+        let Ok(devices) = fresh_devices(self.alloc, setup) else {
+            return Err(TurnFault::NoMemory);
+        };
+        self.manager.begin_again(disk)?;
         self.operators = operators;
         self.devices = devices;
         self.has_diverged = false;
         Ok(())
-    }
-}
-
-// An empty journal on a disk, from which all is taken first.
-fn empty_journal<D: Disk>(alloc: Global, disk: &mut D) -> Result<Journal, NoMemory>
-    ensures empty { IfOk result (λ journal. journal ≡ record { entries = []; failed = None }) }
-    ensures fits { IfOk result (λ journal. Fits journal (D.state disk.new)) }
-    ensures tells { OnOk result (is_some (D.state disk.new).contents ≡ is_some (D.state disk.old).contents) }
-{
-    let Ok(()) = disk.cut(0) else {
-        return Err(NoMemory);
-    };
-    match Journal::fresh(alloc, disk) {
-        Ok(journal) => Ok(journal),
-        Err(_) => Err(NoMemory),
     }
 }
 

@@ -1,6 +1,6 @@
 //! How a world is brought to rest: what is looked for at one device.
 
-ghost use Rattle.std.specs.Prelude.{◌≡◌, ◌≤◌, length};
+ghost use Rattle.std.specs.Prelude.{◌≡◌, ◌≤◌, ℕ, length, None};
 ghost use Rattle.nm_manager.specs.Manager.{wire_in};
 ghost use Rattle.nm_world.specs.World.{is_side_open, undelivered};
 ghost use Rattle.nm_world.specs.Drain.{first_from, event_if, lose_link, lose_first, is_awaited, is_stranded, is_stranded_on, break_on, deliver_by, deliver_on, answer_by, answer_on, found_by};
@@ -49,7 +49,27 @@ fn lose_link<C: Content>(
     }
 }
 
-// The loss of the first such link.
+// The loss of the first such link, where there is none up to a number.
+fn lose_behind<C: Content>(
+    device: &Recorded<C>,
+    manager: &Manager,
+    change: ChangeNo,
+    number: DeviceNo,
+    passed: u32,
+) -> Option<Event>
+    requires given { change ≤ length manager.now.plans }
+    requires none { (link : ℕ) → link ≤ passed → lose_link device.now (wire_in manager.now.state change number) change number link ≡ None }
+    ensures { result ≡ lose_first device.now (wire_in manager.now.state change number) change number }
+{
+    for place in passed..manager.links(change, number) {
+        if let Some(event) = lose_link(device, manager, change, number, place + 1) {
+            return Some(event);
+        }
+    }
+    None
+}
+
+// The loss of the first such link. It passes over those that have ended at their device, as the manager knows.
 fn lose_first<C: Content>(
     device: &Recorded<C>,
     manager: &Manager,
@@ -59,12 +79,10 @@ fn lose_first<C: Content>(
     requires given { change ≤ length manager.now.plans }
     ensures { result ≡ lose_first device.now (wire_in manager.now.state change number) change number }
 {
-    for place in 0..manager.links(change, number) {
-        if let Some(event) = lose_link(device, manager, change, number, place + 1) {
-            return Some(event);
-        }
+    match manager.first_left_open(change, number) {
+        Some(first) => lose_behind(device, manager, change, number, first.saturating_sub(1)),
+        None => None,
     }
-    None
 }
 
 // Whether a reply that was sent on a link isn't handled.

@@ -1,16 +1,17 @@
 //! What is reported of a world at its end.
 
-ghost use Rattle.std.specs.Prelude.{◌≡◌, ◌≤◌, ◌++◌, ◌-◌, length, slice_get, IfOk, OnOk};
+ghost use Rattle.std.specs.Prelude.{◌≡◌, ◌≤◌, ◌++◌, ◌-◌, length, slice_get, option_copied, IfOk, OnOk};
 ghost use Rattle.nm_base.specs.Token.{token_of};
 ghost use Rattle.nm_recovery.specs.Recovery.{is_started, verdict_in};
 ghost use Rattle.nm_manager.specs.Slot.{to_commit};
 ghost use Rattle.nm_world.specs.Report.{differs, differs_at, differing, unsettles, unsettled_at, unsettling, report_from, pair_if, each_from};
 
-use crate::search::{change_in, device_in, device_of};
+use crate::places::place_of;
+use crate::search::{change_in, device_in};
 use crate::settled::is_settled;
 use nm_base::token::token_of;
 use nm_base::{ChangeNo, DeviceNo, Label, NoMemory};
-use nm_history::{Recorded, outcome_of};
+use nm_history::{Recorded, Telling, tellings_of};
 use nm_manager::Manager;
 use nm_proto::{Content, Entry, Listed, Verdict};
 use nm_recovery::{is_started, verdict_in};
@@ -31,9 +32,19 @@ pub struct Report {
     pub unsettled: Listed<Pair>,
 }
 
+// The device of a number, with what its history tells.
+fn telling_of<'t, 'd, C: Content>(
+    devices: &'t [Telling<'d, C>],
+    number: DeviceNo,
+) -> Option<&'t Telling<'d, C>>
+    ensures { option_copied result ≡ slice_get devices.now (number - 1) }
+{
+    devices.get(place_of(number))
+}
+
 // Whether the commit of a change set that was to be committed was undone at a device.
 fn differs<C: Content>(
-    devices: &[Recorded<C>],
+    devices: &[Telling<C>],
     committed: bool,
     change: ChangeNo,
     token: &Label,
@@ -42,15 +53,15 @@ fn differs<C: Content>(
     requires token { token.now ≡ token_of change }
     ensures { result ≡ differs committed change (slice_get devices.now (number - 1)) }
 {
-    match device_of(devices, number) {
-        Some(device) => committed && outcome_of(token, device.history()).is_undone(),
+    match telling_of(devices, number) {
+        Some(device) => committed && device.outcome(token).is_undone(),
         None => false,
     }
 }
 
 // Whether it isn't known yet what becomes of a change set at a device.
 fn unsettles<C: Content>(
-    devices: &[Recorded<C>],
+    devices: &[Telling<C>],
     manager: &Manager,
     started: bool,
     change: ChangeNo,
@@ -62,15 +73,15 @@ fn unsettles<C: Content>(
     requires token { token.now ≡ token_of change }
     ensures { result ≡ unsettles manager.now.state change number (slice_get devices.now (number - 1)) }
 {
-    match device_of(devices, number) {
+    match telling_of(devices, number) {
         Some(device) => {
             started
                 && !is_settled(
-                    device,
+                    device.recorded(),
                     manager,
                     change,
                     number,
-                    outcome_of(token, device.history()),
+                    device.outcome(token),
                 )
         }
         None => false,
@@ -95,7 +106,7 @@ fn push_if(
 // Each device at which a change set differs comes to the others.
 fn push_differing<C: Content>(
     pairs: &mut Listed<Pair>,
-    devices: &[Recorded<C>],
+    devices: &[Telling<C>],
     committed: bool,
     change: ChangeNo,
     token: &Label,
@@ -115,7 +126,7 @@ fn push_differing<C: Content>(
 // Each device at which a change set is unsettled comes to the others.
 fn push_unsettled<C: Content>(
     pairs: &mut Listed<Pair>,
-    devices: &[Recorded<C>],
+    devices: &[Telling<C>],
     manager: &Manager,
     started: bool,
     change: ChangeNo,
@@ -146,7 +157,7 @@ fn is_committed(entries: &[Entry], change: ChangeNo) -> bool
 fn push_change<C: Content>(
     alloc: Global,
     report: &mut Report,
-    devices: &[Recorded<C>],
+    devices: &[Telling<C>],
     manager: &Manager,
     change: ChangeNo,
 ) -> Result<(), NoMemory>
@@ -170,10 +181,10 @@ fn push_change<C: Content>(
     )
 }
 
-/// What is reported of devices and of the manager's change sets.
-pub(crate) fn report_from<C: Content>(
+// What is reported of devices, with what their histories tell, and of the manager's change sets.
+fn report_by<C: Content>(
     alloc: Global,
-    devices: &[Recorded<C>],
+    devices: &[Telling<C>],
     manager: &Manager,
 ) -> Result<Report, NoMemory>
     requires few { length devices.now ≤ 32 }
@@ -187,4 +198,17 @@ pub(crate) fn report_from<C: Content>(
         push_change(alloc, &mut report, devices, manager, change_in(place))?;
     }
     Ok(report)
+}
+
+/// What is reported of devices and of the manager's change sets. It goes through each history once.
+pub(crate) fn report_from<C: Content>(
+    alloc: Global,
+    devices: &[Recorded<C>],
+    manager: &Manager,
+) -> Result<Report, NoMemory>
+    requires few { length devices.now ≤ 32 }
+    ensures { IfOk result (λ report. report ≡ report_from devices.now manager.now.state (length manager.now.plans)) }
+{
+    let tellings = tellings_of(alloc, devices)?;
+    report_by(alloc, tellings.as_slice(), manager)
 }

@@ -56,7 +56,7 @@ impl<C: Content + Drop> World<C> {
         requires ready { IsReady self.old (D.state disk.old) }
         ensures stepped { OnOk result (Does (λ w. drain_step (C.meaning self.old.content) self.old.setting w) self.old self.new (D.state disk.old)
             (D.state disk.new)) }
-        ensures calm { OnOk result (self.new.state.has_diverged ≡ self.old.state.has_diverged) }
+        ensures exact { OnOk result (self.new.state ≡ drain_step (C.meaning self.old.content) self.old.setting self.old.state) }
         ensures read { (offset : ℕ) → result ≡ Err (fault.Damaged offset) → ⊥ }
         ensures went { IfOk result (λ went. went ≡ is_some (drain_event self.old.setting self.old.state)) }
         ensures at_rest { drain_event self.old.setting self.old.state ≡ None → (self.new ≡ self.old) × (disk.new ≡ disk.old) }
@@ -83,6 +83,7 @@ impl<C: Content + Drop> World<C> {
             → world ≡ with_state self (drained (C.meaning self.content) self.setting drain_limit self.state)) }
         ensures others { IfOk result (λ world. world ≡ with_state self world.state) }
         // No step is a crash.
+        ensures reached { IfOk result (λ world. world.state ≡ drained (C.meaning self.content) self.setting drain_limit self.state) }
         ensures straight { IfOk result (λ world. world.state.has_diverged ≡ self.state.has_diverged) }
         ensures read { (offset : ℕ) → result ≡ Err (fault.Damaged offset) → ⊥ }
         ensures stored { IfOk result (λ world. IfSome (D.state disk.new).contents (ReadsAs world.state.entries)) }

@@ -146,13 +146,30 @@ fn leaves<C: Content>(devices: &[Recorded<C>], operators: &[Operator]) -> Option
     None
 }
 
+// The loss of the first link of a change set that isn't current and whose side at its device is open. It looks at no device
+// where the manager knows that no such link is open.
+fn loses_of<C: Content>(
+    devices: &[Recorded<C>],
+    manager: &Manager,
+    change: ChangeNo,
+) -> Option<Event>
+    requires given { change ≤ length manager.now.plans }
+    requires few { length devices.now ≤ 32 }
+    ensures { result ≡ at_devices devices.now manager.now.state rules.Lose change }
+{
+    if !manager.has_left_open(change) {
+        return None;
+    }
+    at_devices(Rule::Lose, devices, manager, change)
+}
+
 // The loss of the first link that isn't current and whose side at its device is open.
 fn loses_links<C: Content>(devices: &[Recorded<C>], manager: &Manager) -> Option<Event>
     requires few { length devices.now ≤ 32 }
     ensures { result ≡ loses_links devices.now manager.now.state (length manager.now.plans) }
 {
     for place in 0..manager.plans().len() {
-        if let Some(event) = at_devices(Rule::Lose, devices, manager, change_in(place)) {
+        if let Some(event) = loses_of(devices, manager, change_in(place)) {
             return Some(event);
         }
     }

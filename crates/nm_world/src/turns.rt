@@ -83,6 +83,7 @@ impl<C: Content + Drop> WorldCore<C> {
             → self.new ≡ record self.old { state = (crashing self.old.setting.plans self.old.state).after }) }
         ensures read { OnOk result (self.new ≡ crashed_with self.old self.new.state.entries self.new.state.has_diverged) }
         ensures once { OnOk result (self.new.state.has_diverged ≡ false → self.old.state.has_diverged ≡ false) }
+        ensures same { OnOk result (self.new.state.entries ≡ self.old.state.entries → self.new.state.has_diverged ≡ self.old.state.has_diverged) }
         ensures straight { IsSome (D.state disk.old).contents → OnOk result (self.new.state.has_diverged ≡ self.old.state.has_diverged) }
         ensures still { OnErr result (IsAsBefore self.old self.new) }
         ensures disk_fault { result ≡ Err fault.DiskFault → Rose (D.state disk.old).faults (D.state disk.new).faults }
@@ -144,7 +145,7 @@ fn copied(alloc: Global, entries: &[Entry]) -> Result<Vec<Entry>, NoMemory>
 // Any event.
 impl<C: Content + Drop> WorldCore<C> {
     ghost use Rattle.nm_world.specs.World.{IsAsBefore, AreInTime, core_journal, elementary, change_in, entry_of, is_crash};
-    ghost use Rattle.nm_world.specs.Runs.{KeepsTime, seconds_in};
+    ghost use Rattle.nm_world.specs.Runs.{KeepsTime, seconds_in, RereadsCore};
 
     // An elementary event. One that isn't elementary changes nothing.
     pub(crate) fn come<D: Disk>(
@@ -160,6 +161,9 @@ impl<C: Content + Drop> WorldCore<C> {
         ensures happened { IfOk result (λ what. what ≡ (elementary (C.meaning self.old.content) self.old.setting self.old.state event.now).happened) }
         ensures came { OnOk result (self.new.state.has_diverged ≡ false
             → self.new ≡ record self.old { state = (elementary (C.meaning self.old.content) self.old.setting self.old.state event.now).after }) }
+        ensures exact { is_crash event.now ≡ false
+            → OnOk result (self.new ≡ record self.old { state = (elementary (C.meaning self.old.content) self.old.setting self.old.state event.now).after }) }
+        ensures reread { is_crash event.now ≡ true → OnOk result (RereadsCore self.old self.new) }
         ensures others { OnOk result (self.new ≡ record self.old { state = self.new.state }) }
         ensures once { OnOk result (self.new.state.has_diverged ≡ false → self.old.state.has_diverged ≡ false) }
         ensures straight { IsSome (D.state disk.old).contents → OnOk result (self.new.state.has_diverged ≡ self.old.state.has_diverged) }

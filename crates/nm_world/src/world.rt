@@ -1,15 +1,15 @@
 //! The world: what stands at a moment, and the trail of what has happened.
 
-ghost use Rattle.std.specs.Prelude.{◌≡◌, ◌≤◌, ◌<◌, ◌*◌, ◌^◌, ◌⊎◌, ℕ, length, is_some, [], Err, Some, None, false, IfOk, OnOk, OnErr, IfSome, IsSome};
+ghost use Rattle.std.specs.Prelude.{◌≡◌, ◌≤◌, ◌<◌, ◌*◌, ◌^◌, ◌⊎◌, ℕ, length, [], Err, Some, None, false, IfOk, IfErr, OnOk, OnErr, IfSome, IsSome};
 ghost use Rattle.std.specs.Arc.{arc_value};
 ghost use Rattle.std.specs.List.{All};
 ghost use Rattle.nm_base.specs.Count.{Rose};
 ghost use Rattle.nm_disk.specs.Image.{AnyMoment};
 ghost use Rattle.nm_disk.specs.Keeps.{KeepsDisk};
-ghost use Rattle.nm_journal.specs.Fits.{ReadsAs, IsDamagedAt};
+ghost use Rattle.nm_journal.specs.Fits.{ReadsAs, IsDamagedAt, WasThereOrReadsAs};
 ghost use Rattle.nm_manager.specs.Manager.{IsStrangeAt};
 ghost use Rattle.nm_manager.specs.declared.action.TurnFault.TheVariants as fault;
-ghost use Rattle.nm_world.specs.Runs.{Does, HasTime, IsBetween, IsNumbered, IsReady, Journals, KeepsTime};
+ghost use Rattle.nm_world.specs.Runs.{ComesBy, Does, HasTime, IsBetween, IsNumbered, IsReady, Journals, KeepsTime, LeadsTo, NoneStrange, Reaches};
 
 use crate::happened::{Sending, TraceEntry};
 use crate::setup::Setup;
@@ -78,13 +78,21 @@ impl<C: Content + Drop> World<C> {
         })
     }
 
-    /// Begins again, with an empty journal on a disk from which all is taken. Where the disk fails, this answers as where there is no
-    /// memory, and what stands then is any world.
-    pub fn begin_again<D: Disk>(&mut self, disk: &mut D) -> Result<(), NoMemory>
+    /// Begins again, with an empty journal on a disk from which all is taken.
+    ///
+    /// It takes its room first. Where it fails the world stays, and where the disk has failed, its journal needn't fit the disk.
+    pub fn begin_again<D: Disk>(&mut self, disk: &mut D) -> Result<(), TurnFault>
         ensures begun { OnOk result (self.new ≡ world_anew self.old) }
         ensures in_time { (seconds : ℕ) → seconds ≤ 2 ^ 62 → OnOk result (HasTime seconds self.new.state.devices) }
         ensures ready { OnOk result (IsReady self.new (D.state disk.new)) }
-        ensures tells { OnOk result (is_some (D.state disk.new).contents ≡ is_some (D.state disk.old).contents) }
+        ensures unchanged { OnErr result (self.new ≡ self.old) }
+        ensures disk_fault { result ≡ Err fault.DiskFault → Rose (D.state disk.old).faults (D.state disk.new).faults }
+        ensures no_memory { result ≡ Err fault.NoMemory → disk.new ≡ disk.old }
+        ensures no_other { IfErr result (λ why. (why ≡ fault.DiskFault) ⊎ (why ≡ fault.NoMemory)) }
+        // A crash during the call leaves an image that was there, or one that reads as an empty list.
+        ensures any_moment { IsSome (D.state disk.old).contents
+            → AnyMoment (D.state disk.old) (D.state disk.new) (WasThereOrReadsAs (D.state disk.old) []) }
+        ensures keeps { KeepsDisk (D.state disk.old) (D.state disk.new) }
     {
         self.core.begin_again(disk)?;
         self.trail.clear();
@@ -177,8 +185,11 @@ impl<C: Content + Drop> World<C> {
         requires ready { IsReady self.old (D.state disk.old) }
         ensures applied { OnOk result (Does (λ w. world_step (C.meaning self.old.content) self.old.setting w event.now) self.old self.new
             (D.state disk.old) (D.state disk.new)) }
-        ensures calm { is_crash event.now ≡ false → OnOk result (self.new.state.has_diverged ≡ self.old.state.has_diverged) }
+        ensures came { OnOk result (ComesBy (λ w. world_step (C.meaning self.old.content) self.old.setting w event.now) self.old.setting.plans event.now
+            self.old.state self.new.state) }
         ensures read { is_crash event.now ≡ false → (offset : ℕ) → result ≡ Err (fault.Damaged offset) → ⊥ }
+        ensures sound { IsSome (D.state disk.old).contents → NoneStrange self.old.setting.plans self.old.state.entries
+            → (offset : ℕ) → result ≡ Err (fault.Damaged offset) → ⊥ }
         ensures sent { IfOk result (λ sending. sending
             ≡ sending_of (elementary (C.meaning self.old.content) self.old.setting (core_of self.old.state) event.now).happened) }
         ensures still { OnErr result (IsStill self.old self.new) }
@@ -232,7 +243,7 @@ impl<C: Content + Drop> World<C> {
         requires ready { IsReady self.old (D.state disk.old) }
         ensures answered { OnOk result (Does (λ w. last_answered (C.meaning self.old.content) self.old.setting w change sending) self.old self.new
             (D.state disk.old) (D.state disk.new)) }
-        ensures calm { OnOk result (self.new.state.has_diverged ≡ self.old.state.has_diverged) }
+        ensures exact { OnOk result (self.new.state ≡ last_answered (C.meaning self.old.content) self.old.setting self.old.state change sending) }
         ensures read { (offset : ℕ) → result ≡ Err (fault.Damaged offset) → ⊥ }
         ensures disk_fault { result ≡ Err fault.DiskFault → Rose (D.state disk.old).faults (D.state disk.new).faults }
         ensures journals { Journals self.old.state (last_answered (C.meaning self.old.content) self.old.setting self.old.state change sending)
@@ -258,7 +269,7 @@ impl<C: Content + Drop> World<C> {
         requires ready { IsReady self.old (D.state disk.old) }
         ensures went { OnOk result (Does (λ w. round (C.meaning self.old.content) self.old.setting w change) self.old self.new (D.state disk.old)
             (D.state disk.new)) }
-        ensures calm { OnOk result (self.new.state.has_diverged ≡ self.old.state.has_diverged) }
+        ensures exact { OnOk result (self.new.state ≡ round (C.meaning self.old.content) self.old.setting self.old.state change) }
         ensures read { (offset : ℕ) → result ≡ Err (fault.Damaged offset) → ⊥ }
         ensures disk_fault { result ≡ Err fault.DiskFault → Rose (D.state disk.old).faults (D.state disk.new).faults }
         ensures journals { Journals self.old.state (round (C.meaning self.old.content) self.old.setting self.old.state change) (D.state disk.old)
@@ -282,7 +293,7 @@ impl<C: Content + Drop> World<C> {
         requires ready { IsReady self.old (D.state disk.old) }
         ensures followed { OnOk result (Does (λ w. followed (C.meaning self.old.content) self.old.setting w change (Some sending)) self.old self.new
             (D.state disk.old) (D.state disk.new)) }
-        ensures calm { OnOk result (self.new.state.has_diverged ≡ self.old.state.has_diverged) }
+        ensures exact { OnOk result (self.new.state ≡ followed (C.meaning self.old.content) self.old.setting self.old.state change (Some sending)) }
         ensures read { (offset : ℕ) → result ≡ Err (fault.Damaged offset) → ⊥ }
         ensures disk_fault { result ≡ Err fault.DiskFault → Rose (D.state disk.old).faults (D.state disk.new).faults }
         ensures journals { Journals self.old.state (followed (C.meaning self.old.content) self.old.setting self.old.state change (Some sending))
@@ -311,7 +322,7 @@ impl<C: Content + Drop> World<C> {
         requires ready { IsReady self.old (D.state disk.old) }
         ensures went { OnOk result (Does (λ w. rounds (C.meaning self.old.content) self.old.setting turns w change) self.old self.new
             (D.state disk.old) (D.state disk.new)) }
-        ensures calm { OnOk result (self.new.state.has_diverged ≡ self.old.state.has_diverged) }
+        ensures exact { OnOk result (self.new.state ≡ rounds (C.meaning self.old.content) self.old.setting turns self.old.state change) }
         ensures read { (offset : ℕ) → result ≡ Err (fault.Damaged offset) → ⊥ }
         ensures disk_fault { result ≡ Err fault.DiskFault → Rose (D.state disk.old).faults (D.state disk.new).faults }
         ensures journals { Journals self.old.state (rounds (C.meaning self.old.content) self.old.setting turns self.old.state change)
@@ -330,8 +341,10 @@ impl<C: Content + Drop> World<C> {
         requires ready { IsReady self.old (D.state disk.old) }
         ensures stepped { OnOk result (Does (λ w. event_step (C.meaning self.old.content) self.old.setting w event.now) self.old self.new
             (D.state disk.old) (D.state disk.new)) }
-        ensures calm { is_crash event.now ≡ false → OnOk result (self.new.state.has_diverged ≡ self.old.state.has_diverged) }
+        ensures leads { OnOk result (LeadsTo (C.meaning self.old.content) self.old.setting event.now self.old.state self.new.state) }
         ensures read { is_crash event.now ≡ false → (offset : ℕ) → result ≡ Err (fault.Damaged offset) → ⊥ }
+        ensures sound { IsSome (D.state disk.old).contents → NoneStrange self.old.setting.plans self.old.state.entries
+            → (offset : ℕ) → result ≡ Err (fault.Damaged offset) → ⊥ }
         ensures disk_fault { result ≡ Err fault.DiskFault → Rose (D.state disk.old).faults (D.state disk.new).faults }
         ensures journals { Journals self.old.state (event_step (C.meaning self.old.content) self.old.setting self.old.state event.now)
             (D.state disk.old) (D.state disk.new) }
@@ -355,12 +368,17 @@ impl<C: Content + Drop> World<C> {
             → world ≡ with_state self (run (C.meaning self.content) self.setting self.state events.now)) }
         // Whatever the manager read of its journal, nothing but the state changes, and it hasn't failed.
         ensures others { IfOk result (λ world. world ≡ with_state self world.state) }
-        // Over a disk that tells its bytes no world strays.
+        // Whatever crashes read, the last world is that of the events with what was read.
+        ensures reached { IfOk result (λ world. Reaches (C.meaning self.content) self.setting self.state events.now world.state) }
+        // Over a disk that tells its bytes no world diverges.
         ensures straight { IsSome (D.state disk.old).contents → IfOk result (λ world. world.state.has_diverged ≡ self.state.has_diverged) }
-        // Only a crash can have a world stray.
+        // Only a crash can have a world diverge.
         ensures calm { AreCalm events.now → IfOk result (λ world. world.state.has_diverged ≡ self.state.has_diverged) }
         // Without a crash nothing is read of the journal.
         ensures read { AreCalm events.now → (offset : ℕ) → result ≡ Err (fault.Damaged offset) → ⊥ }
+        // Over a disk that tells its bytes the journal reads as it was written, so nothing in it is damaged.
+        ensures sound { IsSome (D.state disk.old).contents → self.state.has_diverged ≡ false → NoneStrange self.setting.plans self.state.entries
+            → (offset : ℕ) → result ≡ Err (fault.Damaged offset) → ⊥ }
         ensures operators { IfOk result (λ world. length world.state.operators ≡ length self.state.operators) }
         // Each event takes less than 2^32 seconds.
         ensures keeps_time { IfOk result (λ world. KeepsTime (2 ^ 32 * length events.now) self.state.devices world.state.devices) }

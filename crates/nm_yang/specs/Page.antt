@@ -1,5 +1,5 @@
 -- The text that is read, the faults, and readers that answer the first fault from the left.
-use Rattle.std.specs.Prelude.{◌≡◌, ℕ, ◌+◌, ◌*◌, ◌/◌, ◌-◌, ◌++◌, List, [], ◌∷◌, length, take, Bool, Option, Result, Ok, Err, ◌==◌, ◌&&◌, nat_lt, nat_le, if◌then◌else◌}
+use Rattle.std.specs.Prelude.{◌≡◌, ℕ, ◌+◌, ◌-◌, ◌++◌, List, [], ◌∷◌, length, take, Bool, Option, Result, Ok, Err, ◌==◌, ◌&&◌, nat_lt, nat_le, if◌then◌else◌}
 use Rattle.std.specs.Option.{unwrap_or}
 use Rattle.nm_yang.specs.declared.fault.Fault.{Fault}
 use Rattle.nm_yang.specs.declared.fault.YangKind.{YangKind}
@@ -28,12 +28,11 @@ at_end page fault = unwrap_or page.stop fault
 abbrev pub front : List ℕ → List ℕ → List ℕ
 front bytes rest = take (length bytes - length rest) bytes
 
--- the column after a byte: a line break begins a line, a tab goes to the next multiple of 8, and the bytes
--- of one character take one column (RFC 7950 section 6.1.3; how tabs count is this project's own)
+-- the column after a byte: a line break begins a line, a tab counts as 8 columns, and the bytes of one character take one (RFC 7950 section 6.1.3)
 abbrev pub next_column : ℕ → ℕ → ℕ
 next_column column byte =
     if byte == 10 then 0 else (
-    if byte == 9 then (column / 8 + 1) * 8 else (
+    if byte == 9 then column + 8 else (
     if nat_le 128 byte && nat_lt byte 192 then column else column + 1))
 
 -- the column after some bytes, from one

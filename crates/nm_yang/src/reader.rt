@@ -39,7 +39,7 @@ fn next_column(column: u32, byte: u8) -> u32
     if byte == b'\n' {
         0
     } else if byte == b'\t' {
-        (column / 8 + 1) * 8
+        column + 8
     } else if 128 <= byte && byte < 192 {
         column
     } else {

@@ -1,5 +1,5 @@
 -- What is kept of the links of a change set, at each step of the manager and at each device's side.
-use Rattle.std.proofs.Common.{◌≡◌, ◌∙◌, ℕ, suc, ◌-◌, ◌≤◌, Bool, true, false, List, [], ◌∷◌, ◌++◌, Option, Some, None, IfSome, option_map, slice_get, slice_set, refl, ap, sym, subst, arith}
+use Rattle.std.proofs.Common.{◌≡◌, ◌∙◌, ℕ, suc, ◌-◌, ◌≤◌, Bool, true, false, List, [], ◌∷◌, ◌++◌, Option, Some, None, IfSome, option_map, slice_get, refl, ap, sym, subst, arith}
 use Rattle.std.proofs.lemmas.List.{append-nil, append_assoc}
 use Rattle.std.proofs.lemmas.Option.{none-some}
 use Rattle.nm_base.specs.declared.number.EditNo.{EditNo}
@@ -28,10 +28,9 @@ use Rattle.nm_manager.specs.Requests.{edit_for, edit_request, request_for}
 use Rattle.nm_manager.specs.Slot.{SideState, SlotState, asked_in_fact, gone, may_go, opens, renews, renews_if, sends, sends_if, sends_request, with_pair, with_wire, on_side, sends_pair, renews_pair}
 use Rattle.nm_safety.proofs.Gone.{each_gone}
 use Rattle.nm_safety.proofs.Links.{did_handled, did_sent_on}
-use Rattle.nm_safety.proofs.Places.{set_same}
 use Rattle.nm_safety.specs.Support.{AllLinks}
 use Rattle.nm_safety.proofs.Lists.{some_is, to_some}
-use Rattle.nm_safety.proofs.SlotLinks.{links_at, set_links}
+use Rattle.nm_safety.proofs.SlotLinks.{links_at, same_links, set_links}
 use Rattle.nm_world.specs.World.{Setting}
 use Rattle.nm_commit_laws.specs.Brings.{Brings, IsOwnEdit}
 use Rattle.nm_commit_laws.specs.Course.{steps_of}
@@ -223,10 +222,6 @@ module _ {Config TheEdit Node : Type 0} (m : Meaning Config TheEdit Node) (setti
   abbrev P : ℕ → ℕ → LinkState → Type 0
   P d = IsOwnLink m setting entries change (suc d) (slice_get devices d)
 
-  same_links : AllLinks P slot.sides → (d : ℕ) (side : SideState) → slice_get slot.sides d ≡ Some side
-      → AllLinks P (slice_set slot.sides d side)
-  same_links all d side there = subst (AllLinks P) (sym (set_same slot.sides d side there)) all
-
   module _ (all : AllLinks P slot.sides) (device : ℕ) (numbered : 1 ≤ device) (side : SideState)
       (there : slice_get slot.sides (device - 1) ≡ Some side) where
     same_number : device ≡ suc (device - 1)
@@ -235,7 +230,7 @@ module _ {Config TheEdit Node : Type 0} (m : Meaning Config TheEdit Node) (setti
     out_if : (before now : CourseState) (new : Bool) (request : Request) → EditsOwn setting.plans entries change device request → (b : Bool)
         → may_go new side.wire ≡ b
         → AllLinks P (with_pair slot device (sends_if b new device before now side request)).slot.sides
-    out_if before now new request edits false e = same_links all (device - 1) side there
+    out_if before now new request edits false e = same_links P slot all (device - 1) side there
     out_if before now new request edits true e =
         set_links P slot all (device - 1) side (with_wire side (gone new side.wire request)) there
         (each_gone (P (device - 1)) new side.wire request e
@@ -247,14 +242,14 @@ module _ {Config TheEdit Node : Type 0} (m : Meaning Config TheEdit Node) (setti
 
     out_by : (before now : CourseState) (new : Bool) (found : Option Request) → IfSome found (EditsOwn setting.plans entries change device)
         → AllLinks P (with_pair slot device (sends_request new device before now side found)).slot.sides
-    out_by before now new None edits = same_links all (device - 1) side there
+    out_by before now new None edits = same_links P slot all (device - 1) side there
     out_by before now new (Some request) edits = out_if before now new request edits (may_go new side.wire) refl
 
     pub renewed_if : (plan : ChangePlan)
         → IfSome (request_for plan entries slot.course.change device ask.Renew) (EditsOwn setting.plans entries change device)
         → (b : Bool)
         → AllLinks P (with_pair slot device (renews_if b plan entries slot.course side device)).slot.sides
-    renewed_if plan edits false = same_links all (device - 1) side there
+    renewed_if plan edits false = same_links P slot all (device - 1) side there
     renewed_if plan edits true =
         out_by slot.course (course.with_renewed slot.course device) false (request_for plan entries slot.course.change device ask.Renew)
         edits

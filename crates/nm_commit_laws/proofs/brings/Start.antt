@@ -15,15 +15,11 @@ use Rattle.nm_world.specs.World.{Setting, begin}
 use Rattle.nm_safety.specs.Pair.{first_link}
 use Rattle.nm_safety.specs.Pairs.{PairAt}
 use Rattle.nm_safety.proofs.Along.{history_none}
+use Rattle.nm_safety.proofs.Lists.{all_equal}
 use Rattle.nm_commit_laws.specs.Brings.{BringsOwn}
 use Rattle.nm_commit_laws.specs.BringsSupport.{AreBrought, CoursePair, IsBrought, IsOnCourse, IsOwnLink}
 use Rattle.nm_commit_laws.specs.Course.{steps_known, steps_of}
 use Rattle.nm_commit_laws.proofs.brings.Words.{zero_below}
-
-all_equal : {A : Type 0} (P : A → Type 0) (n : ℕ) (x : A) → P x → (j : ℕ) → IfSome (slice_get (replicate n x) j) P
-all_equal P zero x p j = tt
-all_equal P (suc n) x p zero = p
-all_equal P (suc n) x p (suc j) = all_equal P n x p j
 
 seats_live : (members device count j : ℕ) → IfSome (slice_get (seats_from members (Live 0) device count) j) (λ one. one.stage ≡ Live 0)
 unfolding seats_from

@@ -1,5 +1,5 @@
 -- What is kept of the links of a change set, at each step of the manager.
-use Rattle.std.proofs.Common.{◌≡◌, ◌∙◌, ℕ, ◌+◌, ◌-◌, ◌≤◌, ◌==◌, Bool, true, false, cond, is_none, List, Option, Some, None, IfSome, option_and_then, slice_get, slice_set, refl, sym, ap, subst, arith}
+use Rattle.std.proofs.Common.{◌≡◌, ◌∙◌, ℕ, ◌-◌, ◌≤◌, Bool, true, false, is_none, List, Option, Some, None, IfSome, slice_get, refl, sym, ap, subst, arith}
 use Rattle.std.proofs.lemmas.Bool.Decides.{nat_tests}
 use Rattle.std.proofs.lemmas.Option.{none-some}
 use Rattle.nm_proto.specs.declared.ask.Ask.{Ask}
@@ -20,19 +20,17 @@ use Rattle.nm_wire.specs.declared.link.Way.{Way}
 use Rattle.nm_wire.specs.declared.link.Way.TheVariants.{Quiet, Asked, Told}
 use Rattle.nm_wire.specs.Asks.{ask_of}
 use Rattle.nm_wire.specs.Link.{LinkState, asked_on, closed_link, fresh_link, handled_by, handled_on, is_quiet_way, sent_on, session_of}
-use Rattle.nm_wire.specs.Wire.{WireState, current_link, link_at, sent}
+use Rattle.nm_wire.specs.Wire.{current_link}
 use Rattle.nm_manager.specs.Requests.{request_for}
 use Rattle.nm_manager.specs.Slot.{SideState, SlotState, asked_in_fact, gone, may_go, opens, renews, renews_if, sends, sends_if, sends_request, with_pair, with_wire, on_side, sends_pair, renews_pair}
 use Rattle.nm_manager.proofs.Kept.{asks_fit}
 use Rattle.nm_safety.specs.Step.{IsInStep}
-use Rattle.nm_safety.proofs.Gone.{GoesOnOne, each_gone, sent_one}
+use Rattle.nm_safety.proofs.Gone.{each_gone}
 use Rattle.nm_safety.proofs.Links.{did_handled, did_sent_on}
-use Rattle.nm_safety.proofs.Places.{set_same}
 use Rattle.nm_safety.proofs.Tables.{both}
 use Rattle.nm_safety.specs.Support.{AllLinks}
 use Rattle.nm_safety.proofs.Lists.{some_is, to_some}
-use Rattle.nm_safety.proofs.Managed.{others_stay}
-use Rattle.nm_safety.proofs.SlotLinks.{links_at, set_links}
+use Rattle.nm_safety.proofs.SlotLinks.{links_at, same_links, set_links}
 use Rattle.nm_commit_laws.specs.Standing.{is_other, standing}
 use Rattle.nm_commit_laws.specs.LeavesSupport.{AsksClean, HoldsCandidate, HoldsOn, IsHolding}
 use Rattle.nm_commit_laws.proofs.leaves.Course.{Stands, asks_clean, renews_clean}
@@ -89,54 +87,32 @@ module _ {Config Node : Type 0} where
 not_opens : (what : Ask) → opens what ≡ true → is_other what ≡ false
 not_opens what o = grind (arith, nat_tests)
 
-plus_one : (place : ℕ) → (place + 1 == 0) ≡ false
-plus_one place = grind (arith, nat_tests)
-
-above : (place : ℕ) → place + 1 - 1 ≡ place
-above place = omega arith
-
--- the current link is the one at its place
-current_at : (wire : WireState) (place : ℕ) (link : LinkState) → wire.current ≡ Some (place + 1)
-    → slice_get wire.links place ≡ Some link → current_link wire ≡ Some link
-current_at wire place link current here =
-    ap (option_and_then (link_at wire)) current
-    ∙ ap (λ b. cond b None (slice_get wire.links (place + 1 - 1))) (plus_one place)
-    ∙ ap (slice_get wire.links) (above place) ∙ here
-
 module _ {Config Node : Type 0} (devices : List (RecordedState Config Node)) (slot : SlotState) where
   abbrev pub P : ℕ → ℕ → LinkState → Type 0
   P d place = IsHolding (slice_get devices d)
 
-  same_links : AllLinks P slot.sides → (d : ℕ) (side : SideState) → slice_get slot.sides d ≡ Some side
-      → AllLinks P (slice_set slot.sides d side)
-  same_links all d side there = subst (AllLinks P) (sym (set_same slot.sides d side there)) all
-
   module _ (all : AllLinks P slot.sides) (device : ℕ) (side : SideState) (there : slice_get slot.sides (device - 1) ≡ Some side)
       (request : Request) where
+    stands_there : (new : Bool) → (new ≡ true → is_other (ask_of request) ≡ false)
+        → (is_other (ask_of request) ≡ true → Stands 2 (current_link side.wire)) → (link : LinkState)
+        → (new ≡ false → current_link side.wire ≡ Some link) → is_other (ask_of request) ≡ true → 2 ≤ standing link
+    stands_there true none clean link at other = absurd (let g : false ≡ true = sym (none refl) ∙ other in cc)
+    stands_there false none clean link at other = subst (Stands 2) (at refl) (clean other)
+
     -- a commit that brings no change set goes out where candidate is unmodified
     gone_holds : (new : Bool) → may_go new side.wire ≡ true → (new ≡ true → is_other (ask_of request) ≡ false)
         → (is_other (ask_of request) ≡ true → Stands 2 (current_link side.wire)) → (place : ℕ)
         → IfSome (slice_get (gone new side.wire request).links place) (P (device - 1) place)
-    gone_holds true goes none clean =
-        each_gone (P (device - 1)) true side.wire request goes (λ place. fresh_holds (slice_get devices (device - 1)))
-        (λ place link current quiet h.
-        sent_holds (slice_get devices (device - 1)) request link
-        (λ other. absurd (let g : false ≡ true = sym (none refl) ∙ other in cc)) quiet h)
+    gone_holds new goes none clean =
+        each_gone (P (device - 1)) new side.wire request goes (λ place. fresh_holds (slice_get devices (device - 1)))
+        (λ place link on quiet h.
+        sent_holds (slice_get devices (device - 1)) request link (stands_there new none clean link (λ e. (on e).1)) quiet h)
         (links_at P slot all (device - 1) side there)
-    gone_holds false goes none clean = λ place.
-        let one : GoesOnOne side.wire request (sent side.wire request) = sent_one side.wire request goes in
-        let links : (j : ℕ) → IfSome (slice_get side.wire.links j) (P (device - 1) j) = links_at P slot all (device - 1) side there in
-        subst (λ w. IfSome (slice_get w.links place) (P (device - 1) place)) (sym one.after_is)
-        (others_stay (λ j o. IfSome o (P (device - 1) j)) side.wire.links one.place one.link (sent_on request one.link) one.here
-        (sent_holds (slice_get devices (device - 1)) request one.link
-        (λ other. subst (Stands 2) (current_at side.wire one.place one.link one.current one.here) (clean other)) one.quiet
-        (some_is one.link (P (device - 1) one.place) (slice_get side.wire.links one.place) one.here (links one.place)))
-        (λ j ne. links j) place)
 
     out_if : (before now : CourseState) (new : Bool) → (new ≡ true → is_other (ask_of request) ≡ false)
         → (is_other (ask_of request) ≡ true → Stands 2 (current_link side.wire)) → (b : Bool) → may_go new side.wire ≡ b
         → AllLinks P (with_pair slot device (sends_if b new device before now side request)).slot.sides
-    out_if before now new none clean false e = same_links all (device - 1) side there
+    out_if before now new none clean false e = same_links P slot all (device - 1) side there
     out_if before now new none clean true e =
         set_links P slot all (device - 1) side (with_wire side (gone new side.wire request)) there (gone_holds new e none clean)
 
@@ -145,7 +121,7 @@ module _ {Config Node : Type 0} (devices : List (RecordedState Config Node)) (sl
         → IfSome found (λ request. new ≡ true → is_other (ask_of request) ≡ false)
         → IfSome found (λ request. is_other (ask_of request) ≡ true → Stands 2 (current_link side.wire))
         → AllLinks P (with_pair slot device (sends_request new device before now side found)).slot.sides
-    out_by before now new None none clean = same_links all (device - 1) side there
+    out_by before now new None none clean = same_links P slot all (device - 1) side there
     out_by before now new (Some request) none clean =
         out_if all device side there request before now new none clean (may_go new side.wire) refl
 
@@ -189,7 +165,7 @@ module _ {Config Node : Type 0} (devices : List (RecordedState Config Node)) (sl
     renewed_if : (side : SideState) → slice_get slot.sides (device - 1) ≡ Some side → (b : Bool)
         → course.may_renew slot.course device ≡ b
         → AllLinks P (with_pair slot device (renews_if b plan entries slot.course side device)).slot.sides
-    renewed_if side there false e = same_links all (device - 1) side there
+    renewed_if side there false e = same_links P slot all (device - 1) side there
     renewed_if side there true e =
         let undecided = both (is_none slot.course.verdict) _ e in
         let calm = both (is_none slot.course.trouble) _ undecided.1 in

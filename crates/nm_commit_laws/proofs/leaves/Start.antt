@@ -14,11 +14,7 @@ use Rattle.nm_safety.proofs.Along.{history_none}
 use Rattle.nm_commit_laws.specs.Leaves.{LeavesAsIs}
 use Rattle.nm_commit_laws.specs.LeavesSupport.{AreClean, IsClean, IsHolding, IsKnown, KnownPair}
 use Rattle.nm_safety.specs.Pairs.{PairAt}
-
-all_equal : {A : Type 0} (P : A → Type 0) (n : ℕ) (x : A) → P x → (j : ℕ) → IfSome (slice_get (replicate n x) j) P
-all_equal P zero x p j = tt
-all_equal P (suc n) x p zero = p
-all_equal P (suc n) x p (suc j) = all_equal P n x p j
+use Rattle.nm_safety.proofs.Lists.{all_equal}
 
 -- the sides are fresh, and nothing is decided
 fresh_known : (place : ℕ) (seat : Option Seat) (side : Option SideState) → IfSome side (λ one. one ≡ fresh_side) → PairAt KnownPair place None seat side

@@ -1,5 +1,5 @@
 -- What is kept of the links of a change set, at each step of the manager.
-use Rattle.std.proofs.Common.{◌≡◌, ◌∙◌, ◌⊎◌, inl, inr, ℕ, zero, suc, ◌+◌, ◌-◌, ◌≤◌, ◌==◌, Bool, true, false, cond, is_some, List, Option, Some, None, IfSome, option_and_then, option_map, slice_get, slice_set, refl, sym, ap, subst, arith}
+use Rattle.std.proofs.Common.{◌≡◌, ◌∙◌, ◌⊎◌, inl, inr, ℕ, zero, suc, ◌+◌, ◌-◌, ◌≤◌, Bool, true, false, is_some, List, Option, Some, None, IfSome, option_map, slice_get, refl, sym, ap, subst, arith}
 use Rattle.std.proofs.lemmas.Bool.Decides.{nat_tests}
 use Rattle.std.proofs.lemmas.Option.{none-some}
 use Rattle.nm_proto.specs.declared.ask.Ask.{Ask}
@@ -20,19 +20,17 @@ use Rattle.nm_wire.specs.declared.link.Way.TheVariants.{Quiet, Asked, Told}
 use Rattle.nm_wire.specs.Asks.{ask_of, same_ask}
 use Rattle.nm_wire.specs.Link.{LinkState, asked_on, closed_link, fresh_link, handled_by, handled_on, is_quiet_way, sent_on, session_of}
 use Rattle.nm_wire.specs.Words.{commit_count, commits_sent, owns}
-use Rattle.nm_wire.specs.Wire.{WireState, current_link, link_at, sent}
+use Rattle.nm_wire.specs.Wire.{WireState, current_link}
 use Rattle.nm_manager.specs.Requests.{edit_for, edit_request, request_for}
 use Rattle.nm_manager.specs.Slot.{SideState, SlotState, asked_in_fact, gone, may_go, opens, renews, renews_if, sends, sends_if, sends_request, with_pair, with_wire, on_side, sends_pair, renews_pair}
 use Rattle.nm_manager.proofs.Kept.{asks_fit}
 use Rattle.nm_safety.specs.Step.{IsInStep}
 use Rattle.nm_safety.proofs.EachPair as each_pair
-use Rattle.nm_safety.proofs.Gone.{GoesOnOne, each_gone, sent_one}
+use Rattle.nm_safety.proofs.Gone.{each_gone}
 use Rattle.nm_safety.proofs.Links.{commits_after, did_handled, did_sent_on, sent_handled_on}
-use Rattle.nm_safety.proofs.Places.{set_same}
 use Rattle.nm_safety.specs.Support.{AllLinks}
 use Rattle.nm_safety.proofs.Lists.{some_is, to_some}
-use Rattle.nm_safety.proofs.Managed.{others_stay}
-use Rattle.nm_safety.proofs.SlotLinks.{links_at, set_links}
+use Rattle.nm_safety.proofs.SlotLinks.{links_at, same_links, set_links}
 use Rattle.nm_commit_laws.specs.Standing.{stands_at, standing}
 use Rattle.nm_commit_laws.proofs.leaves.Course.{Stands}
 use Rattle.nm_commit_laws.proofs.leaves.Slots.{Known, known_at}
@@ -160,22 +158,8 @@ opens_alone what o = (one what o, other what o)
     other : (what : Ask) → opens what ≡ true → same_ask what ask.Cancel ≡ false
     other what o = grind (arith, nat_tests)
 
-plus_one : (place : ℕ) → (place + 1 == 0) ≡ false
-plus_one place = grind (arith, nat_tests)
-
-above : (place : ℕ) → place + 1 - 1 ≡ place
-above place = omega arith
-
 one_more : (place : ℕ) → place + 1 ≡ 1 → place ≡ 0
 one_more place e = omega (arith, e)
-
--- the current link is the one at its place
-current_at : (wire : WireState) (place : ℕ) (link : LinkState) → wire.current ≡ Some (place + 1)
-    → slice_get wire.links place ≡ Some link → current_link wire ≡ Some link
-current_at wire place link current here =
-    ap (option_and_then (link_at wire)) current
-    ∙ ap (λ b. cond b None (slice_get wire.links (place + 1 - 1))) (plus_one place)
-    ∙ ap (slice_get wire.links) (above place) ∙ here
 
 never : {T : Type 0} (b : Bool) → b ≡ false → b ≡ true → T
 never b e f = absurd (let g : false ≡ true = sym e ∙ f in cc)
@@ -183,10 +167,6 @@ never b e f = absurd (let g : false ≡ true = sym e ∙ f in cc)
 module _ {Config Node : Type 0} (plan : ChangePlan) (devices : List (RecordedState Config Node)) (slot : SlotState) where
   abbrev pub P : ℕ → ℕ → LinkState → Type 0
   P d = IsFit plan (slice_get devices d)
-
-  same_links : AllLinks P slot.sides → (d : ℕ) (side : SideState) → slice_get slot.sides d ≡ Some side
-      → AllLinks P (slice_set slot.sides d side)
-  same_links all d side there = subst (AllLinks P) (sym (set_same slot.sides d side there)) all
 
   -- a request may go out: where it brings the change set or cancels it candidate is the session's own, but on the first link
   record GoesFitly (device : ℕ) (new : Bool) (wire : WireState) (request : Request) : Type 0 where
@@ -198,54 +178,41 @@ module _ {Config Node : Type 0} (plan : ChangePlan) (devices : List (RecordedSta
 
   module _ (all : AllLinks P slot.sides) (device : ℕ) (side : SideState) (there : slice_get slot.sides (device - 1) ≡ Some side) where
     module _ (request : Request) (new : Bool) (fitly : GoesFitly device new side.wire request) where
-      owned : (place : ℕ) (link : LinkState) → slice_get side.wire.links place ≡ Some link → side.wire.current ≡ Some (place + 1)
-          → Stands 1 (current_link side.wire) → owns link ≡ true
-      owned place link here current stands =
-          standing_owns link (subst (Stands 1) (current_at side.wire place link current here) stands)
+      commits_so : (b : Bool) → new ≡ b → (link : LinkState) → (new ≡ false → current_link side.wire ≡ Some link)
+          → same_ask (ask_of request) ask.CommitConfirmed ≡ true → owns link ≡ true
+      commits_so true n link at e = never (same_ask (ask_of request) ask.CommitConfirmed) (fitly.fresh n).0 e
+      commits_so false n link at e = standing_owns link (subst (Stands 1) (at n) (fitly.commits e))
 
-      first_or : (place : ℕ) (link : LinkState) → slice_get side.wire.links place ≡ Some link → side.wire.current ≡ Some (place + 1)
+      first_or : (place : ℕ) (link : LinkState) → side.wire.current ≡ Some (place + 1) → current_link side.wire ≡ Some link
           → ((number : ℕ) → side.wire.current ≡ Some number → number ≡ 1) ⊎ Stands 1 (current_link side.wire)
           → (place ≡ 0) ⊎ (owns link ≡ true)
-      first_or place link here current (inl first) = inl (one_more place (first (place + 1) current))
-      first_or place link here current (inr stands) = inr (owned place link here current stands)
+      first_or place link current here (inl first) = inl (one_more place (first (place + 1) current))
+      first_or place link current here (inr stands) = inr (standing_owns link (subst (Stands 1) here stands))
 
-      out_on : (place : ℕ) (link : LinkState) → slice_get side.wire.links place ≡ Some link → side.wire.current ≡ Some (place + 1)
-          → is_quiet_way link.way ≡ true → P (device - 1) place link → P (device - 1) place (sent_on request link)
-      out_on place link here current quiet f =
-          sent_fit plan (slice_get devices (device - 1)) place request link fitly.timely
-          (λ e. owned place link here current (fitly.commits e)) (λ has e. first_or place link here current (fitly.cancels has e)) quiet f
+      cancels_so : (b : Bool) → new ≡ b → (place : ℕ) (link : LinkState)
+          → (new ≡ false → (side.wire.current ≡ Some (place + 1)) × (current_link side.wire ≡ Some link))
+          → is_some (slice_get devices (device - 1)) ≡ true → same_ask (ask_of request) ask.Cancel ≡ true → (place ≡ 0) ⊎ (owns link ≡ true)
+      cancels_so true n place link on has e = never (same_ask (ask_of request) ask.Cancel) (fitly.fresh n).1 e
+      cancels_so false n place link on has e = first_or place link (on n).0 (on n).1 (fitly.cancels has e)
 
-      links_here : (j : ℕ) → IfSome (slice_get side.wire.links j) (P (device - 1) j)
-      links_here = links_at P slot all (device - 1) side there
-
-    gone_fit : (request : Request) (new : Bool) → GoesFitly device new side.wire request → may_go new side.wire ≡ true → (place : ℕ)
-        → IfSome (slice_get (gone new side.wire request).links place) (P (device - 1) place)
-    gone_fit request true fitly goes =
-        each_gone (P (device - 1)) true side.wire request goes (λ place. fresh_fit plan (slice_get devices (device - 1)) place)
-        (λ place link current quiet f.
-        sent_fit plan (slice_get devices (device - 1)) place request link fitly.timely
-        (λ e. never (same_ask (ask_of request) ask.CommitConfirmed) (fitly.fresh refl).0 e)
-        (λ has e. never (same_ask (ask_of request) ask.Cancel) (fitly.fresh refl).1 e) quiet f)
-        (links_here request true fitly)
-    gone_fit request false fitly goes = λ place.
-        let one : GoesOnOne side.wire request (sent side.wire request) = sent_one side.wire request goes in
-        subst (λ w. IfSome (slice_get w.links place) (P (device - 1) place)) (sym one.after_is)
-        (others_stay (λ j o. IfSome o (P (device - 1) j)) side.wire.links one.place one.link (sent_on request one.link) one.here
-        (out_on request false fitly one.place one.link one.here one.current one.quiet
-        (some_is one.link (P (device - 1) one.place) (slice_get side.wire.links one.place) one.here
-        (links_here request false fitly one.place)))
-        (λ j ne. links_here request false fitly j) place)
+      gone_fit : may_go new side.wire ≡ true → (place : ℕ)
+          → IfSome (slice_get (gone new side.wire request).links place) (P (device - 1) place)
+      gone_fit goes =
+          each_gone (P (device - 1)) new side.wire request goes (λ place. fresh_fit plan (slice_get devices (device - 1)) place)
+          (λ place link on quiet f.
+          sent_fit plan (slice_get devices (device - 1)) place request link fitly.timely (commits_so new refl link (λ e. (on e).1))
+          (cancels_so new refl place link on) quiet f) (links_at P slot all (device - 1) side there)
 
     out_if : (request : Request) (before now : CourseState) (new : Bool) → GoesFitly device new side.wire request → (b : Bool)
         → may_go new side.wire ≡ b
         → AllLinks P (with_pair slot device (sends_if b new device before now side request)).slot.sides
-    out_if request before now new fitly false e = same_links all (device - 1) side there
+    out_if request before now new fitly false e = same_links P slot all (device - 1) side there
     out_if request before now new fitly true e =
         set_links P slot all (device - 1) side (with_wire side (gone new side.wire request)) there (gone_fit request new fitly e)
 
     out_by : (before now : CourseState) (new : Bool) (found : Option Request) → IfSome found (GoesFitly device new side.wire)
         → AllLinks P (with_pair slot device (sends_request new device before now side found)).slot.sides
-    out_by before now new None fitly = same_links all (device - 1) side there
+    out_by before now new None fitly = same_links P slot all (device - 1) side there
     out_by before now new (Some request) fitly = out_if request before now new fitly (may_go new side.wire) refl
 
   module _ (change members : ℕ) (entries : List Entry) (in_step : IsInStep change members entries slot) (known : Known slot)
@@ -318,7 +285,7 @@ module _ {Config Node : Type 0} (plan : ChangePlan) (devices : List (RecordedSta
 
     renewed_if : (side : SideState) → slice_get slot.sides (device - 1) ≡ Some side → (b : Bool)
         → AllLinks P (with_pair slot device (renews_if b plan entries slot.course side device)).slot.sides
-    renewed_if side there false = same_links all (device - 1) side there
+    renewed_if side there false = same_links P slot all (device - 1) side there
     renewed_if side there true =
         out_by all device side there slot.course (course.with_renewed slot.course device) false (made ask.Renew)
         (to_some (GoesFitly device false side.wire) (made ask.Renew) (λ request is. renew_fitly side request is))

@@ -15,13 +15,9 @@ use Rattle.nm_safety.specs.Along.{HistoryAt}
 use Rattle.nm_safety.specs.Pairs.{PairAt}
 use Rattle.nm_safety.proofs.Along.{history_none}
 use Rattle.nm_safety.proofs.Sound.{first_at}
+use Rattle.nm_safety.proofs.Lists.{all_equal}
 use Rattle.nm_commit_laws.specs.Refuses.{LeavesGone}
 use Rattle.nm_commit_laws.specs.RefusesSupport.{AreFit, FirstPair, IsFit, IsFitted, IsGuarded}
-
-all_equal : {A : Type 0} (P : A → Type 0) (n : ℕ) (x : A) → P x → (j : ℕ) → IfSome (slice_get (replicate n x) j) P
-all_equal P zero x p j = tt
-all_equal P (suc n) x p zero = p
-all_equal P (suc n) x p (suc j) = all_equal P n x p j
 
 both_if : {A : Type 0} (P Q : A → Type 0) (found : Option A) → IfSome found P → IfSome found Q → IfSome found (λ a. P a × Q a)
 both_if P Q None p q = tt

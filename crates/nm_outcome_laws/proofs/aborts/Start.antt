@@ -15,13 +15,8 @@ use Rattle.nm_world.specs.World.{Setting, begin}
 use Rattle.nm_safety.specs.Keeping.{AreKept}
 use Rattle.nm_safety.specs.Pair.{first_link}
 use Rattle.nm_safety.specs.Pairs.{PairAt}
-use Rattle.nm_safety.proofs.Lists.{to_some}
+use Rattle.nm_safety.proofs.Lists.{all_equal, to_some}
 use Rattle.nm_outcome_laws.specs.AbortsSupport.{AbortedPair, AllAborted, IsAborted, IsSpent, OfAborted, OfNone}
-
-all_equal : {A : Type 0} (P : A → Type 0) (n : ℕ) (x : A) → P x → (j : ℕ) → IfSome (slice_get (replicate n x) j) P
-all_equal P zero x p j = tt
-all_equal P (suc n) x p zero = p
-all_equal P (suc n) x p (suc j) = all_equal P n x p j
 
 module _ {Config Node : Type 0} (devices : List (RecordedState Config Node)) where
   fresh_aborted : (member : Bool) (token : List ℕ) (seat : Seat) (side : SideState) (r : RecordedState Config Node) → side ≡ fresh_side

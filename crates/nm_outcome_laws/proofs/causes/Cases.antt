@@ -523,7 +523,7 @@ module _ {Config TheEdit Node : Type 0} (m : Meaning Config TheEdit Node) (laws 
         alone_caused m setting w s k (Foreign number device request) (happened.Replied d.reply d.h.undone)
         (record { starts_none = λ other. refl; decides_none = λ other. refl })
         (slice_set w.operators (number - 1) (with_opened a.operator (device - 1) d.reply)) device a.r a.here (device_event.Asked session request) d.h;
-    enters = λ number device a user own d.
+    enters = λ number device a user own free d.
         alone_caused m setting w s k (Foreign number device (OpenSession user)) (happened.Replied d.reply d.h.undone)
         (record { starts_none = λ other. refl; decides_none = λ other. refl })
         (slice_set w.operators (number - 1) (with_opened a.operator (device - 1) d.reply)) device a.r a.here (device_event.Entered user) d.h;

@@ -29,13 +29,12 @@ use Rattle.nm_safety.specs.Safe.{IsProper}
 use Rattle.nm_safety.proofs.Drained.{drained_too}
 use Rattle.nm_safety.proofs.Entries.{ready_is_open}
 use Rattle.nm_safety.proofs.Keeping.{run_kept, slot_there}
-use Rattle.nm_safety.proofs.Lists.{to_some}
+use Rattle.nm_safety.proofs.Lists.{to_some, down}
 use Rattle.nm_safety.proofs.Safely.{run_is_safe}
 use Rattle.nm_safety.proofs.SlotLinks.{broken_links, cut_links, decided_links}
-use Rattle.nm_rest_laws.proofs.rest.Moves.{down}
 use Rattle.nm_outcome_laws.specs.RecordsSupport.{OfNone, outcome_in, outcomes_at}
 use Rattle.nm_outcome_laws.proofs.records.Passing.{HasRun, next_ran, start_ran}
-use Rattle.nm_outcome_laws.proofs.records.Said.{lasting}
+use Rattle.nm_outcome_laws.proofs.records.Said.{supported}
 use Rattle.nm_outcome_laws.specs.Causes.{HasLapsed, WasRefused, error_tag, exchanges_at, exchanges_on, history_at, is_renewing, links_to}
 use Rattle.nm_outcome_laws.proofs.causes.Runs.{run_has_causes}
 use Rattle.nm_outcome_laws.specs.Lapses.{LapsesAreUndone}
@@ -149,7 +148,7 @@ module _ {Config TheEdit Node : Type 0} (m : Meaning Config TheEdit Node) (laws 
   renewed : Both setting (HasRun m setting running) OfRenewed OfNone ran
   renewed =
       run_kept m laws setting proper.edits proper.few proper.strangers (HasRun m setting running)
-      (λ v before. (lasting m laws setting running v before).supported) (next_ran m setting running) OfRenewed OfNone
+      (supported m laws setting running) (next_ran m setting running) OfRenewed OfNone
       (renews_keep m laws setting running) first events proper.given
       (record { before = start_ran m setting running events proper; own = begins })
 
@@ -189,7 +188,7 @@ module _ {Config TheEdit Node : Type 0} (m : Meaning Config TheEdit Node) (laws 
         absurd (no_link (λ d. None) device lapse.link lapse.exchange lapsed (lapse.link == 0)
         (subst (λ found. Contains (exchanges_at (wire_of device found) lapse.link) lapse.exchange) there told))
     undone_now (Some slot) there =
-        slot_there m setting OfRenewed OfNone (core_of ran) (lasting m laws setting running ran renewed.before).supported renewed.own place slot
+        slot_there m setting OfRenewed OfNone (core_of ran) (supported m laws setting running ran renewed.before) renewed.own place slot
         there (is_undone o ≡ true)
         (λ plan planned renews.
         undone_by o (verdict_in (suc place) ran.entries) (Lapsed device) aborted

@@ -21,11 +21,13 @@ use Rattle.nm_world.specs.Drain.{drained}
 use Rattle.nm_world.proofs.Growing.{event_enters}
 use Rattle.nm_safety.specs.Pair.{is_confirmed}
 use Rattle.nm_safety.specs.Safe.{IsGiven, IsProper, is_abort}
+use Rattle.nm_safety.specs.Support.{IsSupported}
 use Rattle.nm_safety.proofs.Safely.{run_is_safe}
-use Rattle.nm_rest_laws.proofs.rest.Moves.{down}
-use Rattle.nm_rest_laws.proofs.rest.Lasting.{Lasts, one_lasts}
-use Rattle.nm_rest_laws.proofs.rest.Running.{start_lasts}
+use Rattle.nm_safety.proofs.Lists.{down}
+use Rattle.nm_safety.proofs.Runs.{one_supported}
+use Rattle.nm_safety.proofs.Start.{begin_supported}
 use Rattle.nm_safety.proofs.Steps.{run_keeps}
+use Rattle.nm_safety.proofs.Tickets.{TicketedIn, one_tickets}
 use Rattle.nm_safety.proofs.Drained.{drained_too}
 use Rattle.nm_outcome_laws.specs.Records.{IsEnded, RecordsAborts}
 use Rattle.nm_outcome_laws.proofs.records.Entries.{AreRight, enters_right, within_planned}
@@ -51,14 +53,16 @@ module _ {Config TheEdit Node : Type 0} (m : Meaning Config TheEdit Node) (laws 
     (running : List Config) (events : List Event) (proper : IsProper {Node = Node} m setting running events) where
   -- a world whose entries record ends rightly
   record IsRecording (w : WorldState Config Node) : Type 0 where
-    lasts : Lasts m laws setting proper.edits proper.few proper.strangers w
+    supported : IsSupported m setting (core_of w)
+    tickets : TicketedIn setting w
     right : AreRight w.entries
 
   one_records : (w : WorldState Config Node) (event : Event) → IsGiven setting event → IsRecording w → IsRecording (world_step m setting w event)
   one_records w event given k = record {
-    lasts = one_lasts m laws setting proper.edits proper.few proper.strangers w event given k.lasts;
+    supported = one_supported m laws setting proper.edits proper.few proper.strangers w event given k.supported;
+    tickets = one_tickets m setting w event given k.tickets;
     right =
-        enters_right w.entries k.lasts.supported.entries (world.entry_of setting (core_of w) event)
+        enters_right w.entries k.supported.entries (world.entry_of setting (core_of w) event)
         (elementary m setting (core_of w) event).after.entries (event_enters m setting (core_of w) event) k.right;
   }
 
@@ -68,7 +72,11 @@ module _ {Config TheEdit Node : Type 0} (m : Meaning Config TheEdit Node) (laws 
   recording : IsRecording ran
   recording =
       run_keeps m setting IsRecording one_records (start setting running) events proper.given
-      (record { lasts = start_lasts m laws setting running events proper; right = λ change kept e. absurd (none-some kept e) })
+      (record {
+        supported = begin_supported m setting running proper.first;
+        tickets = λ i. tt;
+        right = λ change kept e. absurd (none-some kept e);
+      })
 
   none_kept : (place : ℕ) (plan : ChangePlan) (kept : DeviceMask) → IsEnded setting ran place plan kept
       → is_abort (verdict_in (suc place) ran.entries) ≡ true → kept.0 ≡ 0
@@ -78,7 +86,7 @@ module _ {Config TheEdit Node : Type 0} (m : Meaning Config TheEdit Node) (laws 
   pub run_records : RecordsAborts setting ran
   run_records = record {
     members = λ place plan kept e.
-        within_planned setting.plans (suc place) plan (down setting.plans place ∙ e.planned) kept.0 ran.entries recording.lasts.going.tickets
+        within_planned setting.plans (suc place) plan (down setting.plans place ∙ e.planned) kept.0 ran.entries recording.tickets
         (recording.right (suc place) kept e.recorded).over;
     none = none_kept;
     aborted = λ place plan kept e a device r here.

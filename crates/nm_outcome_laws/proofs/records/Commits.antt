@@ -21,8 +21,7 @@ use Rattle.nm_safety.specs.Pair.{is_confirmed}
 use Rattle.nm_safety.specs.Safe.{IsProper}
 use Rattle.nm_safety.proofs.Drained.{drained_too}
 use Rattle.nm_safety.proofs.Facts.{change_small}
-use Rattle.nm_safety.proofs.Lists.{some_is}
-use Rattle.nm_rest_laws.proofs.rest.Moves.{down}
+use Rattle.nm_safety.proofs.Lists.{some_is, down}
 use Rattle.nm_commit_laws.specs.Marks.{ArePlain, AreUnmarked, is_there}
 use Rattle.nm_commit_laws.proofs.marks.Known.{IsKnown}
 use Rattle.nm_commit_laws.proofs.marks.Runs.{run_single}

@@ -36,9 +36,8 @@ use Rattle.nm_safety.proofs.Places.{verdict_same}
 use Rattle.nm_safety.proofs.PairSteps.{pair_at}
 use Rattle.nm_safety.specs.Support.{IsKept, IsSupported}
 use Rattle.nm_safety.proofs.Entries.{nat_same, ready_is_open, verdict_stays}
-use Rattle.nm_safety.proofs.Lists.{some_is, to_some}
+use Rattle.nm_safety.proofs.Lists.{some_is, to_some, down}
 use Rattle.nm_safety.proofs.Managed.{kept_here}
-use Rattle.nm_rest_laws.proofs.rest.Moves.{down}
 use Rattle.nm_outcome_laws.specs.RecordsSupport.{AllKnown, IsRecorded, OfNone, OfRecorded, outcome_in, outcomes_at}
 use Rattle.nm_outcome_laws.proofs.records.Entries.{some_ended}
 use Rattle.nm_outcome_laws.proofs.records.Finishing.{finishes_final, finishes_so}
@@ -253,6 +252,6 @@ module _ {Config TheEdit Node : Type 0} (m : Meaning Config TheEdit Node) (setti
     restarts = λ device r here. happened (device - 1) r here Restarted (restarting m r.device);
     passes = λ device seconds r here. happened (device - 1) r here (Advanced seconds) (advancing m r.device seconds);
     asks = λ number device a request plain session given opened d. happened (device - 1) a.r a.here (Asked session request) d.h;
-    enters = λ number device a user own d. happened (device - 1) a.r a.here (Entered user) d.h;
+    enters = λ number device a user own free d. happened (device - 1) a.r a.here (Entered user) d.h;
     leaves = λ number device a session given opened h happens. happened (device - 1) a.r a.here (Lost session) h;
   }

@@ -27,7 +27,7 @@ use Rattle.nm_outcome_laws.proofs.records.Keeping.{anew_recorded, broken_recorde
 use Rattle.nm_outcome_laws.proofs.records.Later.{recorded_later}
 use Rattle.nm_outcome_laws.proofs.records.Marks.{fresh_own}
 use Rattle.nm_outcome_laws.proofs.records.Passing.{HasRun, next_ran, start_ran}
-use Rattle.nm_outcome_laws.proofs.records.Said.{few_devices, lasting}
+use Rattle.nm_outcome_laws.proofs.records.Said.{few_devices, supported}
 use Rattle.nm_outcome_laws.proofs.records.Told.{asked_recorded, opened_recorded}
 
 -- ---- the beginning: nothing is decided
@@ -101,11 +101,11 @@ module _ {Config TheEdit Node : Type 0} (m : Meaning Config TheEdit Node) (laws 
         → KnowsEnds (world_step m setting w event)
     one_recorded w event given single k = record {
       known =
-          one_kept m laws setting proper.edits proper.few proper.strangers Ran (λ v ran. (lasting m laws setting running v ran).supported)
+          one_kept m laws setting proper.edits proper.few proper.strangers Ran (supported m laws setting running)
           (next_ran m setting running) OfRecorded OfNone recorded_keeps w event given single k.known;
       so =
           comes m setting (core_of w) (SoThen setting)
-          (so_cases m setting (core_of w) (lasting m laws setting running w k.known.before).supported k.known.own
+          (so_cases m setting (core_of w) (supported m laws setting running w k.known.before) k.known.own
           (few_devices m laws setting running w k.known.before) k.so) event given;
     }
 

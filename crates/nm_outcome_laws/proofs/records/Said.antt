@@ -22,17 +22,20 @@ use Rattle.nm_device_laws.specs.Token.{waits_under}
 use Rattle.nm_device_laws.proofs.Events.{is_asked}
 use Rattle.nm_wire.specs.Link.{session_of}
 use Rattle.nm_world.specs.World.{IsFirst, Setting, WorldState, core_of, start}
-use Rattle.nm_safety.specs.Keeping.{Delivery, IsDone, device_then, slot_then, world_then}
+use Rattle.nm_safety.specs.Keeping.{AreKept, Delivery, IsDone, device_then, slot_then, world_then}
 use Rattle.nm_safety.specs.Pair.{is_never}
 use Rattle.nm_safety.specs.Safe.{AreSoundFrom, IsSafe, KeepsDecision}
+use Rattle.nm_safety.specs.Support.{IsSupported}
+use Rattle.nm_safety.proofs.Current.{OfCurrent, OfNone, run_current}
 use Rattle.nm_safety.proofs.Devices as devices
+use Rattle.nm_safety.proofs.Facts.{SupportedIn}
 use Rattle.nm_safety.proofs.Lists.{some_is, to_some}
 use Rattle.nm_safety.proofs.Managed.{kept_here}
+use Rattle.nm_safety.proofs.Runs.{run_supported}
 use Rattle.nm_safety.proofs.Safely.{run_is_safe}
 use Rattle.nm_safety.proofs.Sound.{first_at, run_sound}
+use Rattle.nm_safety.proofs.Start.{begin_supported}
 use Rattle.nm_safety.proofs.Wires.{set_there}
-use Rattle.nm_rest_laws.proofs.rest.Lasting.{Lasts}
-use Rattle.nm_rest_laws.proofs.rest.Running.{run_lasts}
 use Rattle.nm_commit_laws.specs.Marks.{ArePlain, AreUnmarked, MarksTell}
 use Rattle.nm_commit_laws.specs.Stays.{MarksStay}
 use Rattle.nm_commit_laws.proofs.marks.Alone.{run_tells}
@@ -64,10 +67,15 @@ module _ {Config TheEdit Node : Type 0} (m : Meaning Config TheEdit Node) (laws 
   Ran = HasRun m setting running
 
   module _ (w : WorldState Config Node) (ran : Ran w) where
-    pub lasting : Lasts m laws setting ran.proper.edits ran.proper.few ran.proper.strangers w
-    lasting =
-        subst (Lasts m laws setting ran.proper.edits ran.proper.few ran.proper.strangers) ran.is
-        (run_lasts m laws setting running ran.events ran.proper)
+    pub supported : IsSupported m setting (core_of w)
+    supported =
+        subst (SupportedIn m setting) ran.is
+        (run_supported m laws setting ran.proper.edits ran.proper.few ran.proper.strangers (start setting running) ran.events ran.proper.given
+        (begin_supported m setting running ran.proper.first))
+
+    -- where a link is current, its change set is ready
+    pub current : AreKept setting OfCurrent OfNone (core_of w)
+    current = subst (λ v. AreKept setting OfCurrent OfNone (core_of v)) ran.is (run_current m setting laws running ran.events ran.proper)
 
     -- each device began somehow
     begun : (place : ℕ) (r : RecordedState Config Node) → slice_get w.devices place ≡ Some r → is_some (slice_get running place) ≡ true
@@ -115,7 +123,7 @@ module _ {Config TheEdit Node : Type 0} (m : Meaning Config TheEdit Node) (laws 
     pub token_now : TellsToken (token_of x.change) after
     token_now =
         some_is after (TellsToken (token_of x.change)) (slice_get now.devices d) here_now
-        ((kept_here m setting (core_of now) (lasting now later).supported x.change x.numbered x.plan
+        ((kept_here m setting (core_of now) (supported now later) x.change x.numbered x.plan
         (slot_then m setting Ran x done) x.planned
         (set_there x.w.slots (x.change - 1) x.slot (slot_then m setting Ran x done) x.there)).tells d)
 

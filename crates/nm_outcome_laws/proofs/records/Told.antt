@@ -21,11 +21,11 @@ use Rattle.nm_wire.specs.Asks.{ask_of}
 use Rattle.nm_wire.specs.Link.{LinkState, asked_on, session_of, told_by, told_on, told_on_way}
 use Rattle.nm_wire.specs.Wire.{WireState, link_at, outstanding_at, told}
 use Rattle.nm_manager.specs.Slot.{SideState, to_commit, with_wire}
-use Rattle.nm_manager.specs.Queues.{is_ready_in}
 use Rattle.nm_safety.specs.Keeping.{Delivery, IsDone, device_then, devices_then, slot_then, world_then}
-use Rattle.nm_safety.specs.Pairs.{PairAt}
+use Rattle.nm_safety.specs.Pairs.{AllPairs, PairAt}
 use Rattle.nm_safety.specs.Step.{current_told, way_told}
 use Rattle.nm_safety.proofs.Answered.{out_way}
+use Rattle.nm_safety.proofs.Current.{CurrentPair, OfCurrent, side_current}
 use Rattle.nm_safety.proofs.Entries.{ready_is_open}
 use Rattle.nm_safety.proofs.Lists.{some_is, to_some}
 use Rattle.nm_safety.proofs.Managed.{others_stay}
@@ -33,14 +33,13 @@ use Rattle.nm_safety.proofs.PairSteps.{pair_at}
 use Rattle.nm_safety.proofs.SlotLinks.{links_at}
 use Rattle.nm_safety.proofs.Wires.{changed_current, current_changed, set_there}
 use Rattle.nm_world.specs.World.{Setting, WorldState}
-use Rattle.nm_rest_laws.specs.Steady.{IsAble}
 use Rattle.nm_commit_laws.specs.Marks.{ArePlain, AreUnmarked}
 use Rattle.nm_outcome_laws.specs.RecordsSupport.{AllKnown, AsksOwn, IsKnown, IsOwnMark, IsRecorded, IsTold, KnownPair, OwnLink, outcome_in, outcomes_at, reply_tells, wants_mark}
 use Rattle.nm_outcome_laws.proofs.records.Course.{is_to_commit}
 use Rattle.nm_outcome_laws.proofs.records.Later.{all_later, outcomes_later}
 use Rattle.nm_outcome_laws.proofs.records.Marks.{told_links_own}
 use Rattle.nm_outcome_laws.proofs.records.Passing.{HasRun}
-use Rattle.nm_outcome_laws.proofs.records.Said.{lasting, managed, said_now, same_number}
+use Rattle.nm_outcome_laws.proofs.records.Said.{current, managed, said_now, same_number}
 use Rattle.nm_outcome_laws.proofs.records.Slots.{known_at}
 use Rattle.nm_outcome_laws.proofs.records.Telling.{IsSaidAt, asked_tells}
 
@@ -81,18 +80,17 @@ module _ {Config TheEdit Node : Type 0} (m : Meaning Config TheEdit Node) (laws 
     abbrev members : ℕ
     members = devices_in x.plan.edits
 
-    -- a link that is current is of a change set that isn't ended
-    able : IsAble x.change x.w.entries x.slot
-    able =
-        subst (λ number. IsAble number x.w.entries x.slot) (same_number x.change x.numbered)
-        (some_is x.slot (IsAble (suc (x.change - 1)) x.w.entries) (slice_get x.w.slots (x.change - 1)) x.there
-        ((lasting m laws setting running x.w x.before).going.slots (x.change - 1)))
+    currents : AllPairs (CurrentPair x.change x.w.entries) x.slot.course.verdict x.slot
+    currents =
+        subst (λ number. AllPairs (CurrentPair number x.w.entries) x.slot.course.verdict x.slot) (same_number x.change x.numbered)
+        (some_is x.slot (OfCurrent (suc (x.change - 1)) x.plan x.w.entries x.w.devices) (slice_get x.w.slots (x.change - 1)) x.there
+        ((current m laws setting running x.w x.before).slots (x.change - 1) x.plan x.planned))
 
+    -- a link that is current is of a change set that isn't ended
     not_ended : (number : ℕ) → x.side.wire.current ≡ Some number → is_ended_in x.change x.w.entries ≡ false
-    not_ended number current =
+    not_ended number at =
         ready_is_open x.w.entries x.change
-        (some_is x.side (λ one. is_some one.wire.current ≡ true → is_ready_in x.w.entries x.change ≡ true) (slice_get x.slot.sides d) x.at_side
-        (able.ready d) (ap is_some current))
+        (side_current x.change members x.w.entries x.slot x.kept.in_step currents d x.side x.at_side (ap is_some at)).1
 
     -- ---- a device does it
 

@@ -20,7 +20,8 @@ use Rattle.nm_world.specs.Drain.{drained}
 use Rattle.nm_safety.specs.Pair.{is_confirmed}
 use Rattle.nm_safety.specs.Safe.{IsProper, is_abort}
 use Rattle.nm_safety.proofs.Drained.{drained_too}
-use Rattle.nm_rest_laws.proofs.rest.Running.{run_lasts}
+use Rattle.nm_safety.proofs.Runs.{run_supported}
+use Rattle.nm_safety.proofs.Start.{begin_supported}
 use Rattle.nm_commit_laws.specs.Marks.{ArePlain, AreUnmarked}
 use Rattle.nm_outcome_laws.proofs.aborts.Runs.{run_is_over}
 use Rattle.nm_outcome_laws.specs.Records.{EndsAsRecorded, IsEnded}
@@ -48,7 +49,9 @@ module _ {Config TheEdit Node : Type 0} (m : Meaning Config TheEdit Node) (laws 
     ended = recorded_ended (suc place) ran.entries kept e.recorded
 
     decided : is_some (verdict_in (suc place) ran.entries) ≡ true
-    decided = ((run_lasts m laws setting running events proper).supported.entries (suc place)).ended ended
+    decided =
+        ((run_supported m laws setting proper.edits proper.few proper.strangers (start setting running) events proper.given
+        (begin_supported m setting running proper.first)).entries (suc place)).ended ended
 
     over_by : (found : Option Verdict) → verdict_in (suc place) ran.entries ≡ found → outcome_of (token_of (suc place)) r.history ≢ Pending
     over_by None is = absurd (let g : false ≡ true = sym (ap is_some is) ∙ decided in cc)

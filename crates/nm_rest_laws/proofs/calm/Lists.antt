@@ -1,20 +1,5 @@
 -- Three lists, place by place.
-use Rattle.std.proofs.Common.{◌≡◌, ℕ, zero, suc, List, [], ◌∷◌, length, map, Option, Some, None, slice_get, slice_set, refl, sym, ap}
-
-module _ {A : Type 0} where
-  pub set_same : (xs : List A) (i : ℕ) (x : A) → slice_get xs i ≡ Some x → slice_set xs i x ≡ xs
-  set_same [] i x h = refl
-  set_same (y ∷ xs) zero x h = let e : y ≡ x = cc in ap (λ first. first ∷ xs) (sym e)
-  set_same (y ∷ xs) (suc i) x h = ap (λ rest. y ∷ rest) (set_same xs i x h)
-
-  pub set_length : (xs : List A) (i : ℕ) (x : A) → length (slice_set xs i x) ≡ length xs
-  set_length [] i x = refl
-  set_length (y ∷ xs) zero x = refl
-  set_length (y ∷ xs) (suc i) x = ap suc (set_length xs i x)
-
-  pub map_length : (change : A → A) (xs : List A) → length (map change xs) ≡ length xs
-  map_length change [] = refl
-  map_length change (x ∷ xs) = ap suc (map_length change xs)
+use Rattle.std.proofs.Common.{◌≡◌, ℕ, zero, suc, List, [], ◌∷◌, Option, Some, None, slice_get, slice_set}
 
 -- what stands at one place of each is another
 pub set_each : {A B C : Type 0} (P : ℕ → Option A → Option B → Option C → Type 0) (xs : List A) (ys : List B) (zs : List C) (i : ℕ)

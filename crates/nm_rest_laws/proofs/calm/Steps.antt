@@ -1,6 +1,5 @@
 -- What an event at a device of the change set brings it to.
-use Rattle.std.proofs.Common.{◌≡◌, ◌∙◌, inl, ℕ, suc, ◌-◌, ◌≤◌, List, [], ◌∷◌, Bool, true}
-use Rattle.std.proofs.Common.{false, cond, Option, Some, None, option_map, slice_get, slice_set, refl, ap, subst, arith}
+use Rattle.std.proofs.Common.{◌≡◌, ◌∙◌, inl, ℕ, suc, ◌-◌, ◌≤◌, List, [], ◌∷◌, Bool, true, false, cond, Option, Some, None, option_map, slice_get, slice_set, refl, ap, subst, arith}
 use Rattle.std.proofs.lemmas.Slice.Eq.{bytes_eq-Decides}
 use Rattle.nm_base.specs.Count.{raised}
 use Rattle.nm_base.specs.Token.{token_of}
@@ -19,21 +18,19 @@ use Rattle.nm_wire.specs.declared.link.Exchange.{Exchange}
 use Rattle.nm_wire.specs.Wire.{WireState, due, handled}
 use Rattle.nm_history.specs.History.{RecordedState, served}
 use Rattle.nm_manager.specs.Requests.{edit_for, edit_request, request_for}
-use Rattle.nm_manager.specs.Slot.{SideState, SlotState, SlotStep, with_pair, wire_of_side, wires_on, told_wire, on_side, sends_pair, receives_pair}
-use Rattle.nm_manager.specs.Slot.{opens, receives_due, awaits_resync, sends_in_fact, sends_request, sends_if}
+use Rattle.nm_manager.specs.Slot.{SideState, SlotState, SlotStep, with_pair, wire_of_side, wires_on, told_wire, on_side, sends_pair, receives_pair, opens, receives_due, awaits_resync, sends_in_fact, sends_request, sends_if}
 use Rattle.nm_manager.specs.Manager.{ManagerState, with_slot, idle, acts, turned_by}
 use Rattle.nm_manager.specs.Queues.{is_ready_in}
-use Rattle.nm_world.specs.World.{CoreState, elementary, manager_in, with_manager, with_device, met}
-use Rattle.nm_world.specs.World.{delivering_at, delivered_to, does, told_by, undelivered}
+use Rattle.nm_world.specs.World.{CoreState, elementary, manager_in, with_manager, with_device, met, delivering_at, delivered_to, does, told_by, undelivered}
 use Rattle.nm_rest_laws.proofs.calm.Legs.{Leg, before, reply_to, asker, does as does_all, done_at}
 use Rattle.nm_rest_laws.proofs.calm.Legs.Leg.{Opens, TakesRunning, TakesCandidate, Edits, Validates, Commits, Confirms, Closes}
 use Rattle.nm_rest_laws.proofs.calm.Legs.Stop.{After}
 use Rattle.nm_rest_laws.proofs.calm.Forms.{Form, Phase, verdict_of, stage_at, fits, ask_by, exchange, never, told_may, is_leg, IsLeg, is_learnt, asked_there}
 use Rattle.nm_rest_laws.proofs.calm.Forms.Form.{Rests, Asks, Tells}
 use Rattle.nm_rest_laws.proofs.calm.Forms.Phase.{Undecided, Committed, Over}
-use Rattle.nm_rest_laws.proofs.calm.Lists.{set_same, set_length, set_each}
-use Rattle.nm_rest_laws.proofs.calm.Core.{Given, Sight, seat_in, course_in, slot_in, the, entries_in, core, request_in, links_in, number_in, side_in}
-use Rattle.nm_rest_laws.proofs.calm.Core.{Own, recorded_in, IsAt, AreAt, IsGood, Next, Here}
+use Rattle.nm_safety.proofs.Places.{set_same, set_length}
+use Rattle.nm_rest_laws.proofs.calm.Lists.{set_each}
+use Rattle.nm_rest_laws.proofs.calm.Core.{Given, Sight, seat_in, course_in, slot_in, the, entries_in, core, request_in, links_in, number_in, side_in, Own, recorded_in, IsAt, AreAt, IsGood, Next, Here}
 
 no_trouble : (phase : Phase) → noted (verdict_of phase) None None ≡ None
 no_trouble Undecided = refl

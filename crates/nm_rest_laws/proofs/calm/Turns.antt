@@ -1,6 +1,5 @@
 -- What a turn of the manager brings a calm world to.
-use Rattle.std.proofs.Common.{◌≡◌, ◌∙◌, inl, inr, ℕ, ◌-◌, ◌≤◌, List, [], ◌∷◌, map, Bool}
-use Rattle.std.proofs.Common.{true, false, cond, Option, Some, None, option_map, slice_get, refl, sym, ap, subst}
+use Rattle.std.proofs.Common.{◌≡◌, ◌∙◌, inl, inr, ℕ, ◌-◌, ◌≤◌, List, [], ◌∷◌, map, Bool, true, false, cond, Option, Some, None, option_map, slice_get, refl, sym, ap, subst}
 use Rattle.std.proofs.lemmas.Option.{none-some, same_Some, slice_get-map, slice_get_within, get_or_from_slice_get}
 use Rattle.nm_base.specs.declared.mask.DeviceMask.{DeviceMask}
 use Rattle.nm_proto.specs.declared.ask.Ask.{Ask}
@@ -30,9 +29,8 @@ use Rattle.nm_rest_laws.proofs.calm.Legs.Stop.{After}
 use Rattle.nm_rest_laws.proofs.calm.Forms.{Form, Phase, verdict_of, known, awaited_in, stage_at, ask_by, never, IsNext, is_next, acknowledged_at, settled_at}
 use Rattle.nm_rest_laws.proofs.calm.Forms.Form.{Rests, Asks, Tells}
 use Rattle.nm_rest_laws.proofs.calm.Forms.Phase.{Undecided, Committed, Over}
-use Rattle.nm_rest_laws.proofs.calm.Lists.{map_length}
-use Rattle.nm_rest_laws.proofs.calm.Core.{Given, Sight, entries_in, side_in, seat_in, course_in, slot_in, is_taken}
-use Rattle.nm_rest_laws.proofs.calm.Core.{the, core, Own, recorded_in, IsAt, IsGood, Next, Here}
+use Rattle.nm_safety.proofs.Places.{map_length}
+use Rattle.nm_rest_laws.proofs.calm.Core.{Given, Sight, entries_in, side_in, seat_in, course_in, slot_in, is_taken, the, core, Own, recorded_in, IsAt, IsGood, Next, Here}
 use Rattle.nm_rest_laws.proofs.calm.Steps.{asked}
 
 untaken_still : (seat : Option Seat) → is_taken (option_map (decided_seat verdict.Commit) seat) ≡ is_taken seat

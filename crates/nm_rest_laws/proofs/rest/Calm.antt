@@ -17,7 +17,7 @@ use Rattle.nm_manager.specs.Slot.{SideState, SlotState, wire_of_side}
 use Rattle.nm_manager.specs.Manager.{ManagerState, wire_of, wire_in}
 use Rattle.nm_world.specs.World.{Setting, CoreState, manager_in, is_session_open, is_side_open, given_on, open_on, has_on, operator_at}
 use Rattle.nm_world.specs.Drain.{first_from, found_or, event_if, is_left, lose_link, at_pair, at_devices, leave_by, leave_on, leave_of, leaves, loses_links}
-use Rattle.nm_safety.proofs.Lists.{some_is, to_some}
+use Rattle.nm_safety.proofs.Lists.{some_is, to_some, down}
 use Rattle.nm_safety.proofs.Managed.{kept_here, planned_by}
 use Rattle.nm_safety.proofs.PairSteps.{pair_at}
 use Rattle.nm_safety.specs.Step.{GoWith, GoesWith, IsSeated}
@@ -26,9 +26,7 @@ use Rattle.nm_decider.specs.declared.seat.Seat.{Seat}
 use Rattle.nm_safety.proofs.Entries.{nat_same}
 use Rattle.nm_safety.proofs.Ready.{one_ready, HasDevice}
 use Rattle.nm_safety.proofs.Tickets.{IsPlanTicket}
-use Rattle.nm_rest_laws.proofs.rest.Moves.{down}
-use Rattle.nm_rest_laws.proofs.rest.Relating.{wire_at}
-use Rattle.nm_rest_laws.proofs.rest.Holding.{HasOpen, IsHeld, AllHeld, given_of}
+use Rattle.nm_rest_laws.proofs.rest.Holding.{wire_at, HasOpen, IsHeld, AllHeld, given_of}
 use Rattle.nm_rest_laws.proofs.rest.Lasting.{IsLasting}
 
 abbrev sides_of : Option SlotState → List SideState

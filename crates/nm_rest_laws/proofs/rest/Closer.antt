@@ -20,16 +20,6 @@ set_relates R same (x ∷ xs) zero old new h now (suc j) = same (slice_get xs j)
 set_relates R same (x ∷ xs) (suc i) old new h now zero = same (Some x)
 set_relates R same (x ∷ xs) (suc i) old new h now (suc j) = set_relates R same xs i old new h now j
 
-pub set_there : {A : Type 0} (xs : List A) (i : ℕ) (old new : A) → slice_get xs i ≡ Some old → slice_get (slice_set xs i new) i ≡ Some new
-set_there [] i old new h = absurd (let e : None ≡ Some old = h in cc)
-set_there (x ∷ xs) zero old new h = refl
-set_there (x ∷ xs) (suc i) old new h = set_there xs i old new h
-
-pub set_length : {A : Type 0} (xs : List A) (i : ℕ) (new : A) → length (slice_set xs i new) ≡ length xs
-set_length [] i new = refl
-set_length (x ∷ xs) zero new = refl
-set_length (x ∷ xs) (suc i) new = ap suc (set_length xs i new)
-
 -- ---- a device
 
 -- no session is open that wasn't

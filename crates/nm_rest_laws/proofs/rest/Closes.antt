@@ -13,7 +13,9 @@ use Rattle.nm_world.specs.Drain.{event_if, is_left, lose_link, at_pair, at_devic
 use Rattle.nm_world.proofs.Numbered.{found_in}
 use Rattle.nm_rest_laws.specs.Closing.{one_if, sum_from, has_session, sessions_of, sessions_left, left_on, left_at, left_of, links_left, left_to_close, IsClosed, ClosesWithin}
 use Rattle.nm_rest_laws.proofs.rest.Sums.{sum_falls}
-use Rattle.nm_rest_laws.proofs.rest.Closer.{Fewer, FewerAt, fewer_same, Duller, dull_same, set_relates, set_there, set_length, session_within, of_within, sessions_within, at_within, change_within, links_within, link_within}
+use Rattle.nm_safety.proofs.Wires.{set_there}
+use Rattle.nm_safety.proofs.Places.{set_length}
+use Rattle.nm_rest_laws.proofs.rest.Closer.{Fewer, FewerAt, fewer_same, Duller, dull_same, set_relates, session_within, of_within, sessions_within, at_within, change_within, links_within, link_within}
 use Rattle.nm_rest_laws.proofs.rest.Lost.{all_dull, here_closed}
 use Rattle.nm_rest_laws.proofs.rest.Ended.{closed_there, lost_fewer, lost_is}
 

@@ -1,15 +1,15 @@
 -- From the world of any run, a drain comes to rest or to a turn of the manager.
-use Rattle.std.proofs.Common.{◌≡◌, ◌∙◌, ℕ, zero, suc, ◌+◌, ◌-◌, ◌^◌, ◌≤◌, ◌<◌, false, List, [], ◌∷◌, length, Option, Some, None, IfSome, slice_get, refl, sym, ap, subst, arith}
+use Rattle.std.proofs.Common.{◌≡◌, ◌∙◌, ℕ, zero, suc, ◌+◌, ◌-◌, ◌^◌, ◌≤◌, ◌<◌, List, [], ◌∷◌, length, Option, Some, None, IfSome, slice_get, refl, sym, ap, subst, arith}
 use Rattle.std.proofs.lemmas.Option.{slice_get_within}
 use Rattle.nm_proto.specs.declared.plan.Event.{Event}
-use Rattle.nm_proto.specs.declared.plan.Event.TheVariants.{Round}
 use Rattle.nm_proto.specs.Content.{Meaning, Laws}
 use Rattle.nm_world.specs.World.{Setting, WorldState, core_of, manager_in, start, run, world_step}
 use Rattle.nm_world.specs.Drain.{goes_on_with, first_ready, drain_by, drain_event, drain_step, drained}
-use Rattle.nm_world.proofs.Passing.{is_round, other_step}
+use Rattle.nm_world.proofs.Passing.{other_step}
 use Rattle.nm_world.proofs.ToRest.{IsStep, drain_event_is_step}
 use Rattle.nm_safety.specs.Safe.{IsProper}
-use Rattle.nm_safety.proofs.Lists.{some_is, to_some}
+use Rattle.nm_safety.proofs.Drained.{step_given, step_single}
+use Rattle.nm_safety.proofs.Lists.{one_longer, some_is, to_some}
 use Rattle.nm_safety.proofs.Devices.{run_keeps}
 use Rattle.nm_safety.proofs.Sound.{first_at}
 use Rattle.nm_rest_laws.specs.Closing.{left_to_close, IsClosed}
@@ -19,11 +19,7 @@ use Rattle.nm_rest_laws.proofs.rest.Lasting.{Lasts, one_lasts}
 use Rattle.nm_rest_laws.proofs.rest.Running.{run_lasts}
 use Rattle.nm_rest_laws.proofs.rest.Calm.{IsCalm, calm_if}
 use Rattle.nm_rest_laws.proofs.rest.Bounds.{slot_within}
-use Rattle.nm_rest_laws.proofs.rest.Turns.{step_given, length_one, next_is, over, turns_in}
-
-no_round : (event : Event) → IsStep event → is_round event ≡ false
-no_round (Round change turns) step = absurd step
-no_round event step = refl
+use Rattle.nm_rest_laws.proofs.rest.Turns.{next_is, over, turns_in}
 
 few_of : {A : Type 0} (xs : List A) (base n : ℕ) → base ≤ n → ((d : ℕ) → IfSome (slice_get xs d) (λ _. base + d < n)) → base + length xs ≤ n
 few_of [] base n b h = omega (arith, b)
@@ -48,7 +44,7 @@ module _ {Config TheEdit Node : Type 0} (m : Meaning Config TheEdit Node) (laws 
   HasFew w = (d : ℕ) → IfSome (slice_get w.devices d) (λ _. d < 32)
 
   few_step : (w : WorldState Config Node) (x : Event) → IsStep x → HasFew w → HasFew (world_step m setting w x)
-  few_step w x step h = subst HasFew (sym (other_step m setting w x (no_round x step))) (run_keeps m setting (λ place _. place < 32) (λ place r event happened happens small. small) w (x ∷ []) h)
+  few_step w x step h = subst HasFew (sym (other_step m setting w x (step_single x step))) (run_keeps m setting (λ place _. place < 32) (λ place r event happened happens small. small) w (x ∷ []) h)
 
   -- what is kept of a world in which so many events have happened at most
   record IsReached (w : WorldState Config Node) (n : ℕ) : Type 0 where
@@ -61,7 +57,7 @@ module _ {Config TheEdit Node : Type 0} (m : Meaning Config TheEdit Node) (laws 
   reached_by w n k (Some x) e =
       let step = drain_event_is_step setting w x e in
       let t = k.trail in
-      let one = length_one m laws setting proper.edits proper.few proper.strangers w x in
+      let one : length (world_step m setting w x).trail ≡ suc (length w.trail) = one_longer w.trail _ in
       record {
         lasts = one_lasts m laws setting proper.edits proper.few proper.strangers w x (step_given setting x step) k.lasts;
         devices = few_step w x step k.devices;

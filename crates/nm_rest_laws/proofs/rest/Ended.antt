@@ -1,14 +1,16 @@
 -- A session ends at a device: no other opens.
-use Rattle.std.proofs.Common.{◌≡◌, ◌∙◌, ◌==◌, ℕ, Bool, true, false, Option, Some, None, IfSome, refl, sym, ap, if◌then◌else◌}
+use Rattle.std.proofs.Common.{◌≡◌, ◌∙◌, ◌==◌, ℕ, Bool, true, false, Option, Some, None, IfSome, refl, sym, ap, subst, if◌then◌else◌}
 use Rattle.std.proofs.lemmas.Bool.{cond_both}
 use Rattle.std.proofs.lemmas.Bool.Decides.{Decides-eqb}
-use Rattle.nm_proto.specs.Content.{Meaning}
+use Rattle.std.proofs.lemmas.Option.{none-some, same_Some}
+use Rattle.nm_proto.specs.Content.{Meaning, TablesState}
 use Rattle.nm_sessions.specs.Sessions.{SessionsState, is_open}
 use Rattle.nm_pending.specs.Pending.{PendingState, ends_with}
 use Rattle.nm_device.specs.Device.{DeviceState}
 use Rattle.nm_device.specs.Undoing.{undone_by, undone, undone_if, left_by}
 use Rattle.nm_history.specs.declared.event.DeviceEvent.TheVariants as device_event
 use Rattle.nm_history.specs.History.{Happened, RecordedState, Parted, recorded_with, losing, happened_if, parted_as, lost}
+use Rattle.nm_device_laws.specs.Moment.{Happens}
 use Rattle.nm_device_laws.proofs.Numbers.{open_left}
 use Rattle.nm_rest_laws.proofs.rest.Closer.{Fewer}
 
@@ -44,3 +46,10 @@ module _ {Config TheEdit Node : Type 0} (m : Meaning Config TheEdit Node) where
 
     pub lost_is : is_open r.device.sessions session ≡ true → lost m r session ≡ Some (record { undone = (losing m r.device session).undone; after = without_it })
     lost_is e = ap (λ (b : Bool). parted_as r (device_event.Lost session) (happened_if b (losing m r.device session))) e
+
+    closed_by : (h : Happened Config Node) (b : Bool) → happened_if b (losing m r.device session) ≡ Some h → is_open h.after.sessions session ≡ false
+    closed_by h true e = subst (λ (one : Happened Config Node). is_open one.after.sessions session ≡ false) (same_Some (losing m r.device session) h e) closed_there
+    closed_by h false e = absurd (none-some h e)
+
+    pub lost_closed : (tables : TablesState TheEdit) (h : Happened Config Node) → Happens m tables r.device (device_event.Lost session) h → is_open h.after.sessions session ≡ false
+    lost_closed tables h happens = closed_by h (is_open r.device.sessions session) happens

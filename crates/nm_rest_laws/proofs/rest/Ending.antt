@@ -26,9 +26,8 @@ use Rattle.nm_rest_laws.specs.Rest.{IsWithin, HasDevices}
 use Rattle.nm_rest_laws.proofs.rest.Measure.{rank_at, slot_rank, undecided_rank}
 use Rattle.nm_rest_laws.specs.Closing.{sum_from}
 use Rattle.nm_rest_laws.proofs.rest.Bounds.{slot_within, sums_within}
-use Rattle.nm_rest_laws.proofs.rest.Closer.{set_there}
-use Rattle.nm_rest_laws.proofs.rest.Relating.{wire_at}
-use Rattle.nm_rest_laws.proofs.rest.Holding.{given_of}
+use Rattle.nm_safety.proofs.Wires.{set_there}
+use Rattle.nm_rest_laws.proofs.rest.Holding.{wire_at, given_of}
 use Rattle.nm_rest_laws.proofs.rest.Calm.{IsCalm, AllCurrent}
 use Rattle.nm_rest_laws.proofs.rest.Lasting.{Lasts, one_lasts}
 use Rattle.nm_rest_laws.proofs.rest.PairSteps.{IsPairStep, rank_falls, stays_calm}
@@ -40,7 +39,7 @@ use Rattle.nm_rest_laws.proofs.rest.Plain.{is_turn}
 use Rattle.nm_rest_laws.proofs.rest.Quieting.{goes_plain}
 use Rattle.nm_rest_laws.proofs.rest.Turning.{at_within, IsDecidedNow, IsEndedNow, TurnsTo, turn_is}
 use Rattle.nm_rest_laws.proofs.rest.Idle.{idle_stays}
-use Rattle.nm_rest_laws.proofs.rest.Lengths.{as_many}
+use Rattle.nm_rest_laws.proofs.rest.Making.{as_many}
 
 -- ---- a decision leaves the links as they are
 
@@ -90,7 +89,7 @@ module _ {Config TheEdit Node : Type 0} (m : Meaning Config TheEdit Node) (laws 
   known_step w x given k = record {
     lasts = one_lasts m laws setting edits few strangers w x given k.lasts;
     once = enters_once w.entries (world.entry_of setting (core_of w) x) (elementary m setting (core_of w) x).after.entries (event_enters m setting (core_of w) x) k.once;
-    many = as_many m setting (core_of w) x ∙ k.many;
+    many = as_many m setting (core_of w) x given ∙ k.many;
   }
 
   abbrev pub changes : ℕ

@@ -23,13 +23,12 @@ use Rattle.nm_manager.specs.Manager.{ManagerState, slot_at, wire_of, wire_in, to
 use Rattle.nm_world.specs.World.{Setting, CoreState, manager_in, with_manager, with_device, breaking, answering, is_session_open, is_side_open, replies_on}
 use Rattle.nm_world.specs.Drain.{event_if, is_awaited}
 use Rattle.nm_safety.specs.Support.{IsKept, IsLinked, IsOwned, IsOurs, IsDevice}
-use Rattle.nm_safety.proofs.Lists.{some_is, to_some}
+use Rattle.nm_safety.proofs.Lists.{some_is, to_some, down}
 use Rattle.nm_safety.proofs.Managed.{kept_here}
 use Rattle.nm_safety.specs.Step.{GoesWith}
 use Rattle.nm_safety.proofs.Gone.{not_zero}
 use Rattle.nm_rest_laws.specs.Steady.{IsTrue, IsTrueBy, HasServed, IsSteady, IsAble, IsRightSeat, is_right}
 use Rattle.nm_rest_laws.proofs.rest.Measure.{will_end}
-use Rattle.nm_rest_laws.proofs.rest.Moves.{down}
 use Rattle.nm_rest_laws.proofs.rest.Serving.{is_replied}
 use Rattle.nm_rest_laws.proofs.rest.Calm.{IsCalm, seat_by, no_sessions}
 use Rattle.nm_rest_laws.proofs.rest.Lasting.{IsLasting}

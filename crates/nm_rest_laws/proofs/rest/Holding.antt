@@ -1,10 +1,9 @@
 -- Who has each open session of a device: a link whose side there is open, or an operator.
-use Rattle.std.proofs.Common.{◌≡◌, ◌∙◌, ◌⊎◌, ℕ, zero, suc, ◌-◌, ◌==◌, Bool, true, false, cond, not, ◌&&◌, List, [], ◌∷◌, ◌++◌, map, Option, Some, None, IfSome, is_some, option_and_then, slice_get, slice_set, refl, sym, ap, subst, arith}
+use Rattle.std.proofs.Common.{◌≡◌, ◌∙◌, ◌⊎◌, ℕ, zero, suc, ◌-◌, ◌==◌, Bool, true, false, cond, not, ◌&&◌, List, [], ◌∷◌, ◌++◌, map, Option, Some, None, IfSome, option_and_then, slice_get, slice_set, refl, sym, ap, subst, arith}
 use Rattle.std.proofs.lemmas.Option.{none-some}
 use Rattle.nm_proto.specs.declared.message.Request.{Request}
 use Rattle.nm_proto.specs.declared.message.Reply.{Reply}
 use Rattle.nm_proto.specs.declared.message.Reply.TheVariants.{Opened}
-use Rattle.nm_proto.specs.declared.journal.Entry.{Entry}
 use Rattle.nm_sessions.specs.Sessions.{is_open}
 use Rattle.nm_device.specs.Table.{is_opening}
 use Rattle.nm_history.specs.History.{RecordedState}
@@ -14,18 +13,23 @@ use Rattle.nm_wire.specs.declared.link.Way.TheVariants.{Quiet, Asked, Told}
 use Rattle.nm_wire.specs.Link.{LinkState, fresh_link, session_of, session_in, first_session, sent_on, told_on, told_by, handled_on, closed_link, outstanding, asked_on, closes}
 use Rattle.nm_wire.specs.Wire.{WireState, no_links, link_at, sent, told, lost, broken, changed, handled_at, outstanding_at, session_at}
 use Rattle.nm_manager.specs.Slot.{SideState, SlotState, wire_of_side, side_at, with_wire, wires_on, gone, may_go}
-use Rattle.nm_manager.specs.Manager.{ManagerState, slot_at, wire_of, wire_in, wires_in}
+use Rattle.nm_manager.specs.Manager.{wire_of}
 use Rattle.nm_world.specs.World.{given_on}
 use Rattle.nm_safety.proofs.Links.{did_sent_on, did_handled}
-use Rattle.nm_safety.proofs.Wires.{IsDue}
+use Rattle.nm_safety.proofs.Wires.{IsDue, set_there}
 use Rattle.nm_safety.proofs.Gone.{GoesOnOne, sent_one, not_zero}
 use Rattle.nm_safety.proofs.Answered.{told_link}
 use Rattle.nm_safety.proofs.PairSteps.{asked_if}
 use Rattle.nm_safety.proofs.Lists.{some_is, at_set}
-use Rattle.nm_rest_laws.specs.Steady.{IsTrue, IsTrueBy, IsSteady, IsAble}
-use Rattle.nm_rest_laws.proofs.rest.Closer.{set_relates, set_there}
-use Rattle.nm_rest_laws.proofs.rest.Relating.{wire_at}
+use Rattle.nm_rest_laws.specs.Steady.{IsTrue, IsTrueBy, IsSteady}
+use Rattle.nm_rest_laws.proofs.rest.Able.{GoesOn}
+use Rattle.nm_rest_laws.proofs.rest.Closer.{set_relates}
 use Rattle.nm_rest_laws.proofs.rest.Serving.{IsReplied}
+
+-- the links of a change set to the device at a place
+abbrev pub wire_at : Option SlotState → ℕ → WireState
+wire_at None d = no_links
+wire_at (Some slot) d = wire_of_side (slice_get slot.sides d)
 
 -- a link has a session, and its side is open
 abbrev pub HasOpen : Option LinkState → ℕ → Type 0
@@ -188,46 +192,33 @@ module _ (Q : ℕ → WireState → WireState → Type 0) (same : (d : ℕ) (wir
   on_side slot (Some side) there q d =
       set_relates_i (λ k o p. Q k (wire_of_side o) (wire_of_side p)) (λ k o. same k (wire_of_side o)) slot.sides (device - 1) side (with_wire side (happens side.wire)) there q d
 
-  on_slot : (state : ManagerState) (change : ℕ) (found : Option SlotState) → slice_get state.slots (change - 1) ≡ found → Q (device - 1) (wire_of device found) (happens (wire_of device found))
-      → (p d : ℕ) → Q d (wire_at (slice_get state.slots p) d) (wire_at (slice_get (wires_in state change device happens found).slots p) d)
-  on_slot state change None there q p d = same d (wire_at (slice_get state.slots p) d)
-  on_slot state change (Some slot) there q p d =
-      set_relates (λ o n. (k : ℕ) → Q k (wire_at o k) (wire_at n k)) (λ o k. same k (wire_at o k)) state.slots (change - 1) slot (wires_on happens slot device (side_at slot device)) there
-      (on_side slot (side_at slot device) refl q) p d
-
-  pub on_wires : (state : ManagerState) (change : ℕ) → Q (device - 1) (wire_in state change device) (happens (wire_in state change device))
-      → (p d : ℕ) → Q d (wire_at (slice_get state.slots p) d) (wire_at (slice_get (wires_in state change device happens (slot_at state change)).slots p) d)
-  on_wires state change q p d = on_slot state change (slot_at state change) refl q p d
-
-  -- that of the device itself
-  side_there : (slot : SlotState) (found : Option SideState) → slice_get slot.sides (device - 1) ≡ found → (happens no_links ≡ no_links) → wire_of_side (slice_get (wires_on happens slot device found).sides (device - 1)) ≡ happens (wire_of_side found)
-  side_there slot None there none = ap wire_of_side there ∙ sym none
-  side_there slot (Some side) there none = ap wire_of_side (set_there slot.sides (device - 1) side (with_wire side (happens side.wire)) there)
-
-  slot_there : (state : ManagerState) (change : ℕ) (found : Option SlotState) → slice_get state.slots (change - 1) ≡ found → happens no_links ≡ no_links
-      → wire_at (slice_get (wires_in state change device happens found).slots (change - 1)) (device - 1) ≡ happens (wire_of device found)
-  slot_there state change None there none = ap (λ o. wire_at o (device - 1)) there ∙ sym none
-  slot_there state change (Some slot) there none =
-      ap (λ o. wire_at o (device - 1)) (set_there state.slots (change - 1) slot (wires_on happens slot device (side_at slot device)) there) ∙ side_there slot (side_at slot device) refl none
-
-  pub wires_there : (state : ManagerState) (change : ℕ) → happens no_links ≡ no_links
-      → wire_at (slice_get (wires_in state change device happens (slot_at state change)).slots (change - 1)) (device - 1) ≡ happens (wire_in state change device)
-  wires_there state change none = slot_there state change (slot_at state change) refl none
+  pub on_wires : (slots : List SlotState) (place : ℕ) (slot : SlotState) → slice_get slots place ≡ Some slot → (side : SideState) → slice_get slot.sides (device - 1) ≡ Some side
+      → Q (device - 1) side.wire (happens side.wire)
+      → (p d : ℕ) → Q d (wire_at (slice_get slots p) d) (wire_at (slice_get (slice_set slots place (wires_on happens slot device (Some side))) p) d)
+  on_wires slots place slot there side at q =
+      set_relates (λ o n. (k : ℕ) → Q k (wire_at o k) (wire_at n k)) (λ o k. same k (wire_at o k)) slots place slot (wires_on happens slot device (Some side)) there
+      (on_side slot (Some side) at q)
 
   pub all_wires : (slots : List SlotState) → ((slot : SlotState) → Q (device - 1) (wire_of device (Some slot)) (happens (wire_of device (Some slot)))) → (p d : ℕ) → Q d (wire_at (slice_get slots p) d) (wire_at (slice_get (map (λ slot. wires_on happens slot device (side_at slot device)) slots) p) d)
   all_wires [] q p d = same d no_links
   all_wires (slot ∷ slots) q zero d = on_side slot (side_at slot device) refl (q slot) d
   all_wires (slot ∷ slots) q (suc p) d = all_wires slots q p d
 
+-- that of the device itself
+pub wires_there : (happens : WireState → WireState) (device : ℕ) (slots : List SlotState) (place : ℕ) (slot : SlotState) → slice_get slots place ≡ Some slot
+    → (side : SideState) → slice_get slot.sides (device - 1) ≡ Some side
+    → wire_at (slice_get (slice_set slots place (wires_on happens slot device (Some side))) place) (device - 1) ≡ happens side.wire
+wires_there happens device slots place slot there side at =
+    ap (λ o. wire_at o (device - 1)) (set_there slots place slot (wires_on happens slot device (Some side)) there)
+    ∙ ap wire_of_side (set_there slot.sides (device - 1) side (with_wire side (happens side.wire)) at)
+
 -- ---- a change set goes on
 
-module _ (happens : WireState → WireState) (device change : ℕ) (entries : List Entry) (slot : SlotState) (a : IsAble change entries slot) where
-  pub wires_able : (found : Option SideState) → slice_get slot.sides (device - 1) ≡ found → IfSome found (λ side. (IsSteady side.wire → IsSteady (happens side.wire)) × ((happens side.wire).current ≡ side.wire.current))
-      → IsAble change entries (wires_on happens slot device found)
+module _ (happens : WireState → WireState) (device : ℕ) (slot : SlotState) (a : GoesOn slot) where
+  pub wires_able : (found : Option SideState) → slice_get slot.sides (device - 1) ≡ found → IfSome found (λ side. IsSteady side.wire → IsSteady (happens side.wire))
+      → GoesOn (wires_on happens slot device found)
   wires_able None there h = a
   wires_able (Some side) there h = record {
     course = a.course;
-    wires = at_set (λ k one. IsSteady one.wire) slot.sides (device - 1) side (with_wire side (happens side.wire)) there (h.0 (some_is side (λ one. IsSteady one.wire) (slice_get slot.sides (device - 1)) there (a.wires (device - 1)))) a.wires;
-    ready = at_set (λ k one. is_some one.wire.current ≡ true → _) slot.sides (device - 1) side (with_wire side (happens side.wire)) there
-        (λ is. some_is side (λ one. is_some one.wire.current ≡ true → _) (slice_get slot.sides (device - 1)) there (a.ready (device - 1)) (sym (ap is_some h.1) ∙ is)) a.ready;
+    wires = at_set (λ k one. IsSteady one.wire) slot.sides (device - 1) side (with_wire side (happens side.wire)) there (h (some_is side (λ one. IsSteady one.wire) (slice_get slot.sides (device - 1)) there (a.wires (device - 1)))) a.wires;
   }

@@ -34,7 +34,7 @@ module _ {Config TheEdit Node : Type 0} (m : Meaning Config TheEdit Node) (laws 
   run_ends =
       let w : WorldState Config Node = ran m laws setting running events proper devices in
       let long = trail_few {Node = Node} m setting running events in
-      let left = left_few {Node = Node} m setting running events in
+      let left = left_few {Node = Node} m setting running events proper.given in
       let plans = proper.few in
       let limit = limit_large in
       ends_before m setting w _ drain_limit (run_rests m laws setting running events proper devices (omega (arith, long, left, plans, few_events))) (omega (arith, long, left, plans, few_events, limit))

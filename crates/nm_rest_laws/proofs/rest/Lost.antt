@@ -4,7 +4,9 @@ use Rattle.nm_wire.specs.Link.{LinkState, closed_link, session_of}
 use Rattle.nm_wire.specs.Wire.{WireState, link_at, is_open_at, is_open_link, changed, lost}
 use Rattle.nm_manager.specs.Slot.{SideState, SlotState, wire_of_side, side_at, lost_wire, wires_on, with_wire}
 use Rattle.nm_manager.specs.Manager.{ManagerState, wire_in, wire_of, slot_at, lost_on, wires_in}
-use Rattle.nm_rest_laws.proofs.rest.Closer.{set_relates, set_there, set_length, Duller, dull_same}
+use Rattle.nm_safety.proofs.Wires.{set_there}
+use Rattle.nm_safety.proofs.Places.{set_length}
+use Rattle.nm_rest_laws.proofs.rest.Closer.{set_relates, Duller, dull_same}
 
 -- a link is as it was, but that its side may have closed
 abbrev SameLink : Option LinkState → Option LinkState → Type 0

@@ -1,6 +1,5 @@
--- Each event makes one link at most, or gives an operator one session: so there are no more of both than events.
-use Rattle.std.proofs.Common.{◌≡◌, ℕ, zero, suc, ◌+◌, ◌-◌, ◌≤◌, Bool, true, false, cond, not, ◌&&◌, List, [], ◌∷◌, ◌++◌, length, map, Option, Some, None, IfSome, is_some, slice_get, slice_set, refl, sym, ap, arith, if◌then◌else◌}
-use Rattle.std.proofs.lemmas.Bool.{cond_both}
+-- Each event makes one link at most, or gives an operator one session, and leaves as many devices as there were.
+use Rattle.std.proofs.Common.{◌≡◌, ℕ, zero, suc, ◌+◌, ◌-◌, ◌≤◌, Bool, true, false, List, [], ◌∷◌, length, map, Option, Some, None, slice_get, slice_set, refl, ap, arith}
 use Rattle.std.proofs.lemmas.Option.{none-some}
 use Rattle.std.proofs.lemmas.List.{length-map}
 use Rattle.nm_proto.specs.declared.ask.Ask.{Ask}
@@ -9,31 +8,28 @@ use Rattle.nm_proto.specs.declared.message.Request.{Request}
 use Rattle.nm_proto.specs.declared.message.Reply.{Reply}
 use Rattle.nm_proto.specs.declared.journal.Verdict.{Verdict}
 use Rattle.nm_proto.specs.declared.journal.Entry.{Entry}
-use Rattle.nm_proto.specs.declared.journal.Entry.TheVariants.{Decided, Ended}
 use Rattle.nm_proto.specs.declared.plan.ChangePlan.{ChangePlan}
 use Rattle.nm_proto.specs.declared.plan.Event.{Event}
-use Rattle.nm_proto.specs.declared.plan.Event.TheVariants.{Submit, Turn, Deliver, Answer, Break, Lose, Advance, Restart, Forget, Crash, Renew, Foreign, Leave, Round}
 use Rattle.nm_proto.specs.Content.{Meaning}
 use Rattle.nm_proto.specs.Plan.{devices_in}
-use Rattle.nm_journal.specs.Entries.{may_follow}
-use Rattle.nm_recovery.specs.Recovery.{is_started, is_ended_in, verdict_in}
-use Rattle.nm_history.specs.History.{RecordedState, Served, Parted, served, lost}
-use Rattle.nm_decider.specs.declared.course.NextAction.{NextAction}
-use Rattle.nm_decider.specs.declared.course.NextAction.TheVariants as next
+use Rattle.nm_recovery.specs.Recovery.{verdict_in}
+use Rattle.nm_history.specs.declared.event.DeviceEvent.TheVariants.{Entered, Asked, Lost, Advanced, Restarted}
+use Rattle.nm_history.specs.History.{RecordedState, advancing, recorded_with, restarting}
 use Rattle.nm_decider.specs.Course as course
-use Rattle.nm_decider.specs.Course.{CourseState, next_action}
+use Rattle.nm_decider.specs.Course.{CourseState}
 use Rattle.nm_wire.specs.declared.link.Exchange.{Exchange}
-use Rattle.nm_wire.specs.Link.{LinkState, closed_link, sent_on, fresh_link, session_in, handled_on}
-use Rattle.nm_wire.specs.Wire.{WireState, link_at, changed, sent_at, restarted, handled_at, due, session_at}
-use Rattle.nm_manager.specs.Queues.{is_ready_in}
+use Rattle.nm_wire.specs.Link.{LinkState, closed_link, sent_on, fresh_link, session_in, told_on, handled_on}
+use Rattle.nm_wire.specs.Wire.{WireState, link_at, changed, sent_at, restarted, handled_at, due}
 use Rattle.nm_manager.specs.Requests.{request_for}
 use Rattle.nm_manager.specs.Slot.{SideState, SlotState, breaks, receives, renews, sends, PairStep, SlotStep, side_at, with_pair, with_wire, asked_in_fact, opens, may_go, gone, sends_if, sends_request, renews_if, awaits_resync, resync_goes_on, receives_due, breaks_current, cut_off, anew, is_commit, to_commit, decided, lost_memory, wires_on, told_wire, lost_wire, restarted_slot, on_side, sends_pair, renews_pair, receives_pair, breaks_pair}
-use Rattle.nm_manager.specs.Manager as manager
-use Rattle.nm_manager.specs.Manager.{ManagerState, Step, idle, slot_at, with_slot, with_entry, start_of, submitted_by, submitted, sent_by, decided_by, acts, turned_by, turned, received, forgotten_by, forgotten, renewed_by, renewed, start_anew, starts_anew, wires_in, told_on, lost_on, restarted_on, wire_in, on_slot}
-use Rattle.nm_manager.proofs.Reach.{side_reached, slot_reached}
-use Rattle.nm_world.specs.World.{Setting, CoreState, Came, Meeting, Moved, Asking, manager_in, met, moved, asked_by, told_by, lost_by, loses, losing_at, does, delivering_at, anew_at, later_at, answered_to, asking_at, leaving_at, operator_at, has_on, with_session, with_opened, is_side_open, undelivered, elementary}
-use Rattle.nm_device.specs.Table.{is_opening}
-use Rattle.nm_rest_laws.proofs.rest.Closer.{set_length}
+use Rattle.nm_manager.specs.Manager.{start_anew}
+use Rattle.nm_manager.proofs.Reach.{side_reached}
+use Rattle.nm_world.specs.World.{Setting, CoreState, Came, with_session, with_opened, elementary}
+use Rattle.nm_safety.specs.Safe.{IsGiven}
+use Rattle.nm_safety.specs.Cases.{Cases, IsLink, IsOperating}
+use Rattle.nm_safety.proofs.Cases.{comes}
+use Rattle.nm_safety.proofs.Lists.{one_longer, set_none}
+use Rattle.nm_safety.proofs.Places.{set_length}
 use Rattle.nm_rest_laws.specs.Closing.{one_if}
 
 -- ---- sums over lists
@@ -69,10 +65,6 @@ made w = sum_over links_of w.slots + sum_over given_to w.operators
 
 -- ---- what happens on links
 
-pub more_by : {A : Type 0} (xs : List A) (x : A) → length (xs ++ x ∷ []) ≡ suc (length xs)
-more_by [] x = refl
-more_by (y ∷ xs) x = ap suc (more_by xs x)
-
 changed_links : (change : LinkState → LinkState) (wire : WireState) (number : ℕ) (found : Option LinkState) → length (changed change wire number found).links ≡ length wire.links
 changed_links change wire number None = refl
 changed_links change wire number (Some link) = set_length wire.links (number - 1) (change link)
@@ -82,7 +74,7 @@ sent_links wire request None = refl
 sent_links wire request (Some number) = changed_links (sent_on request) wire number (link_at wire number)
 
 gone_links : (new : Bool) (wire : WireState) (request : Request) → length (gone new wire request).links ≤ length wire.links + 1
-gone_links true wire request = let more = more_by wire.links (sent_on request fresh_link) in omega (arith, more)
+gone_links true wire request = let more = one_longer wire.links (sent_on request fresh_link) in omega (arith, more)
 gone_links false wire request = let same = sent_links wire request wire.current in omega (arith, same)
 
 handled_links : (wire : WireState) (link : ℕ) (found : Option Exchange) → length (handled_at wire link found).links ≡ length wire.links
@@ -165,209 +157,138 @@ module _ (slot : SlotState) where
   wires_within happens same device (Some side) there =
       let less = sum_set links_on 0 slot.sides (device - 1) side (with_wire side (happens side.wire)) there (let one = same side.wire in omega (arith, one)) in omega (arith, less)
 
--- ---- all change sets
+-- ---- each kind of step
 
-module _ (plans : List ChangePlan) (state : ManagerState) where
-  abbrev Most : ManagerState → Type 0
-  Most now = sum_over links_of now.slots ≤ sum_over links_of state.slots + 1
+-- an operator is given a session
+session_makes : (operator : List (Option ℕ)) (place : ℕ) (opened : Option ℕ) → given_to (with_session operator place opened) ≤ given_to operator + 1
+session_makes operator place None = omega arith
+session_makes operator place (Some session) = by_place (slice_get operator place) refl
+  where
+    one_most : (o : Option ℕ) → one_if (Some session) ≤ one_if o + 1
+    one_most None = omega arith
+    one_most (Some other) = omega arith
 
-  same_most : Most state
-  same_most = omega arith
+    by_place : (o : Option (Option ℕ)) → slice_get operator place ≡ o → given_to (slice_set operator place (Some session)) ≤ given_to operator + 1
+    by_place None e = let same = ap given_to (set_none operator place (Some session) e) in omega (arith, same)
+    by_place (Some old) e = sum_set (one_if {A = ℕ}) 1 operator place old (Some session) e (one_most old)
 
-  slot_most : (change : ℕ) (slot new : SlotState) → slice_get state.slots (change - 1) ≡ Some slot → links_of new ≤ links_of slot + 1 → Most (with_slot state change new)
-  slot_most change slot new there h = sum_set links_of 1 state.slots (change - 1) slot new there h
+-- the manager starts anew
+anew_within : (entries : List Entry) (base : ℕ) (plans : List ChangePlan) (slots : List SlotState)
+    → sum_over links_of (start_anew entries base plans slots) ≤ sum_over links_of slots
+anew_within entries base [] slots = omega arith
+anew_within entries base (plan ∷ plans) [] = omega arith
+anew_within entries base (plan ∷ plans) (slot ∷ slots) =
+    let first = cut_within slot (to_commit (verdict_in base entries)) in
+    let rest = anew_within entries (suc base) plans slots in
+    omega (arith, first, rest)
 
-  enters_most : (entry : Entry) (what : _) (now : ManagerState) → Most now → Most (if may_follow state.entries entry then record { action = what; state = now } else idle state).state
-  enters_most entry what now h = cond_both (may_follow state.entries entry) (record { action = what; state = now }) (idle state) (λ (step : Step). Most step.state) (λ _. h) (λ _. same_most)
+-- one more at most was made, and there are as many devices
+record IsNear {Config Node : Type 0} (w : CoreState Config Node) (devices : List (RecordedState Config Node)) (slots : List SlotState)
+    (operators : List (List (Option ℕ))) : Type 0 where
+  one : sum_over links_of slots + sum_over given_to operators ≤ made w + 1
+  count : length devices ≡ length w.devices
 
-  submitted_most : (change : ℕ) (plan : Option ChangePlan) → Most (submitted_by state change plan).state
-  submitted_most change None = same_most
-  submitted_most change (Some plan) = enters_most (start_of change plan) _ (with_entry state (start_of change plan)) same_most
+module _ {Config TheEdit Node : Type 0} (m : Meaning Config TheEdit Node) (setting : Setting TheEdit) (w : CoreState Config Node) where
+  abbrev Near : Event → Came Config Node → Type 0
+  Near event c = IsNear w c.after.devices c.after.slots c.after.operators
 
-  -- a step for a device of a change set, where it is there
-  on_most : (step : CourseState → SideState → PairStep) (change device : ℕ) → ((slot : SlotState) → links_of (on_side step slot device (side_at slot device)).slot ≤ links_of slot + 1)
-      → Most (on_slot step state change device (slot_at state change)).state
-  on_most step change device more =
-      slot_reached step state change device (λ (done : Step). Most done.state) same_most
-      (λ slot there. slot_most change slot (on_side step slot device (side_at slot device)).slot there (more slot))
-
-  sent_most : (change : ℕ) (plan : Option ChangePlan) (device : ℕ) (what : Ask) → Most (sent_by state change plan (slot_at state change) device what).state
-  sent_most change None device what = same_most
-  sent_most change (Some plan) device what = on_most (sends_pair plan state.entries device what) change device (λ slot. sent_more slot plan state.entries device what)
-
-  decided_most : (change : ℕ) (v : Verdict) (found : Option SlotState) → slice_get state.slots (change - 1) ≡ found → Most (decided_by state change v found).state
-  decided_most change v None there = same_most
-  decided_most change v (Some slot) there = enters_most (Decided change v) _ (with_slot (with_entry state (Decided change v)) change (decided slot v)) (slot_most change slot (decided slot v) there (decided_more slot v))
-
-  acted_most : (change : ℕ) (what : NextAction) → Most (acts plans state change what).state
-  acted_most change next.Wait = same_most
-  acted_most change (next.Send device what) = sent_most change (slice_get plans (change - 1)) device what
-  acted_most change (next.Decide v) = decided_most change v (slot_at state change) refl
-  acted_most change (next.Finish kept) = enters_most (Ended change kept) _ (with_entry state (Ended change kept)) same_most
-
-  turned_by_most : (change : ℕ) (found : Option SlotState) → Most (turned_by plans state change found).state
-  turned_by_most change None = same_most
-  turned_by_most change (Some slot) = acted_most change (next_action slot.course)
-
-  turned_most : (change : ℕ) → Most (turned plans state change).state
-  turned_most change = cond_both (is_ready_in state.entries change) (turned_by plans state change (slot_at state change)) (idle state) (λ (step : Step). Most step.state) (λ _. turned_by_most change (slot_at state change)) (λ _. same_most)
-
-  received_most : (change device link number : ℕ) → Most (received state change device link number).state
-  received_most change device link number = on_most (receives_pair device link number) change device (λ slot. heard_more slot device link number)
-
-  broken_most : (change device : ℕ) → Most (manager.broken state change device).state
-  broken_most change device = on_most (breaks_pair device) change device (λ slot. broken_more slot device)
-
-  forgotten_by_most : (change : ℕ) (plan : Option ChangePlan) (found : Option SlotState) → slice_get state.slots (change - 1) ≡ found → Most (forgotten_by state change plan found).state
-  forgotten_by_most change None found there = same_most
-  forgotten_by_most change (Some plan) None there = same_most
-  forgotten_by_most change (Some plan) (Some slot) there = slot_most change slot _ there (lost_more slot (devices_in plan.edits) (verdict_in change state.entries))
-
-  forgotten_most : (change : ℕ) → Most (forgotten plans state change).state
-  forgotten_most change =
-      cond_both (is_started change state.entries && not (is_ended_in change state.entries)) (forgotten_by state change (slice_get plans (change - 1)) (slot_at state change)) (idle state) (λ (step : Step). Most step.state)
-      (λ _. forgotten_by_most change (slice_get plans (change - 1)) (slot_at state change) refl) (λ _. same_most)
-
-  renewed_by_most : (change device : ℕ) (plan : Option ChangePlan) → Most (renewed_by state change device plan (slot_at state change)).state
-  renewed_by_most change device None = same_most
-  renewed_by_most change device (Some plan) = on_most (renews_pair plan state.entries device) change device (λ slot. renewed_more slot plan state.entries device)
-
-  renewed_most : (change device : ℕ) → Most (renewed plans state change device).state
-  renewed_most change device =
-      cond_both (is_ready_in state.entries change) (renewed_by state change device (slice_get plans (change - 1)) (slot_at state change)) (idle state) (λ (step : Step). Most step.state)
-      (λ _. renewed_by_most change device (slice_get plans (change - 1))) (λ _. same_most)
-
-  anew_within : (base : ℕ) (ps : List ChangePlan) (slots : List SlotState) → sum_over links_of (start_anew state.entries base ps slots) ≤ sum_over links_of slots
-  anew_within base [] slots = omega arith
-  anew_within base (plan ∷ ps) [] = omega arith
-  anew_within base (plan ∷ ps) (slot ∷ slots) =
-      let first = cut_within slot (to_commit (verdict_in base state.entries)) in
-      let rest = anew_within (suc base) ps slots in
-      omega (arith, first, rest)
-
-  wires_most : (happens : WireState → WireState) → ((wire : WireState) → length (happens wire).links ≡ length wire.links) → (change device : ℕ) (found : Option SlotState) → slice_get state.slots (change - 1) ≡ found → Most (wires_in state change device happens found)
-  wires_most happens same change device None there = same_most
-  wires_most happens same change device (Some slot) there = slot_most change slot _ there (let less = wires_within slot happens same device (side_at slot device) refl in omega (arith, less))
-
-  told_most : (change device link : ℕ) (reply : Reply) → Most (told_on state change device link reply)
-  told_most change device link reply = wires_most (told_wire link reply) (λ wire. changed_links _ wire link (link_at wire link)) change device (slot_at state change) refl
-
-  lost_most : (change device link : ℕ) → Most (lost_on state change device link)
-  lost_most change device link = wires_most (lost_wire link) (λ wire. changed_links closed_link wire link (link_at wire link)) change device (slot_at state change) refl
-
-  restarted_most : (device : ℕ) → Most (restarted_on state device)
-  restarted_most device =
-      let less = sum_map links_of (restarted_slot device) (λ slot. wires_within slot restarted restarted_links device (side_at slot device) refl) state.slots in omega (arith, less)
-
--- ---- each event
-
-module _ {Config Node : Type 0} (w : CoreState Config Node) where
-  abbrev MakesOne : Came Config Node → Type 0
-  MakesOne c = made c.after ≤ made w + 1
-
-  none_made : made w ≤ made w + 1
-  none_made = omega arith
+  same_near : IsNear w w.devices w.slots w.operators
+  same_near = record { one = omega arith; count = refl }
 
   by_links : (a b c : ℕ) → a ≤ b + 1 → a + c ≤ b + c + 1
   by_links a b c h = omega (arith, h)
 
-  met_makes : (device : ℕ) (done : Option (Meeting Config Node)) → IfSome done (λ (now : Meeting Config Node). sum_over links_of now.manager.slots ≤ sum_over links_of w.slots + 1) → MakesOne (met w device done)
-  met_makes device None h = none_made
-  met_makes device (Some now) h = by_links (sum_over links_of now.manager.slots) (sum_over links_of w.slots) (sum_over given_to w.operators) h
+  links_near : (slots : List SlotState) → sum_over links_of slots ≤ sum_over links_of w.slots + 1 → IsNear w w.devices slots w.operators
+  links_near slots h = record { one = by_links (sum_over links_of slots) (sum_over links_of w.slots) (sum_over given_to w.operators) h; count = refl }
 
-  moved_makes : (device : ℕ) (done : Option (Moved Config Node)) → MakesOne (moved w device done)
-  moved_makes device None = none_made
-  moved_makes device (Some now) = none_made
+  slot_near : (change : ℕ) (slot new : SlotState) → slice_get w.slots (change - 1) ≡ Some slot → More slot new
+      → IsNear w w.devices (slice_set w.slots (change - 1) new) w.operators
+  slot_near change slot new there h = links_near (slice_set w.slots (change - 1) new) (sum_set links_of 1 w.slots (change - 1) slot new there h)
 
-  told_makes : (change device link : ℕ) (done : Option (Served Config Node)) → IfSome (told_by (manager_in w) change device link done) (λ (now : Meeting Config Node). sum_over links_of now.manager.slots ≤ sum_over links_of w.slots + 1)
-  told_makes change device link None = tt
-  told_makes change device link (Some s) = told_most [] (manager_in w) change device link s.reply
+  -- a device is another
+  device_near : (device : ℕ) (r : RecordedState Config Node) (slots : List SlotState) (operators : List (List (Option ℕ)))
+      → IsNear w w.devices slots operators → IsNear w (slice_set w.devices (device - 1) r) slots operators
+  device_near device r slots operators k = record { one = k.one; count = set_length w.devices (device - 1) r }
 
-  lost_makes : (change device link : ℕ) (done : Option (Parted Config Node)) → IfSome (lost_by (manager_in w) change device link done) (λ (now : Meeting Config Node). sum_over links_of now.manager.slots ≤ sum_over links_of w.slots + 1)
-  lost_makes change device link None = tt
-  lost_makes change device link (Some parted) = lost_most [] (manager_in w) change device link
+  wired_near : (change device link : ℕ) (a : IsLink w change device link) (happens : WireState → WireState)
+      → ((wire : WireState) → length (happens wire).links ≡ length wire.links)
+      → IsNear w w.devices (slice_set w.slots (change - 1) (wires_on happens a.slot device (Some a.side))) w.operators
+  wired_near change device link a happens same =
+      slot_near change a.slot (wires_on happens a.slot device (Some a.side)) a.there
+      (let less = wires_within a.slot happens same device (Some a.side) a.at_side in omega (arith, less))
 
-  -- an operator is given a session
-  session_makes : (operator : List (Option ℕ)) (place : ℕ) (opened : Option ℕ) → given_to (with_session operator place opened) ≤ given_to operator + 1
-  session_makes operator place None = omega arith
-  session_makes operator place (Some session) = by_place (slice_get operator place) refl
+  told_near : (change device link : ℕ) (a : IsLink w change device link) (reply : Reply) (after : RecordedState Config Node)
+      → IsNear w (slice_set w.devices (device - 1) after) (slice_set w.slots (change - 1) (wires_on (told_wire link reply) a.slot device (Some a.side))) w.operators
+  told_near change device link a reply after =
+      device_near device after (slice_set w.slots (change - 1) (wires_on (told_wire link reply) a.slot device (Some a.side))) w.operators
+      (wired_near change device link a (told_wire link reply) (λ wire. changed_links (told_on reply) wire link (link_at wire link)))
+
+  lost_near : (change device link : ℕ) (a : IsLink w change device link)
+      → IsNear w w.devices (slice_set w.slots (change - 1) (wires_on (lost_wire link) a.slot device (Some a.side))) w.operators
+  lost_near change device link a =
+      wired_near change device link a (lost_wire link) (λ wire. changed_links closed_link wire link (link_at wire link))
+
+  restarted_near : (device : ℕ) (after : RecordedState Config Node)
+      → IsNear w (slice_set w.devices (device - 1) after) (map (restarted_slot device) w.slots) w.operators
+  restarted_near device after =
+      device_near device after (map (restarted_slot device) w.slots) w.operators
+      (links_near (map (restarted_slot device) w.slots)
+      (let less = sum_map links_of (restarted_slot device) (λ slot. wires_within slot restarted restarted_links device (side_at slot device) refl) w.slots in
+      omega (arith, less)))
+
+  operated_near : (number device : ℕ) (a : IsOperating w number device) (reply : Reply) (after : RecordedState Config Node)
+      → IsNear w (slice_set w.devices (device - 1) after) w.slots (slice_set w.operators (number - 1) (with_opened a.operator (device - 1) reply))
+  operated_near number device a reply after =
+      device_near device after w.slots (slice_set w.operators (number - 1) (with_opened a.operator (device - 1) reply)) (record { one = opened; count = refl })
     where
-      one_most : (o : Option ℕ) → one_if (Some session) ≤ one_if o + 1
-      one_most None = omega arith
-      one_most (Some other) = omega arith
+      opened : sum_over links_of w.slots + sum_over given_to (slice_set w.operators (number - 1) (with_opened a.operator (device - 1) reply)) ≤ made w + 1
+      opened =
+          let more = sum_set given_to 1 w.operators (number - 1) a.operator (with_opened a.operator (device - 1) reply) a.there
+          (session_makes a.operator (device - 1) (session_in reply)) in
+          omega (arith, more)
 
-      same_none : {A : Type 0} (xs : List A) (k : ℕ) (x : A) → slice_get xs k ≡ None → slice_set xs k x ≡ xs
-      same_none [] k x e = refl
-      same_none (z ∷ xs) zero x e = absurd (none-some z (sym e))
-      same_none (z ∷ xs) (suc k) x e = ap (λ rest. z ∷ rest) (same_none xs k x e)
+  near : Cases m setting w Near
+  near = record {
+    nothing = λ event. same_near;
+    starts = λ change numbered plan planned may. same_near;
+    decides = λ change a ready v acts may. slot_near change a.slot (decided a.slot v) a.there (decided_more a.slot v);
+    finishes = λ change a ready kept acts may. same_near;
+    sends_out = λ change a ready device what acts.
+        slot_near change a.slot (sends a.plan w.entries a.slot device what).slot a.there (sent_more a.slot a.plan w.entries device what);
+    renews_timer = λ change device a known ready.
+        slot_near change a.slot (renews a.plan w.entries a.slot device).slot a.there (renewed_more a.slot a.plan w.entries device);
+    hears = λ change device link number a known.
+        slot_near change a.slot (receives a.slot device link number).slot a.there (heard_more a.slot device link number);
+    breaks_off = λ change device a known. slot_near change a.slot (breaks a.slot device).slot a.there (broken_more a.slot device);
+    forgets = λ change a begun going.
+        slot_near change a.slot (lost_memory a.slot (devices_in a.plan.edits) (verdict_in change w.entries)) a.there
+        (lost_more a.slot (devices_in a.plan.edits) (verdict_in change w.entries));
+    crashes = links_near (start_anew w.entries 1 setting.plans w.slots)
+        (let less = anew_within w.entries 1 setting.plans w.slots in omega (arith, less));
+    tells = λ change device link a request out plain session is d.
+        told_near change device link a d.reply (recorded_with a.r (Asked session request) d.h);
+    opens = λ change device link a user out d. told_near change device link a d.reply (recorded_with a.r (Entered user) d.h);
+    loses_session = λ change device link a opened session is h happens.
+        device_near device (recorded_with a.r (Lost session) h) (slice_set w.slots (change - 1) (wires_on (lost_wire link) a.slot device (Some a.side)))
+        w.operators (lost_near change device link a);
+    closes = λ change device link a opened is. lost_near change device link a;
+    restarts = λ device r here. restarted_near device (recorded_with r Restarted (restarting m r.device));
+    passes = λ device seconds r here.
+        device_near device (recorded_with r (Advanced seconds) (advancing m r.device seconds)) w.slots w.operators same_near;
+    asks = λ number device a request plain session given opened d.
+        operated_near number device a d.reply (recorded_with a.r (Asked session request) d.h);
+    enters = λ number device a user own free d. operated_near number device a d.reply (recorded_with a.r (Entered user) d.h);
+    leaves = λ number device a session given opened h happens.
+        device_near device (recorded_with a.r (Lost session) h) w.slots w.operators same_near;
+  }
 
-      by_place : (o : Option (Option ℕ)) → slice_get operator place ≡ o → given_to (slice_set operator place (Some session)) ≤ given_to operator + 1
-      by_place None e = let same = ap given_to (same_none operator place (Some session) e) in omega (arith, same)
-      by_place (Some old) e = sum_set (one_if {A = ℕ}) 1 operator place old (Some session) e (one_most old)
+  -- ---- each event
 
-  asked_makes : (number device : ℕ) (operator : List (Option ℕ)) → slice_get w.operators (number - 1) ≡ Some operator → (done : Option (Served Config Node)) → MakesOne (asked_by w number device (answered_to operator (device - 1) done))
-  asked_makes number device operator there None = none_made
-  asked_makes number device operator there (Some s) =
-      let more = sum_set given_to 1 w.operators (number - 1) operator (with_opened operator (device - 1) s.reply) there (session_makes operator (device - 1) (session_in s.reply)) in omega (arith, more)
+  comes_near : (event : Event) → IsGiven setting event → Near event (elementary m setting w event)
+  comes_near event given = comes m setting w Near near event given
 
-  operator_there : (number : ℕ) (operator : List (Option ℕ)) → operator_at w.operators number ≡ Some operator → slice_get w.operators (number - 1) ≡ Some operator
-  operator_there number operator e = by_zero _ e
-    where
-      by_zero : (b : Bool) → cond b None (slice_get w.operators (number - 1)) ≡ Some operator → slice_get w.operators (number - 1) ≡ Some operator
-      by_zero true e = absurd (none-some operator e)
-      by_zero false e = e
+  pub makes_one : (event : Event) → IsGiven setting event → made (elementary m setting w event).after ≤ made w + 1
+  makes_one event given = (comes_near event given).one
 
-module _ {Config TheEdit Node : Type 0} (m : Meaning Config TheEdit Node) (setting : Setting TheEdit) (w : CoreState Config Node) where
-  abbrev Links : Option (Meeting Config Node) → Type 0
-  Links done = IfSome done (λ (now : Meeting Config Node). sum_over links_of now.manager.slots ≤ sum_over links_of w.slots + 1)
-
-  loses_makes : (r : RecordedState Config Node) (change device link : ℕ) (session : Option ℕ) → Links (loses m r (manager_in w) change device link session)
-  loses_makes r change device link None = lost_most [] (manager_in w) change device link
-  loses_makes r change device link (Some session) = lost_makes w change device link (lost m r session)
-
-  losing_makes : (change device link : ℕ) (found : Option (RecordedState Config Node)) → Links (losing_at m (manager_in w) change device link found)
-  losing_makes change device link None = tt
-  losing_makes change device link (Some r) =
-      let links = wire_in (manager_in w) change device in
-      cond_both (is_side_open r links link) (loses m r (manager_in w) change device link (session_at links link)) None (λ (o : Option (Meeting Config Node)). Links o) (λ _. loses_makes r change device link (session_at links link)) (λ _. tt)
-
-  does_makes : (r : RecordedState Config Node) (change device link : ℕ) (session : Option ℕ) (request : Option Request) → Links (does m setting.tables r (manager_in w) change device link session request)
-  does_makes r change device link session None = tt
-  does_makes r change device link session (Some request) = told_makes w change device link (served m setting.tables r session request)
-
-  delivering_makes : (change device link : ℕ) (found : Option (RecordedState Config Node)) → Links (delivering_at m setting.tables (manager_in w) change device link found)
-  delivering_makes change device link None = tt
-  delivering_makes change device link (Some r) = let links = wire_in (manager_in w) change device in does_makes r change device link (session_at links link) (undelivered r links link)
-
-  anew_makes : (device : ℕ) (found : Option (RecordedState Config Node)) → Links (anew_at m (manager_in w) device found)
-  anew_makes device None = tt
-  anew_makes device (Some r) = restarted_most [] (manager_in w) device
-
-  asking_makes : (number device : ℕ) (request : Request) (operator : Option (List (Option ℕ))) → operator_at w.operators number ≡ operator → (found : Option (RecordedState Config Node)) → MakesOne w (asked_by w number device (asking_at m setting.tables device request operator found))
-  asking_makes number device request None there found = none_made w
-  asking_makes number device request (Some operator) there None = none_made w
-  asking_makes number device request (Some operator) there (Some r) =
-      cond_both (is_opening request && is_some (has_on operator r (device - 1))) None (answered_to operator (device - 1) (served m setting.tables r (has_on operator r (device - 1)) request)) (λ (done : Option (Asking Config Node)). MakesOne w (asked_by w number device done))
-      (λ _. none_made w) (λ _. asked_makes w number device operator (operator_there w number operator there) (served m setting.tables r (has_on operator r (device - 1)) request))
-
-  by_manager_makes : (now : ManagerState) → sum_over links_of now.slots ≤ sum_over links_of w.slots + 1 → sum_over links_of now.slots + sum_over given_to w.operators ≤ made w + 1
-  by_manager_makes now h = by_links w (sum_over links_of now.slots) (sum_over links_of w.slots) (sum_over given_to w.operators) h
-
-  here : ℕ → Option (RecordedState Config Node)
-  here device = slice_get w.devices (device - 1)
-
-  pub makes_one : (x : Event) → MakesOne w (elementary m setting w x)
-  makes_one (Submit change) = by_manager_makes (submitted setting.plans (manager_in w) change).state (submitted_most setting.plans (manager_in w) change (slice_get setting.plans (change - 1)))
-  makes_one (Turn change) = by_manager_makes (turned setting.plans (manager_in w) change).state (turned_most setting.plans (manager_in w) change)
-  makes_one (Deliver change device link) = met_makes w device _ (delivering_makes change device link (slice_get w.devices (device - 1)))
-  makes_one (Answer change device link number) = by_manager_makes (received (manager_in w) change device link number).state (received_most setting.plans (manager_in w) change device link number)
-  makes_one (Break change device) = by_manager_makes (manager.broken (manager_in w) change device).state (broken_most setting.plans (manager_in w) change device)
-  makes_one (Lose change device link) = met_makes w device _ (losing_makes change device link (slice_get w.devices (device - 1)))
-  makes_one (Advance device seconds) = moved_makes w device (later_at m seconds (slice_get w.devices (device - 1)))
-  makes_one (Restart device) = met_makes w device _ (anew_makes device (slice_get w.devices (device - 1)))
-  makes_one (Forget change) = by_manager_makes (forgotten setting.plans (manager_in w) change).state (forgotten_most setting.plans (manager_in w) change)
-  makes_one Crash = let less = anew_within setting.plans (manager_in w) 1 setting.plans w.slots in omega (arith, less)
-  makes_one (Renew change device) = by_manager_makes (renewed setting.plans (manager_in w) change device).state (renewed_most setting.plans (manager_in w) change device)
-  makes_one (Foreign number device request) = asking_makes number device request (operator_at w.operators number) refl (slice_get w.devices (device - 1))
-  makes_one (Leave number device) = moved_makes w device (leaving_at m device (operator_at w.operators number) (slice_get w.devices (device - 1)))
-  makes_one (Round change turns) = none_made w
+  pub as_many : (event : Event) → IsGiven setting event → length (elementary m setting w event).after.devices ≡ length w.devices
+  as_many event given = (comes_near event given).count

@@ -12,16 +12,15 @@ use Rattle.nm_wire.specs.Link.{LinkState, session_of}
 use Rattle.nm_manager.specs.Slot.{SideState, SlotState, wire_of_side}
 use Rattle.nm_world.specs.World.{Setting, CoreState, is_session_open, given_on}
 use Rattle.nm_safety.specs.Support.{IsKept, IsLinked, IsOwned, IsOperator}
-use Rattle.nm_safety.proofs.Lists.{some_is, set_other}
+use Rattle.nm_safety.proofs.Lists.{some_is, set_other, down}
 use Rattle.nm_safety.proofs.Managed.{kept_here, planned_by, others_stay}
 use Rattle.nm_safety.proofs.Entries.{nat_same}
 use Rattle.nm_rest_laws.specs.Closing.{sum_from}
 use Rattle.nm_rest_laws.proofs.rest.Measure.{pair_rank, rank_at, slot_rank, undecided_rank}
 use Rattle.nm_rest_laws.proofs.rest.Sums.{sum_within}
-use Rattle.nm_rest_laws.proofs.rest.Closer.{set_there, set_length}
-use Rattle.nm_rest_laws.proofs.rest.Moves.{down}
-use Rattle.nm_rest_laws.proofs.rest.Relating.{wire_at}
-use Rattle.nm_rest_laws.proofs.rest.Holding.{given_of}
+use Rattle.nm_safety.proofs.Wires.{set_there}
+use Rattle.nm_safety.proofs.Places.{set_length}
+use Rattle.nm_rest_laws.proofs.rest.Holding.{wire_at, given_of}
 use Rattle.nm_rest_laws.proofs.rest.Lasting.{IsLasting}
 use Rattle.nm_rest_laws.proofs.rest.Calm.{IsCalm, AllCurrent, IsOpenAt}
 

@@ -21,7 +21,7 @@ use Rattle.nm_world.specs.World.{Setting, CoreState, manager_in, is_session_open
 use Rattle.nm_world.specs.Drain.{first_from, found_or, event_if, is_awaited, is_stranded, is_stranded_on, break_on, deliver_by, deliver_on, answer_by, answer_on, at_pair, at_devices, goes_on}
 use Rattle.nm_world.proofs.Numbered.{found_in}
 use Rattle.nm_rest_laws.proofs.rest.Measure.{will_end, is_stranded_at}
-use Rattle.nm_rest_laws.proofs.rest.Moves.{down}
+use Rattle.nm_safety.proofs.Lists.{down}
 use Rattle.nm_rest_laws.proofs.rest.Calm.{none_in}
 use Rattle.nm_rest_laws.proofs.rest.Lasting.{IsLasting}
 use Rattle.nm_rest_laws.proofs.rest.Plain.{is_turn, plain_if}

@@ -17,8 +17,10 @@ use Rattle.nm_rest_laws.specs.Rest.{HasDevices, IsMoving, RestsWithin, ComesToRe
 use Rattle.nm_rest_laws.proofs.rest.Closes.{leave_found, lose_found}
 use Rattle.nm_rest_laws.proofs.rest.Calm.{IsCalm, calm_if}
 use Rattle.nm_rest_laws.proofs.rest.Running.{start_lasts}
+use Rattle.nm_safety.proofs.Drained.{step_given}
+use Rattle.nm_safety.proofs.Lists.{one_longer}
 use Rattle.nm_safety.proofs.Steps.{run_keeps}
-use Rattle.nm_rest_laws.proofs.rest.Turns.{step_given, length_one, next_is}
+use Rattle.nm_rest_laws.proofs.rest.Turns.{next_is}
 use Rattle.nm_rest_laws.proofs.rest.Plain.{is_turn, leaves_plain, loses_plain}
 use Rattle.nm_rest_laws.proofs.rest.Idle.{idle_stays}
 use Rattle.nm_rest_laws.proofs.rest.Ending.{IsKnown, known_step, total_now, total_within, step_falls}
@@ -73,7 +75,7 @@ module _ {Config TheEdit Node : Type 0} (m : Meaning Config TheEdit Node) (laws 
   known_next w x d k = known_step m laws setting edits few strangers count count_few devices w x (step_given setting x (drain_event_is_step setting w x d)) k
 
   longer : (w : WorldState Config Node) (x : Event) (n : ℕ) → length w.trail + suc n < 2 ^ 32 - 1 → length (world_step m setting w x).trail + n < 2 ^ 32 - 1
-  longer w x n small = let long = length_one m laws setting edits few strangers w x in omega (arith, long, small)
+  longer w x n small = let long : length (world_step m setting w x).trail ≡ suc (length w.trail) = one_longer w.trail _ in omega (arith, long, small)
 
   -- ---- from where nothing is left to close
 

@@ -21,8 +21,7 @@ use Rattle.nm_safety.proofs.Lists.{some_is}
 use Rattle.nm_safety.proofs.PairSteps.{asked_if}
 use Rattle.nm_rest_laws.specs.Steady.{IsServedBy, HasServed}
 use Rattle.nm_rest_laws.proofs.rest.Calm.{IsCalm, IsOpenAt, AllCurrent}
-use Rattle.nm_rest_laws.proofs.rest.Relating.{wire_at}
-use Rattle.nm_rest_laws.proofs.rest.Holding.{given_of}
+use Rattle.nm_rest_laws.proofs.rest.Holding.{wire_at, given_of}
 use Rattle.nm_rest_laws.proofs.rest.Lasting.{IsLasting}
 use Rattle.nm_rest_laws.proofs.rest.PairSteps.{IsPairStep}
 use Rattle.nm_rest_laws.proofs.rest.Finding.{true_there, IsAt, is_at, links_is, at_link, break_step, answer_step, deliver_served}

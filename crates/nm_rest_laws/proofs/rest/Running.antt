@@ -11,6 +11,7 @@ use Rattle.nm_manager.specs.Slot.{fresh_slot, fresh_side}
 use Rattle.nm_manager.specs.Manager.{slots_from}
 use Rattle.nm_world.specs.World.{Setting, WorldState, start, world_step, core_of, run}
 use Rattle.nm_safety.specs.Safe.{IsGiven, IsProper}
+use Rattle.nm_safety.proofs.Current.{begin_current}
 use Rattle.nm_safety.proofs.Start.{begin_supported}
 use Rattle.nm_safety.proofs.Sound.{first_at}
 use Rattle.nm_rest_laws.specs.Steady.{IsAble, IsSteady, IsRightSeat, IsOrderly}
@@ -19,11 +20,7 @@ use Rattle.nm_rest_laws.proofs.rest.Calm.{alone}
 use Rattle.nm_rest_laws.proofs.rest.Holding.{AllHeld}
 use Rattle.nm_rest_laws.proofs.rest.Lasting.{Lasts, one_lasts, no_steady, IsWide}
 use Rattle.nm_safety.proofs.Steps.{run_keeps}
-
-all_equal : {A : Type 0} (P : A → Type 0) (n : ℕ) (x : A) → P x → (j : ℕ) → IfSome (slice_get (replicate n x) j) P
-all_equal P zero x p j = tt
-all_equal P (suc n) x p zero = p
-all_equal P (suc n) x p (suc j) = all_equal P n x p j
+use Rattle.nm_safety.proofs.Lists.{all_equal}
 
 fresh_able : (change members : ℕ) → IsAble change [] (fresh_slot change members)
 fresh_able change members = record {
@@ -56,6 +53,7 @@ module _ {Config TheEdit Node : Type 0} (m : Meaning Config TheEdit Node) (laws 
   start_lasts = record {
     supported = begin_supported m setting running proper.first;
     going = record { slots = λ j. let same : 1 + j ≡ suc j = omega arith in subst (λ c. IfSome (slice_get (slots_from 1 setting.plans) j) (IsAble c [])) same (slots_able setting.plans 1 j); tickets = λ i. tt };
+    current = begin_current m setting running;
     held = first_at (λ d r. AllHeld (slots_from 1 setting.plans) (replicate (length setting.users) (replicate (length running) None)) d r) running (λ place first there t is. absurd (let f : false ≡ true = is in cc));
     last = first_at (λ d r. r.device.sessions.last ≤ 0) running (λ place first there. omega arith);
     wide = λ o. all_equal (IsWide (map recorded running)) (length setting.users) (replicate (length running) None) (wide_none Node running) o;

@@ -28,7 +28,7 @@ use Rattle.nm_safety.proofs.Gone.{not_zero}
 use Rattle.nm_safety.proofs.Managed.{others_stay}
 use Rattle.nm_rest_laws.specs.Steady.{is_right}
 use Rattle.nm_rest_laws.proofs.rest.Measure.{asked_left, told_left, will_end, if_stranded, is_stranded_at, is_held, way_rank, link_rank}
-use Rattle.nm_rest_laws.proofs.rest.Closer.{set_there}
+use Rattle.nm_safety.proofs.Wires.{set_there}
 use Rattle.nm_rest_laws.proofs.rest.Ranks.{told_less, tells_well}
 use Rattle.nm_rest_laws.proofs.rest.Serving.{IsReplied}
 use Rattle.nm_rest_laws.proofs.rest.Calm.{IsOpenAt, AllCurrent}

@@ -12,7 +12,7 @@ use Rattle.nm_device.specs.Device.{DeviceState}
 use Rattle.nm_device.specs.Table.{opened, open_with, opening_user, is_opening, device_step}
 use Rattle.nm_history.specs.declared.event.DeviceEvent.{DeviceEvent}
 use Rattle.nm_history.specs.declared.event.DeviceEvent.TheVariants.{Entered, Asked, Lost, Advanced, Restarted}
-use Rattle.nm_history.specs.History.{Happened, RecordedState, Served, entering, event_by, served}
+use Rattle.nm_history.specs.History.{Happened, RecordedState, Served, entering, event_by, recorded_with, served}
 use Rattle.nm_history.specs.Effect.{is_done_reply}
 use Rattle.nm_history.proofs.Histories.{IsServed, is_served}
 use Rattle.nm_device_laws.specs.Moment.{Happens}
@@ -213,3 +213,27 @@ module _ {Config TheEdit Node : Type 0} (m : Meaning Config TheEdit Node) (table
 
   pub is_replied : served m tables r session request ≡ Some sv → IsReplied r session request sv.reply sv.after
   is_replied e = let is = is_served m tables r session request sv e in by_opening is (opening_user request) refl is.event_is
+
+-- the same of what happens: a session asks, or one is asked for
+module _ {Config TheEdit Node : Type 0} (m : Meaning Config TheEdit Node) (tables : TablesState TheEdit) (r : RecordedState Config Node) (numbered : IsNumbered r.device) (session : Option ℕ)
+    (h : Happened Config Node) (reply : Reply) (replies : h.reply ≡ Some reply) where
+  pub asked_so : (u : ℕ) → session ≡ Some u → (request : Request) → opening_user request ≡ None → Happens m tables r.device (Asked u request) h
+      → IsReplied r session request reply (recorded_with r (Asked u request) h)
+  asked_so u own request plain happens =
+      let sv : Served Config Node = record { reply = reply; undone = h.undone; after = recorded_with r (Asked u request) h } in
+      asked_replied m tables r numbered session request sv
+      (record {
+        event = Asked u request;
+        h = h;
+        event_is = ap (event_by session request) plain ∙ ap (λ one. event_by one request None) own;
+        happens = happens;
+        replies = replies;
+        after_is = refl;
+      }) u own plain refl
+
+  pub entered_so : (user : List ℕ) → Happens m tables r.device (Entered user) h
+      → IsReplied r session (OpenSession user) reply (recorded_with r (Entered user) h)
+  entered_so user happens =
+      let sv : Served Config Node = record { reply = reply; undone = h.undone; after = recorded_with r (Entered user) h } in
+      entered_replied m tables r numbered session (OpenSession user) sv
+      (record { event = Entered user; h = h; event_is = refl; happens = happens; replies = replies; after_is = refl }) user refl refl

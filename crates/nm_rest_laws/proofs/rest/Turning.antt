@@ -25,7 +25,7 @@ use Rattle.nm_decider.specs.declared.seat.Seat.{Seat}
 use Rattle.nm_decider.specs.declared.course.NextAction.{NextAction}
 use Rattle.nm_decider.specs.declared.course.NextAction.TheVariants as next
 use Rattle.nm_decider.specs.Course as course
-use Rattle.nm_decider.specs.Course.{next_action, kept_from, seat_count}
+use Rattle.nm_decider.specs.Course.{next_action, seat_count}
 use Rattle.nm_decider.specs.Rightly.{IsAsked}
 use Rattle.nm_decider.proofs.Actions.{asked}
 use Rattle.nm_wire.specs.Wire.{current_link}
@@ -47,8 +47,8 @@ use Rattle.nm_safety.proofs.Managed.{kept_here}
 use Rattle.nm_rest_laws.specs.Rest.{IsWithin}
 use Rattle.nm_rest_laws.specs.Steady.{is_right, IsSteady, IsRightSeat, IsAble}
 use Rattle.nm_safety.proofs.Tables.{both}
-use Rattle.nm_rest_laws.proofs.rest.Able as able_proofs
-use Rattle.nm_rest_laws.proofs.rest.Able.{long}
+use Rattle.nm_safety.proofs.Seats as seats
+use Rattle.nm_safety.proofs.Seats.{long}
 use Rattle.nm_rest_laws.proofs.rest.Lasting.{IsLasting}
 use Rattle.nm_rest_laws.proofs.rest.PairSteps.{IsPairStep}
 use Rattle.nm_rest_laws.proofs.rest.Planned.{devices_within, each_planned}
@@ -247,16 +247,16 @@ module _ {Config TheEdit Node : Type 0} (m : Meaning Config TheEdit Node) (setti
 
   by_decision : (v : Verdict) → next_action slot.course ≡ next.Decide v → IsDecidedNow m setting w change slot
   by_decision verdict.Commit e =
-      let c = (able_proofs.acts change (devices_in plan.edits) w.entries slot able in_step).commits e in
+      let c = (seats.acts change (devices_in plan.edits) w.entries slot in_step).commits e in
       decided_now verdict.Commit e c.undecided (commit_follows change (mask_of plan) w.entries is_number journalled (first_now c.undecided))
   by_decision (verdict.Abort why) e =
-      let c = (able_proofs.acts change (devices_in plan.edits) w.entries slot able in_step).aborts why e in
+      let c = (seats.acts change (devices_in plan.edits) w.entries slot in_step).aborts why e in
       decided_now (verdict.Abort why) e c.undecided (abort_follows change (mask_of plan) w.entries slot why in_step c.noted is_number journalled (first_now c.undecided))
 
   -- ---- the end
 
   seats_long : length slot.course.seats ≡ seat_count
-  seats_long = long change (devices_in plan.edits) w.entries slot able in_step
+  seats_long = long change (devices_in plan.edits) w.entries slot in_step
 
   stands_at : (j : ℕ) (seat : Seat) → slice_get slot.course.seats j ≡ Some seat → may_stand slot.course.verdict seat.stage ≡ true
   stands_at j seat here = by_side (slice_get slot.sides j) refl
@@ -305,7 +305,7 @@ module _ {Config TheEdit Node : Type 0} (m : Meaning Config TheEdit Node) (setti
   }
     where
       decided_there : is_some (verdict_in change w.entries) ≡ true
-      decided_there = ap is_some (sym known) ∙ ((able_proofs.acts change (devices_in plan.edits) w.entries slot able in_step).finishes kept e).decided
+      decided_there = ap is_some (sym known) ∙ ((seats.acts change (devices_in plan.edits) w.entries slot in_step).finishes kept e).decided
 
       long_enough : length slot.course.seats ≤ 32
       long_enough = let l = seats_long in omega (arith, l)
@@ -324,7 +324,7 @@ module _ {Config TheEdit Node : Type 0} (m : Meaning Config TheEdit Node) (setti
   by_action (next.Send device what) e = inl (is_sent_now device what e)
   by_action (next.Decide v) e = inr (inl (by_decision v e))
   by_action (next.Finish kept) e =
-      inr (inr (ended_now kept e (end_keeps slot.course slot.course.verdict kept refl ((able_proofs.acts change (devices_in plan.edits) w.entries slot able in_step).finishes kept e).decided e)))
+      inr (inr (ended_now kept e (end_keeps slot.course slot.course.verdict kept refl ((seats.acts change (devices_in plan.edits) w.entries slot in_step).finishes kept e).decided e)))
 
   pub turn_is : TurnsTo m setting w change slot
   turn_is = by_action (next_action slot.course) refl

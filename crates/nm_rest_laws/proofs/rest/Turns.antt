@@ -1,36 +1,21 @@
 -- From a world in which nothing is left to close, a drain comes to rest or to a turn of the manager.
-use Rattle.std.proofs.Common.{◌≡◌, ◌∙◌, ◌⊎◌, inl, inr, ℕ, zero, suc, ◌+◌, ◌-◌, ◌^◌, ◌≤◌, ◌<◌, false, List, [], ◌∷◌, ◌++◌, length, Option, Some, None, IfSome, slice_get, refl, sym, ap, subst, arith}
+use Rattle.std.proofs.Common.{◌≡◌, ◌∙◌, ◌⊎◌, inl, inr, ℕ, zero, suc, ◌+◌, ◌-◌, ◌^◌, ◌≤◌, ◌<◌, false, length, Option, Some, None, IfSome, slice_get, refl, sym, ap, subst, arith}
 use Rattle.std.specs.List.{All}
 use Rattle.nm_proto.specs.declared.plan.Event.{Event}
-use Rattle.nm_proto.specs.declared.plan.Event.TheVariants.{Submit, Turn, Deliver, Answer, Break, Lose, Advance, Restart, Forget, Crash, Renew, Foreign, Leave, Round}
+use Rattle.nm_proto.specs.declared.plan.Event.TheVariants.{Turn}
 use Rattle.nm_proto.specs.Content.{Meaning, Laws}
 use Rattle.nm_device.specs.Device.{is_manager}
 use Rattle.nm_world.specs.World.{Setting, WorldState, core_of, manager_in, world_step}
 use Rattle.nm_world.specs.Drain.{found_or, leaves, loses_links, goes_on, goes_on_with, first_ready, drain_by, drain_event, drained}
-use Rattle.nm_world.proofs.ToRest.{IsStep, drain_event_is_step}
-use Rattle.nm_safety.specs.Safe.{IsGiven}
+use Rattle.nm_world.proofs.ToRest.{drain_event_is_step}
+use Rattle.nm_safety.proofs.Drained.{step_given}
+use Rattle.nm_safety.proofs.Lists.{one_longer}
 use Rattle.nm_rest_laws.proofs.rest.Measure.{slot_rank}
 use Rattle.nm_rest_laws.specs.Turns.{turn_of, IsAtTurn, TurnsWithin}
 use Rattle.nm_rest_laws.proofs.rest.Calm.{IsCalm}
 use Rattle.nm_rest_laws.proofs.rest.Lasting.{Lasts, one_lasts}
 use Rattle.nm_rest_laws.proofs.rest.PairSteps.{IsPairStep, rank_falls, stays_calm}
 use Rattle.nm_rest_laws.proofs.rest.Resting.{goes_so, goes_some, no_leave, no_lose}
-
-pub step_given : {TheEdit : Type 0} (setting : Setting TheEdit) (event : Event) → IsStep event → IsGiven setting event
-step_given setting (Submit change) step = absurd step
-step_given setting (Turn change) step = step
-step_given setting (Deliver change device link) step = step
-step_given setting (Answer change device link number) step = step
-step_given setting (Break change device) step = step
-step_given setting (Lose change device link) step = step
-step_given setting (Advance device seconds) step = absurd step
-step_given setting (Restart device) step = absurd step
-step_given setting (Forget change) step = absurd step
-step_given setting Crash step = absurd step
-step_given setting (Renew change device) step = absurd step
-step_given setting (Foreign operator device request) step = absurd step
-step_given setting (Leave operator device) step = step
-step_given setting (Round change turns) step = absurd step
 
 module _ {Config TheEdit Node : Type 0} (m : Meaning Config TheEdit Node) (laws : Laws m) (setting : Setting TheEdit) (edits : All m.edit_belongs setting.tables.edits) (few : length setting.plans ≤ 64)
     (strangers : (number : ℕ) → IfSome (slice_get setting.users number) (λ user. is_manager (Some user) ≡ false)) where
@@ -63,13 +48,6 @@ module _ {Config TheEdit Node : Type 0} (m : Meaning Config TheEdit Node) (laws 
     at_turn = subst (λ v. IsAtTurn setting (drained m setting t.steps v)) (sym (ap (drain_by m setting w) e)) t.at_turn;
   }
 
-  pub length_one : (w : WorldState Config Node) (x : Event) → length (world_step m setting w x).trail ≡ suc (length w.trail)
-  length_one w x = grown w.trail _
-    where
-      grown : {A : Type 0} (xs : List A) (y : A) → length (xs ++ y ∷ []) ≡ suc (length xs)
-      grown [] y = refl
-      grown (z ∷ xs) y = ap suc (grown xs y)
-
   step_in : (n : ℕ) (w : WorldState Config Node) → L w → IsCalm (core_of w) → length w.trail + n < 2 ^ 32 - 1 → (c : ℕ) → first_ready (length setting.plans) w.entries ≡ Some c → rank_of w (Some c) ≤ n
       → ((k : ℕ) (next : WorldState Config Node) → n ≡ suc k → L next → IsCalm (core_of next) → length next.trail + k < 2 ^ 32 - 1 → first_ready (length setting.plans) next.entries ≡ Some c → rank_of next (Some c) ≤ k → TurnsWithin m setting next k)
       → (o : Option Event) → drain_event setting w ≡ o → goes_on w.devices (manager_in (core_of w)) c ≡ o → TurnsWithin m setting w n
@@ -84,7 +62,7 @@ module _ {Config TheEdit Node : Type 0} (m : Meaning Config TheEdit Node) (laws 
       by_kind (suc n) small low later (inl (j, s)) =
           let next = world_step m setting w x in
           let less = rank_falls m setting (length w.trail) (core_of w) (core_of next) k (c - 1) j s in
-          let long = length_one w x in
+          let long : length (world_step m setting w x).trail ≡ suc (length w.trail) = one_longer w.trail _ in
           one_more w x n d (later n next refl (one_lasts m laws setting edits few strangers w x (step_given setting x (drain_event_is_step setting w x d)) k)
           (stays_calm m setting (length w.trail) (core_of w) (core_of next) k (c - 1) j s calm) (omega (arith, long, small)) (ap (first_ready (length setting.plans)) s.entries ∙ e) (omega (arith, less, low)))
 

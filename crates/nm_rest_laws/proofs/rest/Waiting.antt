@@ -17,7 +17,7 @@ use Rattle.nm_decider.specs.Rightly.{IsStuck}
 use Rattle.nm_decider.proofs.Actions.{waits_rightly}
 use Rattle.nm_rest_laws.specs.Steady.{is_right, is_live}
 use Rattle.nm_safety.proofs.Tables.{both}
-use Rattle.nm_rest_laws.proofs.rest.Able.{listed}
+use Rattle.nm_safety.proofs.Seats.{listed}
 
 -- ---- who is right and quiet has a next request
 

@@ -13,10 +13,13 @@ use Rattle.nm_manager.specs.Manager.{ManagerState, slots_from, wire_of, wire_in}
 use Rattle.nm_world.specs.declared.happened.Sending.{Sending}
 use Rattle.nm_world.specs.World.{Setting, WorldState, core_of, manager_in, given_in, open_on, has_on, operator_at, elementary, world_step, start, run, round, rounds, followed, event_step, sending_of, replies_on}
 use Rattle.nm_world.specs.Drain.{event_if, lose_link, leave_by, leave_on}
+use Rattle.nm_safety.specs.Safe.{AreGiven, IsGiven}
+use Rattle.nm_safety.proofs.Lists.{one_longer}
+use Rattle.nm_safety.proofs.Steps.{run_keeps}
 use Rattle.nm_rest_laws.specs.Closing.{one_if, sum_from, has_session, sessions_of, sessions_left, left_on, left_at, left_of, links_left, left_to_close}
 use Rattle.nm_rest_laws.specs.Rest.{elementary_count, events_count}
 use Rattle.nm_rest_laws.proofs.rest.Counting.{ones}
-use Rattle.nm_rest_laws.proofs.rest.Making.{sum_over, links_on, links_of, given_to, made, makes_one, more_by}
+use Rattle.nm_rest_laws.proofs.rest.Making.{sum_over, links_on, links_of, given_to, made, makes_one}
 
 -- ---- sums
 
@@ -141,21 +144,15 @@ none_given_all (suc n) k = let first = none_given k in let rest = none_given_all
     two a b e f = omega (arith, e, f)
 
 module _ {Config TheEdit Node : Type 0} (m : Meaning Config TheEdit Node) (setting : Setting TheEdit) where
-  -- so many events have happened at most, and no more was made
-  record IsFew (n : ℕ) (w : WorldState Config Node) : Type 0 where
-    long : length w.trail ≤ n
-    made_few : made (core_of w) ≤ length w.trail
+  -- so many events have happened at most
+  abbrev IsFew : ℕ → WorldState Config Node → Type 0
+  IsFew n w = length w.trail ≤ n
 
   one_few : (n : ℕ) (w : WorldState Config Node) (x : Event) → IsFew n w → IsFew (suc n) (world_step m setting w x)
-  one_few n w x k =
-      let long = k.long in
-      let few = k.made_few in
-      let grown : length (world_step m setting w x).trail ≡ suc (length w.trail) = more_by w.trail _ in
-      let more = makes_one m setting (core_of w) x in
-      record { long = omega (arith, long, grown); made_few = omega (arith, few, grown, more) }
+  one_few n w x k = let grown : length (world_step m setting w x).trail ≡ suc (length w.trail) = one_longer w.trail _ in omega (arith, k, grown)
 
   later_few : (a b : ℕ) (w : WorldState Config Node) → a ≤ b → IsFew a w → IsFew b w
-  later_few a b w h k = let long = k.long in record { long = omega (arith, long, h); made_few = k.made_few }
+  later_few a b w h k = omega (arith, k, h)
 
   followed_few : (n : ℕ) (w : WorldState Config Node) (change : ℕ) (sending : Option Sending) → IsFew n w → IsFew (suc (suc n)) (followed m setting w change sending)
   followed_few n w change None k = later_few n (suc (suc n)) w (omega arith) k
@@ -183,22 +180,32 @@ module _ {Config TheEdit Node : Type 0} (m : Meaning Config TheEdit Node) (setti
       later_few (events_count events + (elementary_count event + n)) (elementary_count event + events_count events + n) (run m setting (event_step m setting w event) events) (omega arith)
       (run_few (elementary_count event + n) (event_step m setting w event) events (step_few n w event k))
 
+  -- and no more was made
+  abbrev MadeFew : WorldState Config Node → Type 0
+  MadeFew w = made (core_of w) ≤ length w.trail
+
+  one_made : (w : WorldState Config Node) (x : Event) → IsGiven setting x → MadeFew w → MadeFew (world_step m setting w x)
+  one_made w x given few =
+      let grown : length (world_step m setting w x).trail ≡ suc (length w.trail) = one_longer w.trail _ in
+      let more = makes_one m setting (core_of w) x given in
+      omega (arith, few, grown, more)
+
   module _ (running : List Config) (events : List Event) where
-    start_few : IsFew 0 (start setting running)
-    start_few =
+    start_made : MadeFew (start setting running)
+    start_made =
         let slots = no_slots 1 setting.plans in
         let operators = none_given_all (length setting.users) (length running) in
-        record { long = omega arith; made_few = omega (arith, slots, operators) }
+        omega (arith, slots, operators)
 
     abbrev ran : WorldState Config Node
     ran = run m setting (start setting running) events
 
-    ran_few : IsFew (events_count events + 0) ran
-    ran_few = run_few 0 (start setting running) events start_few
-
     -- a run of so many events has so many in its trail, and no more is left to close
     pub trail_few : length ran.trail ≤ events_count events
-    trail_few = let k = ran_few in let long = k.long in omega (arith, long)
+    trail_few = let long = run_few 0 (start setting running) events (omega arith) in omega (arith, long)
 
-    pub left_few : left_to_close setting ran ≤ length ran.trail
-    left_few = let k = ran_few in let few = k.made_few in let left = left_within setting ran in omega (arith, few, left)
+    pub left_few : AreGiven setting events → left_to_close setting ran ≤ length ran.trail
+    left_few given =
+        let few = run_keeps m setting MadeFew one_made (start setting running) events given start_made in
+        let left = left_within setting ran in
+        omega (arith, few, left)

@@ -6,6 +6,9 @@ use Rattle.nm_console.proofs.replay.lead.Goals as goal
 pub returns-in_err-last-clause-read : goal.returns-in_err-last-clause-read
 returns-in_err-last-clause-read g c = λ calm offset is. c.in_err-last.ensures.read calm offset (search (rules, is))
 
+pub returns-in_err-last-clause-sound : goal.returns-in_err-last-clause-sound
+returns-in_err-last-clause-sound g c = λ there offset is. c.in_err-last.ensures.sound there c.requires.straight c.requires.known offset (search (rules, is))
+
 pub returns-in_err-last-clause-any_moment : goal.returns-in_err-last-clause-any_moment
 returns-in_err-last-clause-any_moment g c = λ there.
     ran_left g.C.Content.meaning c.args.world c.args.world c.args.events.now c.args.drain (g.D.Disk.state c.args.disk.now) (g.D.Disk.state c.run.new.disk)

@@ -1,6 +1,7 @@
 use Rattle.std.proofs.Common.{◌*◌, ◌^◌, ◌∙◌, Err, IfOk, length, ap, sym, subst, arith}
 use Rattle.std.specs.List.{All}
-use Rattle.nm_world.specs.Runs.{IsBetween, IsNumbered}
+use Rattle.std.proofs.lemmas.List.Elements.{All-nil}
+use Rattle.nm_world.specs.Runs.{IsBetween, IsNumbered, NoneStrange}
 use Rattle.nm_world.specs.World.{WorldValue, fresh_world, journal_of}
 use Rattle.nm_disk.specs.Image.{AnyMoment}
 use Rattle.nm_journal.specs.Fits.{Fits}
@@ -16,6 +17,10 @@ say_run-requires-clause-given g c =
 
 pub say_run-requires-clause-in_time : goal.say_run-requires-clause-in_time
 say_run-requires-clause-in_time g c = c.in_ok-world-in-Ok.ensures.in_time (2 ^ 32 * length c.args.events.now) (let few = c.requires.few_events in omega (arith, few))
+
+pub say_run-requires-clause-known : goal.say_run-requires-clause-known
+say_run-requires-clause-known g c =
+    subst (λ (w : WorldValue _ _ _ _). NoneStrange w.setting.plans w.state.entries) (sym (c.in_ok-world-in-Ok.ensures.begun ∙ ap fresh_world c.in_ok-setup-in-Ok.ensures)) (All-nil _)
 
 pub say_run-requires-clause-ready : goal.say_run-requires-clause-ready
 say_run-requires-clause-ready g c =

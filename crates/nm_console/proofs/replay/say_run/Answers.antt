@@ -13,4 +13,5 @@ pub returns-in-Err-Damaged-clause-told : goal.returns-in-Err-Damaged-clause-told
 returns-in-Err-Damaged-clause-told g c =
     damaged_told (g.C.Show.shown c.args.world.content) c.args.trace c.args.world.setting
     (led_to (g.C.Content.meaning c.args.world.content) c.args.world.setting c.args.events.now c.args.drain c.args.world.state) c.args.events.now (g.D.Disk.state c.args.disk.now).contents (g.D.Disk.state c.lead.new.disk).contents c.say_damaged.result c.in-Err-Damaged.offset
-    (λ calm. c.lead.ensures.read calm c.in-Err-Damaged.offset (search rules)) c.say_damaged.ensures.told
+    (λ calm. c.lead.ensures.read calm c.in-Err-Damaged.offset (search rules)) (λ there. c.lead.ensures.sound there c.in-Err-Damaged.offset (search rules))
+    c.say_damaged.ensures.told

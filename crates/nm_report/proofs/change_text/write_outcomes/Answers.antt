@@ -16,5 +16,5 @@ loop-place-preserved g c =
     let within : c.loop-place.place < length c.args.devices.now = omega (arith, c.loop-place-test.true) in
     one_more (outcome_texts c.args.change c.args.members.0) (λ k r. outcome_text c.args.change c.args.members.0 k r.history) (λ k r rest. refl)
     c.args.devices.now c.loop-place.place c.index-devices-place.result c.loop-place.out.items c.write_if_member.new.out.items _ within
-    (c.in_ok-write_if_member.ensures ∙ ap (λ h. c.loop-place.out.items ++ outcome_text c.args.change c.args.members.0 (c.loop-place.place + 1) h) (c.history.ensures ∙ ap (λ r. r.history) c.index-devices-place.is))
+    (c.in_ok-write_if_member.ensures ∙ ap (λ r. c.loop-place.out.items ++ outcome_text c.args.change c.args.members.0 (c.loop-place.place + 1) r.history) c.index-devices-place.is)
     c.loop-place.invariant

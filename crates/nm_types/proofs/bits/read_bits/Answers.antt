@@ -1,12 +1,9 @@
 use Rattle.std.proofs.Common.{List, ℕ, Ok, is_some, Bor, map, ap, ◌∙◌, sym}
 use Rattle.nm_types.specs.declared.value.Value.TheVariants.{Bits}
 use Rattle.nm_types.specs.Reading.{are_bits, bits_text}
-use Rattle.nm_types.proofs.Texts.{bits_spaced, bits_bad, bits_good}
+use Rattle.nm_types.proofs.Texts.{bits_bad, bits_good}
 use Rattle.nm_types.proofs.ChosenBits.{chosen_within, chosen_text}
 use Rattle.nm_types.proofs.bits.read_bits.Goals as goal
-
-pub returns-then-has_outer_space : goal.returns-then-has_outer_space
-returns-then-has_outer_space c = λ limits. bits_spaced c.args.names.now limits c.args.text.now c.if-has_outer_space.ensures
 
 pub returns-in_default : goal.returns-in_default
 returns-in_default c =
@@ -20,5 +17,5 @@ pub returns : goal.returns
 returns c =
     let found = ap (map (λ (w : Bor (List ℕ)). w.now)) c.deref.ensures.value ∙ c.in_ok-words.ensures in
     let text = c.in_ok-bits_text.ensures ∙ chosen_text c.args.names.now _ c.in_ok-places.field-0 c.in-Some.places c.in-Some.is c.in_ok-places.ensures.places c.in_ok-places.ensures.ordered ∙ ap (bits_text c.args.names.now) found in
-    λ limits. bits_good c.args.names.now limits c.args.text.now c.if-has_outer_space.ensures (sym (ap is_some c.in-Some.is) ∙ c.in_ok-places.ensures.bits ∙ ap (are_bits c.args.names.now) found)
+    λ limits. bits_good c.args.names.now limits c.args.text.now (sym (ap is_some c.in-Some.is) ∙ c.in_ok-places.ensures.bits ∙ ap (are_bits c.args.names.now) found)
     ∙ ap (λ (t : List ℕ). Ok (Bits t)) (sym text)

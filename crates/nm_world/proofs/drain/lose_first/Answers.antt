@@ -1,26 +1,18 @@
-use Rattle.std.proofs.Common.{◌≤◌, ◌<◌, length, sym, ◌∙◌, arith}
+use Rattle.std.proofs.Common.{◌≡◌, ℕ, IfSome, IfNone, true, false, ◌<◌, ◌≤◌, subst}
+use Rattle.nm_wire.specs.Wire.{is_left_open}
 use Rattle.nm_manager.specs.Manager.{wire_in}
-use Rattle.nm_world.specs.Drain.{lose_link, lose_first}
-use Rattle.nm_world.proofs.Loops.{found_here, not_here, nowhere}
+use Rattle.nm_world.proofs.Skipping.{none_lost, none_before}
 use Rattle.nm_world.proofs.drain.lose_first.Goals as goal
 
-pub returns-in-Some : goal.returns-in-Some
-returns-in-Some g c =
+pub lose_behind-requires-clause-none : goal.lose_behind-requires-clause-none
+lose_behind-requires-clause-none g c link le =
     let links = wire_in c.args.manager.now.state c.args.change c.args.number in
-    let within : c.loop-place.place < length (wire_in c.args.manager.now.state c.args.change c.args.number).links = omega (arith, c.loop-place-test.true, c.links-place-end.ensures) in
-    found_here (lose_link c.args.device.now links c.args.change c.args.number) c.loop-place.place (length links.links)
-    (lose_first c.args.device.now links c.args.change c.args.number) c.loop-place.invariant c.in-Some.event within (sym c.lose_link.ensures ∙ c.in-Some.is)
+    none_before c.args.device.now links c.args.change c.args.number c.in-Some.first
+    (subst (λ found. IfSome found (λ number. is_left_open links number ≡ true)) c.in-Some.is c.first_left_open.ensures.found)
+    (subst (λ found. IfSome found (λ number. (other : ℕ) → other < number → is_left_open links other ≡ false)) c.in-Some.is c.first_left_open.ensures.least) link (subst (λ passed. link ≤ passed) c.saturating_sub.ensures le)
 
-pub loop-place-preserved : goal.loop-place-preserved
-loop-place-preserved g c =
+pub returns-in-None : goal.returns-in-None
+returns-in-None g c =
     let links = wire_in c.args.manager.now.state c.args.change c.args.number in
-    let within : c.loop-place.place < length (wire_in c.args.manager.now.state c.args.change c.args.number).links = omega (arith, c.loop-place-test.true, c.links-place-end.ensures) in
-    not_here (lose_link c.args.device.now links c.args.change c.args.number) c.loop-place.place (length links.links)
-    (lose_first c.args.device.now links c.args.change c.args.number) c.loop-place.invariant within (sym c.lose_link.ensures ∙ c.in_default.is)
-
-pub returns : goal.returns
-returns g c =
-    let links = wire_in c.args.manager.now.state c.args.change c.args.number in
-    let over : length (wire_in c.args.manager.now.state c.args.change c.args.number).links ≤ c.loop-place.place = omega (arith, c.loop-place-test.false, c.links-place-end.ensures) in
-    nowhere (lose_link c.args.device.now links c.args.change c.args.number) c.loop-place.place (length links.links)
-    (lose_first c.args.device.now links c.args.change c.args.number) c.loop-place.invariant over
+    none_lost c.args.device.now links c.args.change c.args.number
+    (subst (λ found. IfNone found ((other : ℕ) → is_left_open links other ≡ false)) c.in-None.is c.first_left_open.ensures.none)

@@ -13,7 +13,7 @@ returns-in-Some g c =
     let size : length c.plans-place-end.result.now ≡ length c.args.manager.now.plans = ap length c.plans-place-end.ensures.value in
     let within : c.loop-place.place < length c.args.manager.now.plans = omega (arith, size, c.loop-place-test.true) in
     found_at (at_devices c.args.devices.now c.args.manager.now.state rules.Lose) c.loop-place.place (length c.args.manager.now.plans) c.change_in.result
-    (loses_links c.args.devices.now c.args.manager.now.state (length c.args.manager.now.plans)) c.at_devices.result c.change_in.ensures c.at_devices.ensures c.loop-place.invariant within
+    (loses_links c.args.devices.now c.args.manager.now.state (length c.args.manager.now.plans)) c.loses_of.result c.change_in.ensures c.loses_of.ensures c.loop-place.invariant within
     c.in-Some.event c.in-Some.is
 
 pub loop-place-preserved : goal.loop-place-preserved
@@ -21,7 +21,7 @@ loop-place-preserved g c =
     let size : length c.plans-place-end.result.now ≡ length c.args.manager.now.plans = ap length c.plans-place-end.ensures.value in
     let within : c.loop-place.place < length c.args.manager.now.plans = omega (arith, size, c.loop-place-test.true) in
     not_at (at_devices c.args.devices.now c.args.manager.now.state rules.Lose) c.loop-place.place (length c.args.manager.now.plans) c.change_in.result
-    (loses_links c.args.devices.now c.args.manager.now.state (length c.args.manager.now.plans)) c.at_devices.result c.change_in.ensures c.at_devices.ensures c.loop-place.invariant within
+    (loses_links c.args.devices.now c.args.manager.now.state (length c.args.manager.now.plans)) c.loses_of.result c.change_in.ensures c.loses_of.ensures c.loop-place.invariant within
     c.in_default.is
 
 pub returns : goal.returns

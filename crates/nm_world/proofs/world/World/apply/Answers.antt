@@ -1,10 +1,12 @@
-use Rattle.std.proofs.Common.{◌≡◌, [], ◌∷◌, ◌++◌, ap, sym, subst, ◌∙◌, arith, rules}
-use Rattle.nm_journal.specs.Fits.{Fits}
-use Rattle.nm_world.specs.Runs.{Does, Journals, KeepsTime, seconds_in}
+use Rattle.std.proofs.Common.{◌≡◌, ◌⊎◌, [], ◌∷◌, ◌++◌, IfSome, refl, ap, sym, subst, ◌∙◌, arith, rules}
+use Rattle.nm_journal.specs.Fits.{Fits, IsDamagedAt}
+use Rattle.nm_manager.specs.Manager.{IsStrangeAt}
+use Rattle.nm_world.specs.Runs.{ComesBy, Does, Journals, KeepsTime, seconds_in}
 use Rattle.nm_world.specs.World.{AreInTime, WorldValue, journal_of, sending_of, world_step}
 use Rattle.nm_world.proofs.Clocks.{time_more, time_stays}
 use Rattle.nm_world.proofs.Growing.{step_grows}
 use Rattle.nm_world.proofs.Passing.{come_did, come_left, none_left, whole_of}
+use Rattle.nm_world.proofs.Rereading.{applied_comes, undamaged}
 use Rattle.nm_world.proofs.world.World.apply.Goals as goal
 
 pub come-requires-clause-in_time : goal.come-requires-clause-in_time
@@ -73,3 +75,21 @@ returns-clause-applied g c =
     subst (λ (w : WorldValue _ _ _ _). Does (λ s. world_step (g.C.Content.meaning w.content) w.setting s event) w (whole_of c.come.new.self later) (g.D.Disk.state c.args.disk.now) (g.D.Disk.state c.come.new.disk)) c.self.view_is
     (come_did (g.C.Content.meaning core.content) core c.come.new.self trail later event c.in-Ok-copy.noted c.in_ok-happened.happened (g.D.Disk.state c.args.disk.now) (g.D.Disk.state c.come.new.disk)
     e.happened c.in-Ok-copy.ensures tells e.came e.others e.once e.straight e.operators e.fits e.keeps e.any_moment)
+
+pub returns-clause-came : goal.returns-clause-came
+returns-clause-came g c =
+    let core = c.self.inside.core in
+    let e = c.in_ok-happened.ensures in
+    let trail = c.self.inside.trail.items in
+    let later = c.push_reserved.new.self.items in
+    let event = c.args.event.now in
+    let tells : later ≡ trail ++ record { event = c.in-Ok-copy.noted; happened = c.in_ok-happened.happened } ∷ [] = search rules in
+    subst (λ (w : WorldValue _ _ _ _). ComesBy (λ s. world_step (g.C.Content.meaning w.content) w.setting s event) w.setting.plans event w.state (whole_of c.come.new.self later).state) c.self.view_is
+    (applied_comes (g.C.Content.meaning core.content) core c.come.new.self trail later event c.in-Ok-copy.noted c.in_ok-happened.happened e.happened c.in-Ok-copy.ensures tells e.exact e.reread)
+
+pub returns-in_err-happened-clause-sound : goal.returns-in_err-happened-clause-sound
+returns-in_err-happened-clause-sound g c = λ there none offset is.
+    let disk = g.D.Disk.state c.args.disk.now in
+    let damaged = c.in_err-happened.ensures.damaged offset (search (rules, is)) in
+    undamaged (journal_of c.args.self.now) disk c.args.self.now.setting.plans disk.contents offset refl c.requires.ready.whole c.requires.ready.fits (g.met.D.Disk.as_read c.args.disk.now) none there
+    (subst (λ (w : WorldValue _ _ _ _). IfSome disk.contents (IsDamagedAt offset) ⊎ IsStrangeAt w.setting.plans disk.contents offset) c.self.view_is damaged)

@@ -23,6 +23,3 @@ returns-clause-ready g c =
       whole = ap (λ (w : CoreValue _ _ _ _). w.failed) begun;
       fits = c.in_ok-begin_again.ensures.fits;
     }
-
-pub returns-clause-tells : goal.returns-clause-tells
-returns-clause-tells g c = c.in_ok-begin_again.ensures.tells

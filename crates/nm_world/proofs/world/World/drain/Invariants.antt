@@ -8,4 +8,4 @@ abbrev pub invariant-loop : goal.invariant-loop
 invariant-loop g l =
     Does (λ w. drained (g.C.Content.meaning l.fn.self.content) l.fn.self.setting l.counter w) l.fn.self l.world (g.D.Disk.state l.fn.disk) (g.D.Disk.state l.disk)
     × KeepsTime 0 l.fn.self.state.devices l.world.state.devices × (l.counter ≤ l.limit)
-    × (l.world.state.has_diverged ≡ l.fn.self.state.has_diverged)
+    × (l.world.state ≡ drained (g.C.Content.meaning l.fn.self.content) l.fn.self.setting l.counter l.fn.self.state)

@@ -1,8 +1,10 @@
-use Rattle.std.proofs.Common.{◌≤◌, ◌∙◌, refl, sym, subst, length}
-use Rattle.nm_world.specs.World.{WorldValue}
+use Rattle.std.proofs.Common.{◌≤◌, refl, sym, subst, length}
+use Rattle.nm_proto.specs.declared.plan.Event.TheVariants.{Deliver}
+use Rattle.nm_world.specs.World.{WorldValue, last_answered, world_step}
 use Rattle.nm_world.proofs.Clocks.{time_still}
 use Rattle.nm_world.proofs.Passing.{ok_then, rose_since, still_ready}
 use Rattle.nm_world.proofs.Chains.{follow_did, deliver_left, follow_left}
+use Rattle.nm_world.proofs.Rereading.{and_exact}
 use Rattle.nm_world.proofs.world.World.follow.Goals as goal
 
 pub answer_last-requires-clause-given : goal.answer_last-requires-clause-given
@@ -31,5 +33,11 @@ returns-clause-disk_fault g c = λ is.
 pub returns-clause-time : goal.returns-clause-time
 returns-clause-time g c = time_still c.args.self.now.state.devices c.apply.new.self.state.devices c.answer_last.new.self.state.devices c.apply.ensures.time c.answer_last.ensures.time
 
-pub returns-clause-calm : goal.returns-clause-calm
-returns-clause-calm g c = ok_then c.answer_last.result c.answer_last.ensures.calm (λ same. same ∙ c.in_ok-apply.ensures.calm refl)
+pub returns-clause-exact : goal.returns-clause-exact
+returns-clause-exact g c =
+    let now = c.args.self.now in
+    let sending = c.args.sending in
+    ok_then c.answer_last.result c.answer_last.ensures.exact (λ exact.
+    and_exact g.C.Content.meaning now c.apply.new.self c.answer_last.new.self (λ m setting w. last_answered m setting w c.args.change sending)
+    (world_step (g.C.Content.meaning now.content) now.setting now.state (Deliver c.args.change sending.device sending.link)) c.in_ok-apply.ensures.applied.others
+    (c.in_ok-apply.ensures.came.does refl) exact)

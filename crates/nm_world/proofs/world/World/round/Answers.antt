@@ -1,8 +1,10 @@
-use Rattle.std.proofs.Common.{◌≤◌, ◌∙◌, refl, sym, subst, length}
-use Rattle.nm_world.specs.World.{WorldValue}
+use Rattle.std.proofs.Common.{◌≤◌, ◌∙◌, Some, refl, sym, ap, subst, length}
+use Rattle.nm_proto.specs.declared.plan.Event.TheVariants.{Turn}
+use Rattle.nm_world.specs.World.{WorldValue, followed, world_step}
 use Rattle.nm_world.proofs.Clocks.{time_still}
 use Rattle.nm_world.proofs.Passing.{ok_then, still_ready}
 use Rattle.nm_world.proofs.Chains.{turn_left, round_did, round_left}
+use Rattle.nm_world.proofs.Rereading.{and_exact}
 use Rattle.nm_world.proofs.world.World.round.Goals as goal
 
 pub follow-requires-clause-given : goal.follow-requires-clause-given
@@ -28,5 +30,12 @@ returns-clause-journals g c =
 pub returns-clause-time : goal.returns-clause-time
 returns-clause-time g c = time_still c.args.self.now.state.devices c.apply.new.self.state.devices c.follow.new.self.state.devices c.apply.ensures.time c.follow.ensures.time
 
-pub returns-clause-calm : goal.returns-clause-calm
-returns-clause-calm g c = ok_then c.follow.result c.follow.ensures.calm (λ same. same ∙ c.in_ok-sending.ensures.calm refl)
+pub returns-clause-exact : goal.returns-clause-exact
+returns-clause-exact g c =
+    let now = c.args.self.now in
+    let m = g.C.Content.meaning now.content in
+    let turned = world_step m now.setting now.state (Turn c.args.change) in
+    ok_then c.follow.result c.follow.ensures.exact (λ exact.
+    and_exact g.C.Content.meaning now c.apply.new.self c.follow.new.self (λ m setting w. followed m setting w c.args.change (Some c.in-Some.sending))
+    turned c.in_ok-sending.ensures.applied.others (c.in_ok-sending.ensures.came.does refl) exact
+    ∙ ap (followed m now.setting turned c.args.change) (sym c.in-Some.is ∙ c.in_ok-sending.ensures.sent))

@@ -8,4 +8,4 @@ abbrev pub invariant-loop : goal.invariant-loop
 invariant-loop g l =
     Does (λ w. rounds (g.C.Content.meaning l.fn.self.content) l.fn.self.setting l.counter w l.change) l.fn.self l.self (g.D.Disk.state l.fn.disk) (g.D.Disk.state l.disk)
     × KeepsTime 0 l.fn.self.state.devices l.self.state.devices × (l.counter ≤ l.turns)
-    × (l.self.state.has_diverged ≡ l.fn.self.state.has_diverged)
+    × (l.self.state ≡ rounds (g.C.Content.meaning l.fn.self.content) l.fn.self.setting l.counter l.fn.self.state l.change)

@@ -1,17 +1,20 @@
-use Rattle.std.proofs.Common.{◌≡◌, ◌∙◌, false, refl, ap, sym, subst, length, arith, rules}
-use Rattle.nm_world.specs.Runs.{IsNumbered}
-use Rattle.nm_world.specs.World.{WorldValue, journal_of, with_state, is_crash}
+use Rattle.std.proofs.Common.{◌≡◌, ◌∙◌, false, refl, ap, sym, subst, length, take, arith, rules}
+use Rattle.std.proofs.lemmas.List.{take_all}
+use Rattle.std.proofs.lemmas.List.Elements.{All-take}
+use Rattle.nm_world.specs.Runs.{IsNumbered, NoneStrange, Reaches}
+use Rattle.nm_world.specs.World.{WorldState, WorldValue, journal_of, with_state, is_crash, run}
 use Rattle.nm_world.proofs.Clocks.{time_all, time_first, time_left, time_next}
 use Rattle.nm_world.proofs.Passing.{none_did, ready_then, rose_since, tells_entries}
 use Rattle.nm_world.proofs.Chains.{run_did, run_left, run_end}
+use Rattle.nm_world.proofs.Rereading.{reaches_calm, run_plain, run_reaches}
 use Rattle.nm_world.proofs.world.World.run.Goals as goal
 
 pub loop-event-init : goal.loop-event-init
 loop-event-init g c = (
   none_did c.args.self (g.D.Disk.state c.args.disk.now) c.requires.ready (g.met.D.Disk.only_now c.args.disk.now),
   time_first c.args.self.state.devices,
-  λ calm. refl,
   omega arith,
+  refl,
 )
 
 pub step-requires-clause-given : goal.step-requires-clause-given
@@ -22,16 +25,16 @@ step-requires-clause-given g c =
 pub step-requires-clause-ready : goal.step-requires-clause-ready
 step-requires-clause-ready g c =
     ready_then _ _ c.args.self c.loop-event.world (g.D.Disk.state c.args.disk.now) (g.D.Disk.state c.loop-event.disk) c.requires.ready c.loop-event.invariant.0
-    (time_left (length c.args.events.now) c.loop-event.event-index c.args.self.state.devices c.loop-event.world.state.devices c.loop-event.invariant.3 c.loop-event.invariant.1 c.requires.in_time)
+    (time_left (length c.args.events.now) c.loop-event.event-index c.args.self.state.devices c.loop-event.world.state.devices c.loop-event.invariant.2 c.loop-event.invariant.1 c.requires.in_time)
 
 pub loop-event-preserved : goal.loop-event-preserved
 loop-event-preserved g c = (
   run_did g.C.Content.meaning c.args.self c.args.events.now c.loop-event.event-index c.event-item.result c.loop-event.world c.step.new.self (g.D.Disk.state c.args.disk.now) (g.D.Disk.state c.loop-event.disk) (g.D.Disk.state c.step.new.disk)
       c.loop-event-test.true c.event-item.is c.loop-event.invariant.0 c.in_ok-step.ensures.stepped,
   time_next c.loop-event.event-index c.args.self.state.devices c.loop-event.world.state.devices c.step.new.self.state.devices c.loop-event.invariant.1 c.in_ok-step.ensures.time,
-  λ calm.
-      c.in_ok-step.ensures.calm (subst (λ event. is_crash event ≡ false) (sym c.event-item.is) (calm c.loop-event.event-index c.event-item.result c.loop-event-test.true)) ∙ c.loop-event.invariant.2 calm,
   omega (arith, c.loop-event-test.true),
+  run_reaches g.C.Content.meaning c.args.self c.args.events.now c.loop-event.event-index c.event-item.result c.loop-event.world c.step.new.self c.loop-event-test.true c.event-item.is
+      c.loop-event.invariant.0.others c.loop-event.invariant.3 c.in_ok-step.ensures.leads,
 )
 
 pub returns-in_err-step-clause-disk_fault : goal.returns-in_err-step-clause-disk_fault
@@ -49,9 +52,9 @@ returns-in_err-step-clause-any_moment g c =
     c.loop-event-test.true c.event-item.is c.loop-event.invariant.0 c.step.ensures.journals).any_moment
 
 pub returns-clause-done : goal.returns-clause-done
-returns-clause-done g c = λ unstrayed.
+returns-clause-done g c = λ undiverged.
     let did = run_end g.C.Content.meaning c.args.self c.args.events.now c.loop-event.event-index c.loop-event.world (g.D.Disk.state c.args.disk.now) (g.D.Disk.state c.loop-event.disk) (omega (arith, c.loop-event-test.false)) c.loop-event.invariant.0 in
-    did.others ∙ ap (with_state c.args.self) (did.done unstrayed)
+    did.others ∙ ap (with_state c.args.self) (did.done undiverged)
 
 pub returns-clause-others : goal.returns-clause-others
 returns-clause-others g c = c.loop-event.invariant.0.others
@@ -60,7 +63,11 @@ pub returns-clause-straight : goal.returns-clause-straight
 returns-clause-straight g c = c.loop-event.invariant.0.straight
 
 pub returns-clause-calm : goal.returns-clause-calm
-returns-clause-calm g c = c.loop-event.invariant.2
+returns-clause-calm g c = λ calm.
+    let first = c.args.self in
+    reaches_calm (g.C.Content.meaning first.content) first.setting first.state c.args.events.now c.loop-event.world.state calm
+    (subst (λ l. Reaches (g.C.Content.meaning first.content) first.setting first.state l c.loop-event.world.state)
+    (take_all c.loop-event.event-index c.args.events.now (omega (arith, c.loop-event-test.false))) c.loop-event.invariant.3)
 
 pub returns-clause-operators : goal.returns-clause-operators
 returns-clause-operators g c = c.loop-event.invariant.0.operators
@@ -68,11 +75,11 @@ returns-clause-operators g c = c.loop-event.invariant.0.operators
 pub returns-clause-ready : goal.returns-clause-ready
 returns-clause-ready g c =
     ready_then _ _ c.args.self c.loop-event.world (g.D.Disk.state c.args.disk.now) (g.D.Disk.state c.loop-event.disk) c.requires.ready c.loop-event.invariant.0
-    (time_left (length c.args.events.now) c.loop-event.event-index c.args.self.state.devices c.loop-event.world.state.devices c.loop-event.invariant.3 c.loop-event.invariant.1 c.requires.in_time)
+    (time_left (length c.args.events.now) c.loop-event.event-index c.args.self.state.devices c.loop-event.world.state.devices c.loop-event.invariant.2 c.loop-event.invariant.1 c.requires.in_time)
 
 pub returns-clause-keeps_time : goal.returns-clause-keeps_time
 returns-clause-keeps_time g c =
-    time_all (length c.args.events.now) c.loop-event.event-index c.args.self.state.devices c.loop-event.world.state.devices c.loop-event.invariant.3 c.loop-event.invariant.1
+    time_all (length c.args.events.now) c.loop-event.event-index c.args.self.state.devices c.loop-event.world.state.devices c.loop-event.invariant.2 c.loop-event.invariant.1
 
 pub returns-clause-stored : goal.returns-clause-stored
 returns-clause-stored g c =
@@ -89,3 +96,22 @@ returns-clause-any_moment g c =
 pub returns-in_err-step-clause-read : goal.returns-in_err-step-clause-read
 returns-in_err-step-clause-read g c = λ calm offset is.
     c.in_err-step.ensures.read (subst (λ event. is_crash event ≡ false) (sym c.event-item.is) (calm c.loop-event.event-index c.event-item.result c.loop-event-test.true)) offset (search (rules, is))
+
+pub returns-in_err-step-clause-sound : goal.returns-in_err-step-clause-sound
+returns-in_err-step-clause-sound g c = λ there unstrayed none offset is.
+    let first = c.args.self in
+    let world = c.loop-event.world in
+    let did = c.loop-event.invariant.0 in
+    let straight = did.straight there ∙ unstrayed in
+    let so_far = take c.loop-event.event-index c.args.events.now in
+    let ran = run (g.C.Content.meaning first.content) first.setting first.state so_far in
+    let each = All-take (IsNumbered (length first.setting.plans)) c.loop-event.event-index c.args.events.now c.requires.given in
+    let plain : NoneStrange first.setting.plans ran.entries = run_plain (g.C.Content.meaning first.content) first.setting first.state so_far each none in
+    let here : NoneStrange first.setting.plans world.state.entries = subst (λ (w : WorldState _ _). NoneStrange first.setting.plans w.entries) (sym (did.done straight)) plain in
+    c.in_err-step.ensures.sound (did.journals.keeps.tells ∙ there) (subst (λ (w : WorldValue _ _ _ _). NoneStrange w.setting.plans world.state.entries) (sym did.others) here) offset (search (rules, is))
+
+pub returns-clause-reached : goal.returns-clause-reached
+returns-clause-reached g c =
+    let first = c.args.self in
+    subst (λ l. Reaches (g.C.Content.meaning first.content) first.setting first.state l c.loop-event.world.state)
+    (take_all c.loop-event.event-index c.args.events.now (omega (arith, c.loop-event-test.false))) c.loop-event.invariant.3

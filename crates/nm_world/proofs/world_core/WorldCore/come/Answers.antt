@@ -1,9 +1,10 @@
-use Rattle.std.proofs.Common.{◌≡◌, ◌∙◌, sym, subst, false, rules}
+use Rattle.std.proofs.Common.{◌≡◌, ◌∙◌, sym, ap, subst, true, false, rules}
 use Rattle.nm_disk.specs.Keeps.{keeps_itself}
 use Rattle.nm_journal.specs.Fits.{Fits, JournalState}
 use Rattle.nm_world.specs.World.{core_journal, entry_of, touches_journal}
-use Rattle.nm_world.proofs.Aside.{others_stay, strays_not, operators_stay, journal_stays}
+use Rattle.nm_world.proofs.Aside.{others_stay, diverges_not, operators_stay, journal_stays}
 use Rattle.nm_world.proofs.Failing.{nothing_moves}
+use Rattle.nm_world.proofs.Rereading.{crash_is, reread_ok}
 use Rattle.nm_world.proofs.world_core.WorldCore.come.Goals as goal
 
 pub returns-in-Ok : goal.returns-in-Ok
@@ -17,11 +18,13 @@ returns-in-Ok g c =
     let alone : touches_journal event ≡ false = search rules in
     record {
       happened = came.0;
-      came = λ unstrayed. came.1;
+      came = λ undiverged. came.1;
+      exact = λ calm. came.1;
+      reread = λ crashes. absurd (let f : true ≡ false = sym (ap touches_journal (crash_is event crashes)) ∙ alone in cc);
       others = others_stay m old new event what came;
-      once = λ unstrayed. sym (strays_not m old new event what came) ∙ unstrayed;
-      straight = λ there. strays_not m old new event what came;
-      calm = λ still. strays_not m old new event what came;
+      once = λ undiverged. sym (diverges_not m old new event what came) ∙ undiverged;
+      straight = λ there. diverges_not m old new event what came;
+      calm = λ still. diverges_not m old new event what came;
       operators = operators_stay m old new event what came;
       still = tt;
       no_memory = λ is. absurd (search rules);
@@ -35,3 +38,8 @@ returns-in-Ok g c =
       time = c.in-Ok.ensures.time;
       short = c.in-Ok.ensures.short;
     }
+
+pub returns-in-Crash-clause-reread : goal.returns-in-Crash-clause-reread
+returns-in-Crash-clause-reread g c = λ crashes.
+    let e = c.crash.ensures in
+    reread_ok c.args.self.now c.crash.new.self c.crash.result e.came e.read e.once e.same

@@ -26,3 +26,9 @@ pub returns-clause-any_moment : goal.returns-clause-any_moment
 returns-clause-any_moment g c =
     crash_moment (core_journal c.args.self.now) (g.D.Disk.state c.args.disk.now) (g.D.Disk.state c.recover.new.disk)
     (g.D.Disk.state c.args.disk.now).contents refl c.requires.whole c.requires.fits (g.met.D.Disk.as_read c.args.disk.now) c.recover.ensures.any_moment
+
+pub returns-clause-same : goal.returns-clause-same
+returns-clause-same g c = λ is.
+    let read : c.entries-2.result.now ≡ c.as_slice.result.now =
+    c.entries-2.ensures.value ∙ is ∙ ap (λ (w : CoreValue _ _ _ _). w.state.entries) (sym c.self.view_is) ∙ sym c.entries.ensures.value ∙ sym c.in-Ok.ensures ∙ sym c.as_slice.ensures.value in
+    c.diverges_now-self-inside.ensures.same read ∙ ap (λ (w : CoreValue _ _ _ _). w.state.has_diverged) c.self.view_is

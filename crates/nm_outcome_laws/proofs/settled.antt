@@ -1,0 +1,5 @@
+pub mod Ways
+pub mod Numbered
+pub mod Queue
+pub mod Closed
+pub mod Rest
