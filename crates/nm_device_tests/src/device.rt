@@ -6,7 +6,6 @@ ghost use Rattle.nm_device.specs.Device.{IsInTime, IsSound};
 use crate::proto::{commit_of, error, label};
 use nm_base::{ChangeMask, ChangeNo, EditNo, MANAGER, SelectNo, SessionId, Tag};
 use nm_device::PendingView;
-use nm_device_laws::laws;
 use nm_flat::{FlatConfig, FlatContent, FlatEdit, FlatNode, NumberMap};
 use nm_history::{Noted, Outcome, Recorded, Told, Undoing, outcome_of};
 use nm_locks::GlobalLocks;
@@ -406,28 +405,4 @@ fn is_user(sessions: &Sessions, session: SessionId, user: &str) -> bool {
         Some(label) => label.as_str() == user,
         None => false,
     }
-}
-
-// The laws are functions that do nothing.
-#[test]
-fn laws_do_nothing(rt: HostRuntime) {
-    let content = FlatContent::new(rt.alloc());
-    laws::numbers_stay(&content);
-    laws::users_stay(&content);
-    laws::sessions_stand(&content);
-    laws::strangers_stay_out(&content);
-    laws::running_moves(&content);
-    laws::marks_stay(&content);
-    laws::tokens_stand(&content);
-    laws::histories_tell_pending(&content);
-    laws::histories_tell_tokens(&content);
-    laws::openings_do(&content);
-    laws::requests_do(&content);
-    laws::endings_do(&content);
-    laws::commits_do(&content);
-    laws::answers_change_nothing(&content);
-    laws::histories_follow_requests(&content);
-    laws::outcomes_need_commits();
-    laws::tokens_outlive_sessions(&content);
-    laws::reserved_tokens_are_the_managers(&content);
 }

@@ -6,6 +6,8 @@
 #[cfg(test)]
 mod device;
 #[cfg(test)]
+mod notices;
+#[cfg(test)]
 mod proto;
 #[cfg(test)]
 mod threads;

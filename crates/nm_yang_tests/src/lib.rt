@@ -13,8 +13,6 @@ mod path;
 #[cfg(test)]
 mod statements;
 #[cfg(test)]
-mod text_laws;
-#[cfg(test)]
 mod texts;
 #[cfg(test)]
 mod threads;

@@ -1,7 +1,7 @@
 //! Paths: their texts and nodes, and the order of their steps.
 
 use crate::tree::{holds, label, sample};
-use nm_path::{PathFault, laws, node_of, read_path, write_path};
+use nm_path::{PathFault, node_of, read_path, write_path};
 use nm_schema_tree::Schema;
 use nm_types::{Chosen, LeafType, Path, Step, TypeKind, Value, ValueFault, read_value};
 use std::alloc::Global;
@@ -144,8 +144,6 @@ fn paths_are_written_and_read(rt: HostRuntime) {
     try_written(&rt, alloc, &schema);
     try_lost(&rt, alloc, &schema);
     drop(schema);
-    laws::one_path();
-    laws::full_paths();
 }
 
 // A type, by its fraction digits, or of a byte for none.

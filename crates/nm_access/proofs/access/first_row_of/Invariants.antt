@@ -1,0 +1,10 @@
+use Rattle.std.proofs.Common.{◌≡◌, length}
+use Rattle.nm_access.specs.Rule.{matches_row}
+use Rattle.nm_access.specs.Judged.{first_of}
+use Rattle.nm_access.proofs.access.first_row_of.Given as goal
+
+abbrev pub invariant-lists : goal.invariant-lists
+invariant-lists l = first_of (matches_row l.row) l.groups l.user l.rest ≡ first_of (matches_row l.row) l.groups l.user l.lists
+
+abbrev pub decreases-lists : goal.decreases-lists
+decreases-lists l = length l.rest

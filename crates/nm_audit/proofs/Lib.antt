@@ -1,0 +1,11 @@
+pub mod First
+pub mod Bounds
+pub mod Holders
+pub mod Agreed
+pub mod Replies
+pub mod Openings
+pub mod Commits
+pub mod Phases
+pub mod Exact
+pub mod One
+pub mod Decided

@@ -1,0 +1,2 @@
+-- Ways in which faults are put into a run.
+pub mod Ways

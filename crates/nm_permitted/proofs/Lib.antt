@@ -1,0 +1,5 @@
+pub mod Judged
+pub mod Told
+pub mod Chains
+pub mod Kept
+pub mod Passes

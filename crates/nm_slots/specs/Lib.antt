@@ -1,0 +1,5 @@
+pub mod Course
+pub mod Slot
+pub mod Book
+pub mod Script
+pub mod Finished

@@ -1,0 +1,2 @@
+-- The rows that an edit touches, and how.
+pub mod Touched

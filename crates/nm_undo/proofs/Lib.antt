@@ -1,0 +1,9 @@
+pub mod Maps
+pub mod Below
+pub mod Rivals
+pub mod Sayings
+pub mod Acted
+pub mod Restored
+pub mod EditIs
+pub mod Undone
+pub mod First
