@@ -168,7 +168,8 @@ fn step_to(module: &Label, name: &Label, chosen: Chosen) -> Result<Step, NoMemor
     })
 }
 
-/// The step of a path that a written step is, which leads to a node.
+/// The step of a path that a written step is, which leads to the node of this number: `PathFault::BadText` where its predicates
+/// choose nothing of that node (RFC 7950 section 9.13), or no memory.
 pub fn step_of(alloc: Global, schema: &Schema, at: usize, step: &Written) -> Result<Step, PathFault>
     ensures { spec.Gives (λ s. s) result (spec.step_by schema.now.nodes at step.now (slice_get schema.now.nodes at)) }
 {

@@ -15,7 +15,10 @@ mod steps;
 mod text;
 pub mod write;
 
+pub use choice::step_of;
 pub use fault::PathFault;
-pub use place::node_of;
+pub use form::Written;
+pub use place::{are_named, found, node_of};
 pub use read::read_path;
+pub use steps::steps_of;
 pub use write::write_path;

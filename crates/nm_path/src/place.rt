@@ -62,8 +62,9 @@ fn found_bare(schema: &Schema, place: Place, name: &str) -> Option<usize>
     }
 }
 
-/// The node that a written step leads to from a place.
-pub(crate) fn found(schema: &Schema, place: Place, step: &Written) -> Option<usize>
+/// The number of the node that a written step leads to from a place: with its module written, or, below the top, by its name
+/// alone. None where nothing of this name is known there.
+pub fn found(schema: &Schema, place: Place, step: &Written) -> Option<usize>
     ensures { result ≡ spec.found schema.now.nodes place step.now.owner step.now.name }
 {
     match &step.owner {
@@ -82,8 +83,8 @@ pub(crate) fn below(at: Option<usize>) -> Place
     }
 }
 
-/// Whether the names of written steps lead through the schema from the top.
-pub(crate) fn are_named(schema: &Schema, steps: &[Written]) -> bool
+/// Whether the names of written steps lead through the schema from the top, whatever their predicates.
+pub fn are_named(schema: &Schema, steps: &[Written]) -> bool
     ensures { result ≡ spec.are_named schema.now.nodes Place.Top steps.now }
 {
     let mut place = Place::Top;

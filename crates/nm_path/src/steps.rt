@@ -156,7 +156,8 @@ fn is_from_top(steps: &[Written]) -> bool
     }
 }
 
-/// The steps of a text that has the form of a path.
+/// The steps of a text that has the form of a path, which begins with the module of its first step. Nothing is looked up in a
+/// schema: `PathFault::BadText` where the text hasn't the form, or no memory.
 #[tactic(auto, unfolding(crate::specs::Reading::steps_of))]
 pub fn steps_of(alloc: Global, text: &str) -> Result<Vec<Written>, PathFault>
     ensures { spec.Gives (λ v. v.items) result (spec.steps_of text.now) }
