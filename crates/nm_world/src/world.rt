@@ -224,6 +224,14 @@ impl<C: Content + Drop> World<C> {
     ghost use Rattle.nm_manager.specs.Manager.{wire_in};
     ghost use Rattle.nm_world.specs.World.{AreCalm, is_crash, elementary, manager_in, core_of, sending_of, replies_on, last_answered, followed, round, rounds, event_step, run, with_state};
 
+    /// The number of the link of a change set to a device that is current, from 1, and None exactly where none is.
+    pub fn current_link(&self, change: ChangeNo, device: DeviceNo) -> Option<u32>
+        requires given { change ≤ length self.now.setting.plans }
+        ensures { result ≡ (wire_in (manager_in (core_of self.now.state)) change device).current }
+    {
+        self.core.current_link(change, device)
+    }
+
     // How many replies were sent on a link.
     fn replies_on(&self, change: ChangeNo, device: DeviceNo, link: u32) -> u32
         requires given { change ≤ length self.now.setting.plans }

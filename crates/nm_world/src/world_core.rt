@@ -123,6 +123,13 @@ impl<C: Content + Drop> WorldCore<C> {
         self.manager.replies(change, device, link).0
     }
 
+    pub(crate) fn current_link(&self, change: ChangeNo, device: DeviceNo) -> Option<u32>
+        requires given { change ≤ length self.now.setting.plans }
+        ensures { result ≡ (wire_in (manager_in self.now.state) change device).current }
+    {
+        self.manager.current(change, device)
+    }
+
     pub(crate) fn has_failed(&self) -> bool
         ensures { result ≡ self.now.has_failed }
     {
