@@ -1,0 +1,2 @@
+-- Runs that go ways, and what they come to.
+pub mod Game

@@ -1,0 +1,3 @@
+pub mod Merged
+pub mod Counted
+pub mod Places

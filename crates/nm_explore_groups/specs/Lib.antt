@@ -1,0 +1,2 @@
+-- Groups of runs that end alike.
+pub mod Groups

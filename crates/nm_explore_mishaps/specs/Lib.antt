@@ -1,0 +1,2 @@
+-- What may go wrong in a run.
+pub mod Mishaps

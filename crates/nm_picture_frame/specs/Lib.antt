@@ -1,0 +1,2 @@
+-- Where the lanes and lines of a picture stand.
+pub mod Frame

@@ -1,0 +1,3 @@
+-- The words of a picture.
+pub mod Phrases
+pub mod Words
