@@ -40,6 +40,8 @@ use Rattle.nm_safety.specs.Safe as safe
 use Rattle.nm_safety.proofs.Drained.{drained_safe}
 use Rattle.nm_safety.proofs.Safely.{run_is_safe}
 use Rattle.nm_safety.proofs.Tells.{safe_tells}
+use Rattle.nm_notice_laws.specs.Replays.{TellAsReplayed}
+use Rattle.nm_notice_laws.proofs.Histories.{run_tells as run_replays}
 use Rattle.nm_commit_laws.specs.Brings.{BringsAlone}
 use Rattle.nm_commit_laws.proofs.brings.Alone.{run_brings}
 use Rattle.nm_commit_laws.proofs.brings.Drained.{drained_brings}
@@ -206,7 +208,7 @@ got_by : {X : Type 0} (P : X → Type 0) (xs : List X) (k : ℕ) → All P xs
 got_by P xs k h (inl found) = subst (λ o. IfSome o P) (sym found.2) (subst P found.3 (h k found.0 found.1))
 got_by P xs k h (inr none) = subst (λ o. IfSome o P) (sym none.1) tt
 
-got : {X : Type 0} (P : X → Type 0) (xs : List X) (k : ℕ) → All P xs → IfSome (slice_get xs k) P
+pub got : {X : Type 0} (P : X → Type 0) (xs : List X) (k : ℕ) → All P xs → IfSome (slice_get xs k) P
 got P xs k h = got_by P xs k h (slice_get_cases xs k).1
 
 -- an operator isn't the manager
@@ -255,6 +257,10 @@ module _ {Config TheEdit Node : Type 0} (m : Meaning Config TheEdit Node) (laws 
   causes_if false = run_has_causes m laws (setting_of edits s) devices s.events proper
   causes_if true = drained_has_causes m laws (setting_of edits s) devices s.events proper drain_limit
 
+  notices_if : (drain : Bool) → TellAsReplayed m (setting_of edits s) devices (led_to m (setting_of edits s) s.events drain (start (setting_of edits s) devices))
+  notices_if false = run_replays m laws (setting_of edits s) devices proper.first s.events 0
+  notices_if true = run_replays m laws (setting_of edits s) devices proper.first s.events drain_limit
+
   lapses_if : (drain : Bool) → LapsesAreUndone (led_to m (setting_of edits s) s.events drain (start (setting_of edits s) devices))
   lapses_if false = run_lapses m laws (setting_of edits s) devices s.events proper
   lapses_if true = drained_lapses m laws (setting_of edits s) devices s.events drain_limit proper
@@ -298,6 +304,7 @@ module _ {Config TheEdit Node : Type 0} (m : Meaning Config TheEdit Node) (laws 
     valid = can.begins.first;
     safe = world_safe;
     reports = safe_tells m (setting_of edits s) devices s.events (world_of m devices edits s) world_safe;
+    notices = notices_if s.drain;
     settles = told_unsettled (setting_of edits s) (world_of m devices edits s) (safe_tells m (setting_of edits s) devices s.events (world_of m devices edits s) world_safe);
     brings = brings_if s.drain;
     leaves = leaves_if s.drain;

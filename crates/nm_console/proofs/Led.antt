@@ -4,14 +4,14 @@ use Rattle.nm_disk.specs.Image.{DiskState, AnyMoment}
 use Rattle.nm_disk.specs.Moments.{and_then, weaker}
 use Rattle.nm_manager.specs.declared.action.TurnFault.{TurnFault}
 use Rattle.nm_world.specs.Drain.{drain_limit, drained}
-use Rattle.nm_world.specs.Runs.{GoesOnAs, IsBetween}
+use Rattle.nm_world.specs.Runs.{GoesOnAs, IsBetween, Reaches}
 use Rattle.nm_world.specs.World.{WorldValue, WorldState, run, with_state}
 use Rattle.nm_world.proofs.Growing.{goes_itself, goes_then}
 use Rattle.nm_world.proofs.Passing.{drained_grows, run_grows}
 use Rattle.nm_proto.specs.Content.{Meaning}
 use Rattle.nm_proto.specs.declared.journal.Entry.{Entry}
 use Rattle.nm_proto.specs.declared.plan.Event.{Event}
-use Rattle.nm_console.specs.Console.{led_to}
+use Rattle.nm_console.specs.Console.{IsLedTo, led_to, rested}
 
 -- entries between two moments are between two that lie around these
 wider : (first before after last : List Entry) (image : List ℕ) → GoesOnAs first before → GoesOnAs after last → IsBetween before after image → IsBetween first last image
@@ -50,6 +50,27 @@ module _ {TheContent Config TheEdit Node : Type 0} (meaning : TheContent → Mea
   pub rest_others : (result : Result W TurnFault) → mid ≡ with_state world mid.state → IfOk result (λ last. last ≡ with_state mid last.state) → IfOk result (λ last. last ≡ with_state world last.state)
   rest_others (Ok last) others same = same ∙ ap (λ (w : W). with_state w last.state) others
   rest_others (Err why) others same = tt
+
+  abbrev Leads : Bool → WorldState Config Node → Type 0
+  Leads drain last = IsLedTo (meaning world.content) world.setting events drain world.state last
+
+  -- whatever crashes read, it is a world that the events lead to
+  pub ran_reached : (drain : Bool) → drain ≡ false → Reaches (meaning world.content) world.setting world.state events mid.state → Leads drain mid.state
+  ran_reached drain is reaches = record {
+    ran = mid.state;
+    reaches = reaches;
+    rests = ap (λ rests. rested (meaning world.content) world.setting rests mid.state) (sym is);
+  }
+
+  pub rest_reached : (drain : Bool) (result : Result W TurnFault) → drain ≡ true → mid ≡ with_state world mid.state → Reaches (meaning world.content) world.setting world.state events mid.state
+      → IfOk result (λ last. last.state ≡ goes_to) → IfOk result (λ last. Leads drain last.state)
+  rest_reached drain (Ok last) is others reaches exact = record {
+    ran = mid.state;
+    reaches = reaches;
+    rests = exact ∙ ap (λ (w : W). drained (meaning w.content) w.setting drain_limit mid.state) others
+        ∙ ap (λ rests. rested (meaning world.content) world.setting rests mid.state) (sym is);
+  }
+  rest_reached drain (Err why) is others reaches exact = tt
 
   pub rest_straight : (result : Result W TurnFault) → mid.state.has_diverged ≡ false → IfOk result (λ last. last.state.has_diverged ≡ mid.state.has_diverged) → IfOk result (λ last. last.state.has_diverged ≡ false)
   rest_straight (Ok last) straight same = same ∙ straight

@@ -24,7 +24,8 @@ use Rattle.nm_console.specs.declared.journal.JournalStop.{JournalStop}
 use Rattle.nm_console.specs.declared.command.Command.TheVariants.{Check, Replay}
 use Rattle.nm_world.specs.World.{WorldState}
 use Rattle.nm_proto.specs.declared.plan.Event.{Event}
-use Rattle.nm_console.specs.Console.{Answer, AsSaid, AsTold, IsAstray, IsAstrayBy, IsAstrayIn, IsAstrayOf, IsSoOf, DivergedRun, RunsSafely, Stores, Tells, TellsLast, TellsOver, TellsReplay, TellsRun, TellsUnopened, Unread, checked, entries_by, faulted, left_in, not_empty, opened, replay_entries, replayed, told_by, told_of, world_of}
+use Rattle.nm_console.specs.Console.{Answer, AsSaid, AsTold, IsAstray, IsAstrayBy, IsAstrayIn, IsAstrayOf, IsSoOf, DivergedRun, RunsSafely, Stores, Tells, TellsLast, TellsOver, TellsReplay, TellsRun, TellsUnopened, Unread, checked, entries_by, faulted, left_in, not_empty, opened, replay_entries, replayed, setting_of, told_by, told_of, world_of}
+use Rattle.nm_notice_laws.specs.Replays.{TellAsReplayed}
 use Rattle.nm_console.proofs.Given.{each_safe}
 
 -- a scenario that is read is within its limits
@@ -40,15 +41,21 @@ pub fault_replays : (fault : Fault) (stored : Option (List ℕ)) (status : Statu
 fault_replays fault stored status text tells =
     record { image = unwrap_or stored []; kept = some_image stored; goes = inl (record { tells = tells; stores = refl }) }
 
-module _ {Config Node : Type 0} (told : WorldState Config Node → Answer) (last : WorldState Config Node) (events : List Event) (stored mid after : Option (List ℕ)) (status : Status) (text : List ℕ) where
-  goes_so : (IsSome stored → IsSome mid) → TellsLast told last events mid after status text
-      → AsTold (told last) (Some last.entries) stored after status text ⊎ IsAstray told events stored status text
-  goes_so some (inl both) = inl (record { tells = both.0; stores = both.1 })
-  goes_so some (inr astray) = inr (record { crashed = astray.crashed; untold = λ is. astray.untold (some is); tells = astray.tells })
+module _ {Config Node : Type 0} (told : WorldState Config Node → Answer) (came so : WorldState Config Node → Type 0) (each : (last : WorldState Config Node) → came last → so last) where
+  -- what is so of each world that could be come to
+  diverged_so : (status : Status) (text : List ℕ) → DivergedRun told came status text ⊎ Unread status text → DivergedRun told so status text ⊎ Unread status text
+  diverged_so status text (inl d) = inl (record { last = d.last; has = d.has; is_so = each d.last d.is_so; tells = d.tells })
+  diverged_so status text (inr unread) = inr unread
 
-  -- a run over an empty journal
-  pub run_tells : IfSome stored (λ bytes. bytes ≡ []) → (IsSome stored → IsSome mid) → TellsLast told last events mid after status text → TellsRun told last events stored after status text
-  run_tells empty some tells = record { image = []; kept = empty; goes = goes_so some tells }
+  module _ (last : WorldState Config Node) (events : List Event) (stored mid after : Option (List ℕ)) (status : Status) (text : List ℕ) where
+    goes_so : (IsSome stored → IsSome mid) → TellsLast told came last events mid after status text
+        → AsTold (told last) (Some last.entries) stored after status text ⊎ IsAstray told so events stored status text
+    goes_so some (inl both) = inl (record { tells = both.0; stores = both.1 })
+    goes_so some (inr astray) = inr (record { crashed = astray.crashed; untold = λ is. astray.untold (some is); tells = diverged_so status text astray.tells })
+
+    -- a run over an empty journal
+    pub run_tells : IfSome stored (λ bytes. bytes ≡ []) → (IsSome stored → IsSome mid) → TellsLast told came last events mid after status text → TellsRun told so last events stored after status text
+    run_tells empty some tells = record { image = []; kept = empty; goes = goes_so some tells }
 
 -- ---- nothing is run over any other
 
@@ -77,16 +84,16 @@ full_tells : (answer : Answer) (entries : List Entry) (image : List ℕ) (stored
 full_tells answer entries [] stored after size status text is some tells same = absurd (omega (arith, is, some))
 full_tells answer entries (byte ∷ bytes) stored after size status text is some tells same = (subst (λ n. Tells (not_empty n) status text) (sym is) tells, same)
 
-module _ {Config Node : Type 0} (told : WorldState Config Node → Answer) (last : WorldState Config Node) (events : List Event) (stored after : Option (List ℕ)) where
+module _ {Config Node : Type 0} (told : WorldState Config Node → Answer) (so : WorldState Config Node → Type 0) (last : WorldState Config Node) (events : List Event) (stored after : Option (List ℕ)) where
   pub not_empty_tells : (size : ℕ) (status : Status) (text : List ℕ) → 0 < size → IfSome stored (λ bytes. size ≡ length bytes)
-      → after ≡ stored → Tells (not_empty size) status text → TellsRun told last events stored after status text
+      → after ≡ stored → Tells (not_empty size) status text → TellsRun told so last events stored after status text
   not_empty_tells size status text some held same tells =
       let both = full_tells (told last) last.entries (image_of stored size) stored after size status text (size_of stored size held) some tells same in
       record { image = image_of stored size; kept = kept_of stored size; goes = inl (record { tells = both.0; stores = both.1 }) }
 
   unopened_tells : (fault : JournalFault) (status : Status) (text : List ℕ)
       → ((size : ℕ) → fault ≡ NotEmpty size → (0 < size) × IfSome stored (λ bytes. size ≡ length bytes) × (after ≡ stored))
-      → TellsUnopened fault status text → TellsRun told last events stored after status text
+      → TellsUnopened fault status text → TellsRun told so last events stored after status text
   unopened_tells (NotEmpty size) status text opens tells = let o = opens size refl in not_empty_tells size status text o.0 o.1 o.2 tells
   unopened_tells (Damaged offset) status text opens tells = absurd tells
   unopened_tells DiskFault status text opens tells = absurd tells
@@ -96,15 +103,16 @@ module _ {Config Node : Type 0} (told : WorldState Config Node → Answer) (last
   -- the same of an answer, where there is one
   pub unopened_told : (fault : JournalFault) (result : Result Said JournalStop)
       → ((size : ℕ) → fault ≡ NotEmpty size → (0 < size) × IfSome stored (λ bytes. size ≡ length bytes) × (after ≡ stored))
-      → IfOk result (λ said. TellsUnopened fault said.status said.text.items) → IfOk result (λ said. TellsRun told last events stored after said.status said.text.items)
+      → IfOk result (λ said. TellsUnopened fault said.status said.text.items) → IfOk result (λ said. TellsRun told so last events stored after said.status said.text.items)
   unopened_told fault (Ok said) opens tells = unopened_tells fault said.status said.text.items opens tells
   unopened_told fault (Err stop) opens tells = tt
 
   -- and of a run over an empty one
-  pub run_told : (mid : Option (List ℕ)) (result : Result Said JournalStop) → IfSome stored (λ bytes. bytes ≡ []) → (IsSome stored → IsSome mid)
-      → IfOk result (λ said. TellsLast told last events mid after said.status said.text.items) → IfOk result (λ said. TellsRun told last events stored after said.status said.text.items)
-  run_told mid (Ok said) empty some tells = run_tells told last events stored mid after said.status said.text.items empty some tells
-  run_told mid (Err stop) empty some tells = tt
+  pub run_told : (came : WorldState Config Node → Type 0) → ((last : WorldState Config Node) → came last → so last) → (mid : Option (List ℕ)) (result : Result Said JournalStop)
+      → IfSome stored (λ bytes. bytes ≡ []) → (IsSome stored → IsSome mid)
+      → IfOk result (λ said. TellsLast told came last events mid after said.status said.text.items) → IfOk result (λ said. TellsRun told so last events stored after said.status said.text.items)
+  run_told came each mid (Ok said) empty some tells = run_tells told came so each last events stored mid after said.status said.text.items empty some tells
+  run_told came each mid (Err stop) empty some tells = tt
 
 -- ---- contents
 
@@ -116,7 +124,7 @@ goes_by s body image stored after status text is goes =
     subst (λ b. AsTold (told_by image b s) (entries_by image b s) stored after status text ⊎ IsAstrayBy b s stored status text) (sym is) goes
 
 pub flat_replays : (s : Scenario) (devices : List FlatState) (edits : List FlatEdit) (stored after : Option (List ℕ)) (result : Result Said JournalStop) → s.body ≡ Flat devices edits
-    → IfOk result (λ said. TellsRun (told_of flat_text edits s) (world_of flat_meaning devices edits s) s.events stored after said.status said.text.items)
+    → IfOk result (λ said. TellsRun (told_of flat_text edits s) (TellAsReplayed flat_meaning (setting_of edits s) devices) (world_of flat_meaning devices edits s) s.events stored after said.status said.text.items)
     → IfOk result (λ said. TellsReplay (Ok s) stored after said.status said.text.items)
 flat_replays s devices edits stored after (Ok said) is t =
     record { image = t.image; kept = t.kept; goes = goes_by s (Flat devices edits) t.image stored after said.status said.text.items is t.goes }
@@ -124,7 +132,7 @@ flat_replays s devices edits stored after (Err stop) is t = tt
 
 pub yang_replays : (s : Scenario) (modules : List (List ℕ)) (tree : SchemaTree) (devices : List Rows) (edits : List (List EditNode)) (stored after : Option (List ℕ)) (result : Result Said JournalStop)
     → s.body ≡ Yang modules tree devices edits
-    → IfOk result (λ said. TellsRun (told_of (yang_text tree) edits s) (world_of (yang_meaning tree) (map lifted devices) edits s) s.events stored after said.status said.text.items)
+    → IfOk result (λ said. TellsRun (told_of (yang_text tree) edits s) (TellAsReplayed (yang_meaning tree) (setting_of edits s) (map lifted devices)) (world_of (yang_meaning tree) (map lifted devices) edits s) s.events stored after said.status said.text.items)
     → IfOk result (λ said. TellsReplay (Ok s) stored after said.status said.text.items)
 yang_replays s modules tree devices edits stored after (Ok said) is t =
     record { image = t.image; kept = t.kept; goes = goes_by s (Yang modules tree devices edits) t.image stored after said.status said.text.items is t.goes }

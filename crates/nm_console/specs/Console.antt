@@ -20,7 +20,7 @@ use Rattle.nm_scenario.specs.declared.scenario.Scenario.{Scenario}
 use Rattle.nm_scenario.specs.Scenario.{ReadsBytes}
 use Rattle.nm_world.specs.World.{AreCalm, CanBegin, IsFirst, Setting, WorldState, run, start}
 use Rattle.nm_world.specs.Drain.{drain_limit, drained}
-use Rattle.nm_world.specs.Runs.{IsBetween, IsNumbered}
+use Rattle.nm_world.specs.Runs.{IsBetween, IsNumbered, Reaches}
 use Rattle.nm_safety.specs.Safe.{IsSafe}
 use Rattle.nm_commit_laws.specs.Brings.{BringsAlone}
 use Rattle.nm_commit_laws.specs.Leaves.{LeavesAlone}
@@ -33,6 +33,8 @@ use Rattle.nm_commit_laws.specs.Marks.{ArePlain, MarksTell}
 use Rattle.nm_commit_laws.specs.Stays.{MarksStay}
 use Rattle.nm_rest_laws.specs.Calm.{IsCalm, IsCommitted}
 use Rattle.nm_safety.specs.Reported.{TellsAll}
+use Rattle.nm_notice_laws.specs.Replays.{TellAsReplayed}
+use Rattle.nm_report.specs.declared.details.Details.{Details}
 use Rattle.nm_report.specs.Text.{world_text}
 use Rattle.nm_report.specs.Check.{check_text}
 use Rattle.nm_report.specs.Journal.{journal_text}
@@ -78,9 +80,19 @@ module _ {Config TheEdit Node : Type 0} (m : Meaning Config TheEdit Node) (setti
   abbrev pub led_to : List Event → Bool → WorldState Config Node → WorldState Config Node
   led_to events drain w = rested drain (run m setting w events)
 
+  -- a world that they lead to whatever crashes read of the journal, brought to rest where that is asked for
+  pub record IsLedTo (events : List Event) (drain : Bool) (w last : WorldState Config Node) : Type 0 where
+    pub ran : WorldState Config Node
+    pub reaches : Reaches m setting w events ran
+    pub rests : last ≡ rested drain ran
+
+-- what a scenario asks to be told besides the report
+abbrev pub details_of : Scenario → Details
+details_of s = record { trace = s.trace; notices = s.notices }
+
 -- the text and the status of a world
-abbrev pub world_told : {Config TheEdit Node : Type 0} → (Config → List ℕ) → Bool → Setting TheEdit → WorldState Config Node → Answer
-world_told shown trace setting w = record { status = world_status setting w; text = world_text shown trace setting w }
+abbrev pub world_told : {Config TheEdit Node : Type 0} → (Config → List ℕ) → Details → Setting TheEdit → WorldState Config Node → Answer
+world_told shown details setting w = record { status = world_status setting w; text = world_text shown details setting w }
 
 -- what a world asks of a scenario, so that its events can come: that one can begin with it, that the events name its change sets, and
 -- that there are no more operators and events than a scenario may have
@@ -106,7 +118,7 @@ opened (byte ∷ bytes) answer = not_empty (length (byte ∷ bytes))
 
 -- what is told of a world, for this scenario
 abbrev pub told_of : {Config TheEdit Node : Type 0} → (Config → List ℕ) → List TheEdit → Scenario → WorldState Config Node → Answer
-told_of shown edits s w = world_told shown s.trace (setting_of edits s) w
+told_of shown edits s w = world_told shown (details_of s) (setting_of edits s) w
 
 -- what is told of a scenario with these contents, over a journal. The configurations of YANG contents are lifted: what a device begins
 -- with lies below all that it has later
@@ -190,6 +202,8 @@ pub record IsSafeRun {Config TheEdit Node : Type 0} (m : Meaning Config TheEdit 
   pub valid : All (IsFirst m) devices
   pub safe : IsSafe m (setting_of edits s) devices s.events (world_of m devices edits s)
   pub reports : TellsAll (setting_of edits s) (world_of m devices edits s)
+  -- what is told of confirmed commits is what replaying the history of each device tells, from the configuration that it began with
+  pub notices : TellAsReplayed m (setting_of edits s) devices (world_of m devices edits s)
   -- unsettled is told of exactly what is pending or has a request on its way, as links and histories have it
   pub settles : TellsUnsettled (setting_of edits s) (world_of m devices edits s)
   -- each commit of a change set brings its own edit alone, the manager's others leave running as it was, what is refused to the manager
@@ -255,10 +269,12 @@ pub record LeavesSoFarOf (left : Option (List ℕ)) (image : List ℕ) : Type 0 
 
 -- ---- a run that a crash led astray
 
--- the manager read another list of entries than it wrote
-pub record DivergedRun {Config Node : Type 0} (told_of : WorldState Config Node → Answer) (status : Status) (text : List ℕ) : Type 0 where
+-- the manager read another list of entries than it wrote. It is told of the world that this came to, of which this is so
+pub record DivergedRun {Config Node : Type 0} (told_of : WorldState Config Node → Answer) (so : WorldState Config Node → Type 0)
+    (status : Status) (text : List ℕ) : Type 0 where
   pub last : WorldState Config Node
   pub has : last.has_diverged ≡ true
+  pub is_so : so last
   pub tells : Tells (told_of last) status text
 
 -- it couldn't read its journal from a byte on, and the run was over
@@ -267,16 +283,19 @@ pub record Unread (status : Status) (text : List ℕ) : Type 0 where
   pub tells : Tells (damaged offset) status text
 
 -- one of both, where the events have a crash and the disk doesn't tell its bytes: over one that does, a journal reads as it was written
-pub record IsAstray {Config Node : Type 0} (told_of : WorldState Config Node → Answer) (events : List Event)
-    (stored : Option (List ℕ)) (status : Status) (text : List ℕ) : Type 0 where
+pub record IsAstray {Config Node : Type 0} (told_of : WorldState Config Node → Answer) (so : WorldState Config Node → Type 0)
+    (events : List Event) (stored : Option (List ℕ)) (status : Status) (text : List ℕ) : Type 0 where
   pub crashed : AreCalm events → ⊥
   pub untold : IsSome stored → ⊥
-  pub tells : DivergedRun told_of status text ⊎ Unread status text
+  pub tells : DivergedRun told_of so status text ⊎ Unread status text
 
--- the same of a scenario with these contents, and of one that was read
+-- the same of a scenario with these contents. What is told of confirmed commits is then too what replaying the histories tells
 abbrev pub IsAstrayBy : Body → Scenario → Option (List ℕ) → Status → List ℕ → Type 0
-IsAstrayBy (Flat devices edits) s stored status text = IsAstray {Node = FlatNode} (told_of flat_text edits s) s.events stored status text
-IsAstrayBy (Yang modules tree devices edits) s stored status text = IsAstray {Node = YangNode} (told_of (yang_text tree) edits s) s.events stored status text
+IsAstrayBy (Flat devices edits) s stored status text =
+    IsAstray {Node = FlatNode} (told_of flat_text edits s) (TellAsReplayed flat_meaning (setting_of edits s) devices) s.events stored status text
+IsAstrayBy (Yang modules tree devices edits) s stored status text =
+    IsAstray {Node = YangNode} (told_of (yang_text tree) edits s) (TellAsReplayed (yang_meaning tree) (setting_of edits s) (map lifted devices))
+    s.events stored status text
 
 -- the same of a scenario as it was read; one with a fault is never astray
 abbrev pub IsAstrayIn : Result Scenario Fault → Option (List ℕ) → Status → List ℕ → Type 0
@@ -323,17 +342,17 @@ pub record TellsReplay (read : Result Scenario Fault) (stored after : Option (Li
   pub goes : AsTold (replayed image read) (replay_entries image read) stored after status text ⊎ IsAstrayIn read stored status text
 
 -- the same of a run to a last world
-pub record TellsRun {Config Node : Type 0} (told_of : WorldState Config Node → Answer) (last : WorldState Config Node)
-    (events : List Event) (stored after : Option (List ℕ)) (status : Status) (text : List ℕ) : Type 0 where
+pub record TellsRun {Config Node : Type 0} (told_of : WorldState Config Node → Answer) (so : WorldState Config Node → Type 0)
+    (last : WorldState Config Node) (events : List Event) (stored after : Option (List ℕ)) (status : Status) (text : List ℕ) : Type 0 where
   pub image : List ℕ
   pub kept : IfSome stored (λ told. told ≡ image)
-  pub goes : AsTold (opened image (told_of last)) (left_in image last.entries) stored after status text ⊎ IsAstray told_of events stored status text
+  pub goes : AsTold (opened image (told_of last)) (left_in image last.entries) stored after status text ⊎ IsAstray told_of so events stored status text
 
 -- and of one that began over an empty journal
-abbrev pub TellsLast : {Config Node : Type 0} → (WorldState Config Node → Answer) → WorldState Config Node → List Event
-    → Option (List ℕ) → Option (List ℕ) → Status → List ℕ → Type 0
-TellsLast told_of last events stored after status text =
-    (Tells (told_of last) status text × IfSome after (ReadsAs last.entries)) ⊎ IsAstray told_of events stored status text
+abbrev pub TellsLast : {Config Node : Type 0} → (WorldState Config Node → Answer) → (WorldState Config Node → Type 0) → WorldState Config Node
+    → List Event → Option (List ℕ) → Option (List ℕ) → Status → List ℕ → Type 0
+TellsLast told_of so last events stored after status text =
+    (Tells (told_of last) status text × IfSome after (ReadsAs last.entries)) ⊎ IsAstray told_of so events stored status text
 
 -- what is told where the journal couldn't be opened: it isn't empty
 abbrev pub TellsUnopened : JournalFault → Status → List ℕ → Type 0

@@ -11,8 +11,9 @@ ghost use Rattle.nm_manager.specs.declared.action.TurnFault.TheVariants as turn_
 ghost use Rattle.nm_world.specs.Runs.{HasTime, IsBetween, IsNumbered, IsReady, NoneStrange};
 ghost use Rattle.nm_world.specs.World.{AreCalm, start, with_state};
 ghost use Rattle.nm_content.specs.Meaning.{lifted};
+ghost use Rattle.nm_notice_laws.specs.Replays.{TellAsReplayed};
 ghost use Rattle.nm_scenario_laws.specs.Kept.{DataKeeps, ScenarioKeeps};
-ghost use Rattle.nm_console.specs.Console.{CanRun, IsSoOf, LeavesSoFar, LeavesSoFarBy, Tells, TellsLast, TellsReplay, TellsRun, TellsUnopened, led_to, not_empty, world_told};
+ghost use Rattle.nm_console.specs.Console.{CanRun, IsLedTo, IsSoOf, LeavesSoFar, LeavesSoFarBy, Tells, TellsLast, TellsReplay, TellsRun, TellsUnopened, led_to, not_empty, world_told};
 
 use crate::journal::{JournalStop, say_damaged};
 use crate::refusal::write_not_empty;
@@ -27,7 +28,7 @@ use nm_journal::{Journal, JournalFault};
 use nm_manager::TurnFault;
 use nm_overlay::Overlay;
 use nm_proto::{ChangePlan, Event, Listed, Show, Tables};
-use nm_report::write_world;
+use nm_report::{Details, write_world};
 use nm_scenario::{Body, ReadError, Scenario, read_last_scenario};
 use nm_world::{Setup, World};
 use std::alloc::Global;
@@ -75,7 +76,9 @@ fn say_scenario<D: Disk>(
         selects,
         drain,
         trace,
+        notices,
     } = scenario;
+    let details = Details { trace, notices };
     match body {
         Body::Flat { devices, edits } => say_contents(
             alloc,
@@ -86,7 +89,7 @@ fn say_scenario<D: Disk>(
             operators,
             events.as_slice(),
             drain,
-            trace,
+            details,
             disk,
         ),
         Body::Yang {
@@ -105,7 +108,7 @@ fn say_scenario<D: Disk>(
                 operators,
                 events.as_slice(),
                 drain,
-                trace,
+                details,
                 disk,
             )
         }
@@ -138,11 +141,12 @@ fn say_contents<C: Show + Drop, D: Disk>(
     users: Listed<Label>,
     events: &[Event],
     drain: bool,
-    trace: bool,
+    details: Details,
     disk: &mut D,
 ) -> Result<Said, JournalStop>
     requires { CanRun (C.Content.meaning content) (record { tables = tables; plans = changes; users = users }) devices events.now }
-    ensures told { IfOk result (λ said. TellsRun (world_told (C.shown content) trace (record { tables = tables; plans = changes; users = users }))
+    ensures told { IfOk result (λ said. TellsRun (world_told (C.shown content) details (record { tables = tables; plans = changes; users = users }))
+        (TellAsReplayed (C.Content.meaning content) (record { tables = tables; plans = changes; users = users }) devices)
         (led_to (C.Content.meaning content) (record { tables = tables; plans = changes; users = users }) events.now drain
         (start (record { tables = tables; plans = changes; users = users }) devices))
         events.now (D.state disk.old).contents (D.state disk.new).contents said.status said.text.items) }
@@ -156,7 +160,7 @@ fn say_contents<C: Show + Drop, D: Disk>(
         Ok(journal) => {
             let setup = Setup::share(alloc, content, tables, changes, users, devices)?;
             let world = World::new(alloc, setup, journal)?;
-            say_run(alloc, world, events, drain, trace, disk)
+            say_run(alloc, world, events, drain, details, disk)
         }
         Err(fault) => say_unopened(alloc, &fault),
     }
@@ -196,7 +200,7 @@ fn say_run<C: Show + Drop, D: Disk>(
     world: World<C>,
     events: &[Event],
     drain: bool,
-    trace: bool,
+    details: Details,
     disk: &mut D,
 ) -> Result<Said, JournalStop>
     requires given { All (IsNumbered (length world.setting.plans)) events.now }
@@ -205,7 +209,8 @@ fn say_run<C: Show + Drop, D: Disk>(
     requires straight { world.state.has_diverged ≡ false }
     requires known { NoneStrange world.setting.plans world.state.entries }
     requires ready { IsReady world (D.state disk.old) }
-    ensures told { IfOk result (λ said. TellsLast (world_told (C.shown world.content) trace world.setting)
+    ensures told { IfOk result (λ said. TellsLast (world_told (C.shown world.content) details world.setting)
+        (IsLedTo (C.Content.meaning world.content) world.setting events.now drain world.state)
         (led_to (C.Content.meaning world.content) world.setting events.now drain world.state)
         events.now (D.state disk.old).contents (D.state disk.new).contents said.status said.text.items) }
     ensures disk_fault { IsErrOf result JournalStop.DiskFault → Rose (D.state disk.old).faults (D.state disk.new).faults }
@@ -214,7 +219,7 @@ fn say_run<C: Show + Drop, D: Disk>(
         (IsBetween world.state.entries (led_to (C.Content.meaning world.content) world.setting events.now drain world.state).entries) }
 {
     match lead(world, events, drain, disk) {
-        Ok(last) => Ok(say_last(alloc, trace, last)?),
+        Ok(last) => Ok(say_last(alloc, details, last)?),
         Err(TurnFault::DiskFault) => Err(JournalStop::DiskFault),
         Err(TurnFault::Damaged { offset }) => say_damaged(alloc, offset),
         Err(TurnFault::NoMemory) => Err(JournalStop::NoMemory),
@@ -237,6 +242,8 @@ fn lead<C: Show + Drop, D: Disk>(
     ensures done { IfOk result (λ last. last.state.has_diverged ≡ false
         → last ≡ with_state world (led_to (C.Content.meaning world.content) world.setting events.now drain world.state)) }
     ensures others { IfOk result (λ last. last ≡ with_state world last.state) }
+    // Whatever crashes read, the last world is one that the events lead to.
+    ensures reached { IfOk result (λ last. IsLedTo (C.Content.meaning world.content) world.setting events.now drain world.state last.state) }
     ensures straight { IsSome (D.state disk.old).contents → IfOk result (λ last. last.state.has_diverged ≡ false) }
     ensures calm { AreCalm events.now → IfOk result (λ last. last.state.has_diverged ≡ false) }
     ensures read { AreCalm events.now → (offset : ℕ) → result ≡ Err (turn_fault.Damaged offset) → ⊥ }
@@ -253,20 +260,28 @@ fn lead<C: Show + Drop, D: Disk>(
 
 // The text and the status of a world after which nothing but the writing of the answer follows in this process: its memory is the
 // end's to give back.
-fn say_last<C: Show + Drop>(alloc: Global, trace: bool, last: World<C>) -> Result<Said, NoMemory>
-    ensures { IfOk result (λ said. Tells (world_told (C.shown last.content) trace last.setting last.state) said.status said.text.items) }
+fn say_last<C: Show + Drop>(
+    alloc: Global,
+    details: Details,
+    last: World<C>,
+) -> Result<Said, NoMemory>
+    ensures { IfOk result (λ said. Tells (world_told (C.shown last.content) details last.setting last.state) said.status said.text.items) }
 {
-    let said = say_world(alloc, trace, &last);
+    let said = say_world(alloc, details, &last);
     forget(last);
     said
 }
 
 // The text and the status of a world.
-fn say_world<C: Show + Drop>(alloc: Global, trace: bool, world: &World<C>) -> Result<Said, NoMemory>
-    ensures { IfOk result (λ said. Tells (world_told (C.shown world.now.content) trace world.now.setting world.now.state) said.status said.text.items) }
+fn say_world<C: Show + Drop>(
+    alloc: Global,
+    details: Details,
+    world: &World<C>,
+) -> Result<Said, NoMemory>
+    ensures { IfOk result (λ said. Tells (world_told (C.shown world.now.content) details world.now.setting world.now.state) said.status said.text.items) }
 {
     let report = world.report()?;
     let status = status_for(report.unsettled.as_slice(), report.differ.as_slice());
-    let text = write_world(alloc, trace, world, &report)?;
+    let text = write_world(alloc, details, world, &report)?;
     Ok(Said { status, text })
 }

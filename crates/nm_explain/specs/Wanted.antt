@@ -31,7 +31,8 @@ of_outer_member name =
     if bytes_eq name (codes "faults") then codes "wanted: an empty list" else (
     if bytes_eq name (codes "events") then codes "wanted: a list of events, each a word with its arguments" else (
     if bytes_eq name (codes "drain") then codes "wanted: true or false" else (
-    if bytes_eq name (codes "trace") then codes "wanted: true or false" else elsewhere))))
+    if bytes_eq name (codes "trace") then codes "wanted: true or false" else (
+    if bytes_eq name (codes "notices") then codes "wanted: true or false" else elsewhere)))))
 
 -- what is wanted of members of change sets, of edits and of operators
 unfoldable pub of_inner_member : List ℕ → List ℕ

@@ -68,6 +68,7 @@ fn of_outer_member(name: &str) -> &'static str
         "events" => "wanted: a list of events, each a word with its arguments",
         "drain" => "wanted: true or false",
         "trace" => "wanted: true or false",
+        "notices" => "wanted: true or false",
         _ => "docs/FORMATS.md has what may stand here",
     }
 }

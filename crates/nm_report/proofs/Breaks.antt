@@ -1,7 +1,8 @@
--- Where lines end in a trace: at the end of each event's words, and nowhere within them.
+-- Where lines end in a trace and in what is told of confirmed commits: at the end of the words of each event and of each notice, and
+-- nowhere within them.
 use Rattle.std.proofs.Common.{◌≡◌, ℕ, zero, suc, ◌+◌, ◌/◌, ◌%◌, List, [], ◌∷◌, ◌++◌, length, Bool, true, false, eqb, ltb, Option, Some, None, refl, ap, ◌∙◌, arith, inl, inr, append_assoc}
 use Rattle.std.specs.Prelude.{filter, codes, decimal}
-use Rattle.std.specs.List.{list_any}
+use Rattle.std.specs.List.{flat_map, list_any}
 use Rattle.std.specs.Fmt.{digit_glyph, digits_onto, digits}
 use Rattle.std.proofs.lemmas.Bool.{cases_Bool, false_from_ne_true, eqb-true}
 use Rattle.nm_lines.specs.Printed.{is_break}
@@ -25,7 +26,13 @@ use Rattle.nm_proto.specs.declared.journal.Verdict.TheVariants as verdict
 use Rattle.nm_world.specs.declared.happened.Happened.{Happened}
 use Rattle.nm_world.specs.declared.happened.Happened.TheVariants as happened
 use Rattle.nm_world.specs.declared.happened.TraceEntry.{TraceEntry}
-use Rattle.nm_report.specs.Trace.{store_word, store_text, request_text, session_text, path_text, truth_text, error_text, reply_text, refused_text, cause_text, verdict_text, undone_text, sent_text, happened_text, trace_line, trace_lines}
+use Rattle.nm_history.specs.declared.event.Noted.{Noted}
+use Rattle.nm_notify.specs.declared.notice.ConfirmEvent.{ConfirmEvent}
+use Rattle.nm_notify.specs.declared.notice.ConfirmEvent.TheVariants.{Start, Cancel, Timeout, Extend, Complete}
+use Rattle.nm_notify.specs.declared.notice.Notice.{Notice}
+use Rattle.nm_notify.specs.Notices.{notices_in}
+use Rattle.nm_report.specs.Notices.{event_word, notice_place, notice_words, notice_line, device_notices}
+use Rattle.nm_report.specs.Trace.{store_word, store_text, request_text, session_text, timeout_text, path_text, truth_text, error_text, reply_text, refused_text, cause_text, verdict_text, undone_text, sent_text, happened_text, trace_line, trace_lines}
 
 -- no line ends in a text
 abbrev IsWithin : List ℕ → Type 0
@@ -177,6 +184,28 @@ of_event (happened.Restarted undone) = of_undone undone
 of_event happened.Forgot = refl
 of_event happened.Crashed = refl
 
+of_change : (event : ConfirmEvent) → IsWithin (event_word event)
+of_change Start = refl
+of_change Cancel = refl
+of_change Timeout = refl
+of_change Extend = refl
+of_change Complete = refl
+
+of_timeout : (timeout : Option ℕ) → IsWithin (timeout_text timeout)
+of_timeout None = refl
+of_timeout (Some seconds) = number seconds
+
+of_place : (device position : ℕ) → IsWithin (notice_place device position)
+unfolding notice_place
+of_place device position =
+    joined (decimal device ++ codes " ") (decimal position) (joined (decimal device) (codes " ") (number device) refl) (number position)
+
+of_words : (notice : Notice) → IsWithin (notice_words notice)
+unfolding notice_words
+of_words notice =
+    joined (event_word notice.event ++ session_text notice.session) (timeout_text notice.timeout)
+    (joined (event_word notice.event) (session_text notice.session) (of_change notice.event) (of_session notice.session)) (of_timeout notice.timeout)
+
 -- ---- lines
 
 within_then : (text rest : List ℕ) → IsWithin text → filter is_break (text ++ rest) ≡ filter is_break rest
@@ -196,3 +225,19 @@ pub lines_counted : (n : ℕ) (trail : List TraceEntry) → length (filter is_br
 lines_counted n [] = refl
 lines_counted n (passed ∷ trail) =
     ap (λ (l : List ℕ). length l) (line_then n passed.happened (trace_lines (n + 1) trail)) ∙ ap suc (lines_counted (n + 1) trail)
+
+notice_then : (device : ℕ) (notice : Notice) (rest : List ℕ) → filter is_break (notice_line device notice ++ rest) ≡ 10 ∷ filter is_break rest
+unfolding notice_line
+notice_then device notice rest =
+    let words = notice_place device notice.position ++ notice_words notice in
+    let within = joined (notice_place device notice.position) (notice_words notice) (of_place device notice.position) (of_words notice) in
+    ap (filter is_break) (append_assoc words (codes "\n") rest) ∙ within_then words (codes "\n" ++ rest) within
+
+each_counted : (device : ℕ) (notices : List Notice) → length (filter is_break (flat_map (notice_line device) notices)) ≡ length notices
+each_counted device [] = refl
+each_counted device (notice ∷ notices) =
+    ap (λ (l : List ℕ). length l) (notice_then device notice (flat_map (notice_line device) notices)) ∙ ap suc (each_counted device notices)
+
+pub notices_counted : (device : ℕ) (history : List Noted) → length (filter is_break (device_notices device history)) ≡ length (notices_in history)
+unfolding device_notices
+notices_counted device history = each_counted device (notices_in history)

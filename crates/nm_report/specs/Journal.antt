@@ -1,12 +1,12 @@
 -- The text of a journal (this project's own). Each line ends with one newline.
-use Rattle.std.specs.Prelude.{ℕ, ◌==◌, List, [], ◌++◌, Option, Some, None, codes, decimal, if◌then◌else◌}
+use Rattle.std.specs.Prelude.{ℕ, ◌==◌, List, [], ◌++◌, codes, decimal, if◌then◌else◌}
 use Rattle.std.specs.List.{flat_map}
 use Rattle.std.proofs.Common.{zero, suc}
 use Rattle.nm_base.specs.Mask.{mask_contains}
 use Rattle.nm_proto.specs.declared.journal.Entry.{Entry}
 use Rattle.nm_proto.specs.declared.journal.Entry.TheVariants.{Started, Decided, Ended}
 use Rattle.nm_recovery.specs.Recovery.{is_started}
-use Rattle.nm_report.specs.Trace.{verdict_text}
+use Rattle.nm_report.specs.Trace.{timeout_text, verdict_text}
 use Rattle.nm_report.specs.Text.{change_line}
 
 -- what each number from 1 to the last one writes, in order
@@ -25,11 +25,6 @@ members_text mask = up_to (member_text mask) 32
 -- the same, or that there is none
 abbrev pub kept_text : ℕ → List ℕ
 kept_text mask = if mask == 0 then codes " none" else members_text mask
-
--- how long a change set's confirmed commits wait, in seconds, where its record tells
-abbrev pub timeout_text : Option ℕ → List ℕ
-timeout_text None = []
-timeout_text (Some seconds) = codes " timeout " ++ decimal seconds
 
 -- an entry of a journal in words
 abbrev pub entry_text : Entry → List ℕ

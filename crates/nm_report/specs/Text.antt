@@ -18,7 +18,9 @@ use Rattle.nm_world.specs.declared.report.Pair.{Pair}
 use Rattle.nm_world.specs.declared.report.Report.{Report}
 use Rattle.nm_world.specs.World.{Setting, WorldState}
 use Rattle.nm_world.specs.Report.{report_of}
+use Rattle.nm_report.specs.declared.details.Details.{Details}
 use Rattle.nm_report.specs.Trace.{trace_text, verdict_text}
+use Rattle.nm_report.specs.Notices.{notices_text}
 
 -- the first line, which names the version of the form
 abbrev pub heading : List ℕ
@@ -60,18 +62,25 @@ ended_text false = []
 abbrev pub state_text : Bool → Option Verdict → Bool → List ℕ
 state_text submitted verdict ended = if submitted then decided_text verdict ++ ended_text ended else codes "unsubmitted"
 
+-- the line of a change set, by whether it was submitted, its verdict, and whether the manager is done with it
+unfoldable pub change_line_of : ℕ → Bool → Option Verdict → Bool → List ℕ
+change_line_of change submitted verdict ended = codes "change " ++ decimal change ++ codes " " ++ state_text submitted verdict ended ++ codes "\n"
+
 -- the line of a change set, by what the journal has of it
 unfoldable pub change_line : ℕ → List Entry → List ℕ
-change_line change entries = codes "change " ++ decimal change ++ codes " "
-    ++ state_text (is_started change entries) (verdict_in change entries) (is_ended_in change entries) ++ codes "\n"
+change_line change entries = change_line_of change (is_started change entries) (verdict_in change entries) (is_ended_in change entries)
 
 -- a change set and a device
 abbrev pub pair_text : ℕ → ℕ → List ℕ
 pair_text change device = codes " " ++ decimal change ++ codes " " ++ decimal device
 
+-- what became of a change set at a device, by the word for it
+abbrev pub outcome_line_of : ℕ → ℕ → List ℕ → List ℕ
+outcome_line_of change device word = codes "outcome" ++ pair_text change device ++ codes " " ++ word ++ codes "\n"
+
 -- the outcome of a change set at a device
 abbrev pub outcome_line : ℕ → ℕ → Outcome → List ℕ
-outcome_line change device outcome = codes "outcome" ++ pair_text change device ++ codes " " ++ outcome_word outcome ++ codes "\n"
+outcome_line change device outcome = outcome_line_of change device (outcome_word outcome)
 
 -- the same where the device is one of the change set, read from its history
 unfoldable pub outcome_text : ℕ → ℕ → ℕ → List Noted → List ℕ
@@ -113,8 +122,9 @@ pair_lines word (pair ∷ pairs) = flat_map (pair_line word) (pair ∷ pairs)
 abbrev pub report_text : Report → List ℕ
 report_text report = pair_lines (codes "differ") report.differ ++ pair_lines (codes "unsettled") report.unsettled
 
--- the text of a world: what came of each event, each change set, the running configurations, and what is reported
-abbrev pub world_text : {Config TheEdit Node : Type 0} → (Config → List ℕ) → Bool → Setting TheEdit → WorldState Config Node → List ℕ
-world_text shown trace setting w =
-    start_text trace w.trail ++ change_texts w.devices w.entries 1 setting.plans
-    ++ running_lines shown 1 (running_of w.devices) ++ report_text (report_of setting w)
+-- the text of a world: what came of each event, each change set, the running configurations, what is reported, and what each device
+-- tells of confirmed commits
+abbrev pub world_text : {Config TheEdit Node : Type 0} → (Config → List ℕ) → Details → Setting TheEdit → WorldState Config Node → List ℕ
+world_text shown details setting w =
+    start_text details.trace w.trail ++ change_texts w.devices w.entries 1 setting.plans
+    ++ running_lines shown 1 (running_of w.devices) ++ report_text (report_of setting w) ++ notices_text details.notices w.devices

@@ -38,6 +38,11 @@ abbrev pub session_text : Option ℕ → List ℕ
 session_text None = []
 session_text (Some session) = codes " session " ++ decimal session
 
+-- how long confirmed commits wait, in seconds, where that is told
+abbrev pub timeout_text : Option ℕ → List ℕ
+timeout_text None = []
+timeout_text (Some seconds) = codes " timeout " ++ decimal seconds
+
 -- the path that an error names, where it names one
 abbrev pub path_text : Option (List ℕ) → List ℕ
 path_text None = []

@@ -6,8 +6,10 @@ ghost use Rattle.nm_base.specs.Token.{token_of};
 ghost use Rattle.nm_proto.specs.Plan.{devices_in};
 ghost use Rattle.nm_recovery.specs.Recovery.{is_started, verdict_in, is_ended_in};
 ghost use Rattle.nm_world.specs.Report.{report_of};
-ghost use Rattle.nm_report.specs.Text.{decided_text, ended_text, state_text, change_line, change_text, change_texts, pair_text, outcome_line, outcome_text, outcome_texts, pair_line, pair_lines, outcome_word, report_text, start_text, running_lines, running_of, world_text};
+ghost use Rattle.nm_report.specs.Text.{decided_text, ended_text, state_text, change_line, change_line_of, change_text, change_texts, pair_text, outcome_line, outcome_line_of, outcome_text, outcome_texts, pair_line, pair_lines, outcome_word, report_text, start_text, running_lines, running_of, world_text};
 
+use crate::details::Details;
+use crate::notice_text::write_notices;
 use crate::text::{HEADING, put, write_devices_running};
 use crate::trace::{write_trace, write_verdict};
 use nm_base::token::token_of;
@@ -23,22 +25,47 @@ use std::alloc::Global;
 pub fn write_change(out: &mut Vec<u8>, change: ChangeNo, entries: &[Entry]) -> Result<(), NoMemory>
     ensures { OnOk result (out.new.items ≡ out.old.items ++ change_line change entries.now) }
 {
+    let verdict = verdict_in(entries, change);
+    write_change_line(
+        out,
+        change,
+        is_started(entries, change),
+        &verdict,
+        is_ended_in(entries, change),
+    )
+}
+
+/// The line of a change set, by whether it was submitted, its verdict, and whether the manager is done with it.
+#[tactic(auto, unfolding(crate::specs::Text::change_line_of))]
+pub fn write_change_line(
+    out: &mut Vec<u8>,
+    change: ChangeNo,
+    submitted: bool,
+    verdict: &Option<Verdict>,
+    ended: bool,
+) -> Result<(), NoMemory>
+    ensures { OnOk result (out.new.items ≡ out.old.items ++ change_line_of change submitted verdict.now ended) }
+{
     put(out, "change ")?;
     write_decimal(u64::from(change.get()), out)?;
     put(out, " ")?;
-    write_state(out, change, entries)?;
+    write_state(out, submitted, verdict, ended)?;
     put(out, "\n")
 }
 
-fn write_state(out: &mut Vec<u8>, change: ChangeNo, entries: &[Entry]) -> Result<(), NoMemory>
-    ensures { OnOk result (out.new.items
-        ≡ out.old.items ++ state_text (is_started change entries.now) (verdict_in change entries.now) (is_ended_in change entries.now)) }
+fn write_state(
+    out: &mut Vec<u8>,
+    submitted: bool,
+    verdict: &Option<Verdict>,
+    ended: bool,
+) -> Result<(), NoMemory>
+    ensures { OnOk result (out.new.items ≡ out.old.items ++ state_text submitted verdict.now ended) }
 {
-    if !is_started(entries, change) {
+    if !submitted {
         return put(out, "unsubmitted");
     }
-    write_decided(out, &verdict_in(entries, change))?;
-    put(out, ended_word(is_ended_in(entries, change)))
+    write_decided(out, verdict)?;
+    put(out, ended_word(ended))
 }
 
 fn write_decided(out: &mut Vec<u8>, verdict: &Option<Verdict>) -> Result<(), NoMemory>
@@ -77,6 +104,22 @@ fn word_of(outcome: Outcome) -> &'static str
     }
 }
 
+/// What became of a change set at a device, by the word for it.
+pub fn write_outcome_line(
+    out: &mut Vec<u8>,
+    change: ChangeNo,
+    device: DeviceNo,
+    word: &str,
+) -> Result<(), NoMemory>
+    ensures { OnOk result (out.new.items ≡ out.old.items ++ outcome_line_of change device word.now) }
+{
+    put(out, "outcome")?;
+    write_pair(out, change, device)?;
+    put(out, " ")?;
+    put(out, word)?;
+    put(out, "\n")
+}
+
 fn write_outcome(
     out: &mut Vec<u8>,
     change: ChangeNo,
@@ -85,11 +128,7 @@ fn write_outcome(
 ) -> Result<(), NoMemory>
     ensures { OnOk result (out.new.items ≡ out.old.items ++ outcome_line change device outcome) }
 {
-    put(out, "outcome")?;
-    write_pair(out, change, device)?;
-    put(out, " ")?;
-    put(out, word_of(outcome))?;
-    put(out, "\n")
+    write_outcome_line(out, change, device, word_of(outcome))
 }
 
 // The outcome at the device of a number, where it is one of the change set.
@@ -224,8 +263,8 @@ fn write_pairs(out: &mut Vec<u8>, word: &str, pairs: &[Pair]) -> Result<(), NoMe
     }
 }
 
-// The devices that differ and those that aren't settled.
-fn write_report(out: &mut Vec<u8>, report: &Report) -> Result<(), NoMemory>
+/// The devices that differ and those that aren't settled.
+pub fn write_report(out: &mut Vec<u8>, report: &Report) -> Result<(), NoMemory>
     ensures { OnOk result (out.new.items ≡ out.old.items ++ report_text report.now) }
 {
     write_pairs(out, "differ", report.differ.as_slice())?;
@@ -242,21 +281,23 @@ fn write_start(out: &mut Vec<u8>, trace: bool, trail: &[TraceEntry]) -> Result<(
 }
 
 /// The text of a world and of what is reported of it: what came of each event where that is asked for, each change set with
-/// its outcomes, the running configurations, and the devices that the report names.
+/// its outcomes, the running configurations, the devices that the report names, and what each device tells of confirmed commits
+/// where that is asked for.
 pub fn write_world<C: Show + Drop>(
     alloc: Global,
-    trace: bool,
+    details: Details,
     world: &World<C>,
     report: &Report,
 ) -> Result<Vec<u8>, NoMemory>
     requires { report.now ≡ report_of world.now.setting world.now.state }
-    ensures { IfOk result (λ text. text.items ≡ world_text (C.shown world.now.content) trace world.now.setting world.now.state) }
+    ensures { IfOk result (λ text. text.items ≡ world_text (C.shown world.now.content) details world.now.setting world.now.state) }
 {
     let mut text = Vec::new(alloc);
     let out = &mut text;
-    write_start(out, trace, world.trail())?;
+    write_start(out, details.trace, world.trail())?;
     write_change_sets(alloc, out, world.plans(), world.devices(), world.entries())?;
     write_devices_running(out, world.content(), world.devices())?;
     write_report(out, report)?;
+    write_notices(alloc, out, details.notices, world.devices())?;
     Ok(text)
 }

@@ -2,11 +2,11 @@
 
 ghost use Rattle.std.specs.Prelude.{◌≡◌, ◌≤◌, ◌++◌, decimal, IfOk, OnOk};
 ghost use Rattle.std.specs.List.{flat_map};
-ghost use Rattle.nm_report.specs.Journal.{entry_line, entry_text, journal_text, kept_text, line_if_started, member_text, members_text, timeout_text, up_to};
+ghost use Rattle.nm_report.specs.Journal.{entry_line, entry_text, journal_text, kept_text, line_if_started, member_text, members_text, up_to};
 
 use crate::change_text::write_change;
 use crate::text::put;
-use crate::trace::write_verdict;
+use crate::trace::{write_timeout, write_verdict};
 use nm_base::{ChangeNo, DeviceMask, DeviceNo, NoMemory, write_decimal};
 use nm_proto::{Entry, Verdict};
 use nm_recovery::is_started;
@@ -90,19 +90,6 @@ fn write_change_number(out: &mut Vec<u8>, word: &str, change: ChangeNo) -> Resul
     put(out, word)?;
     write_decimal(u64::from(change.get()), out)?;
     Ok(())
-}
-
-fn write_timeout(out: &mut Vec<u8>, timeout: Option<u32>) -> Result<(), NoMemory>
-    ensures { OnOk result (out.new.items ≡ out.old.items ++ timeout_text timeout) }
-{
-    match timeout {
-        Some(seconds) => {
-            put(out, " timeout ")?;
-            write_decimal(u64::from(seconds), out)?;
-            Ok(())
-        }
-        None => Ok(()),
-    }
 }
 
 fn write_kept(out: &mut Vec<u8>, kept: DeviceMask) -> Result<(), NoMemory>

@@ -1,7 +1,7 @@
 //! What came of each event, as text.
 
 ghost use Rattle.std.specs.Prelude.{◌≡◌, ◌++◌, OnOk, decimal, codes};
-ghost use Rattle.nm_report.specs.Trace.{store_word, store_text, request_text, session_text, path_text, truth_text, error_text, reply_text, refused_text, cause_text, verdict_text, undone_text, ended_so, sent_text, happened_text, trace_line, trace_lines, trace_text};
+ghost use Rattle.nm_report.specs.Trace.{store_word, store_text, request_text, session_text, timeout_text, path_text, truth_text, error_text, reply_text, refused_text, cause_text, verdict_text, undone_text, ended_so, sent_text, happened_text, trace_line, trace_lines, trace_text};
 
 use crate::text::put;
 use nm_base::{DeviceNo, Label, NoMemory, Tag, write_decimal};
@@ -47,11 +47,20 @@ fn write_number(out: &mut Vec<u8>, word: &str, number: u32) -> Result<(), NoMemo
     Ok(())
 }
 
-fn write_session(out: &mut Vec<u8>, session: Option<u32>) -> Result<(), NoMemory>
+pub(crate) fn write_session(out: &mut Vec<u8>, session: Option<u32>) -> Result<(), NoMemory>
     ensures { OnOk result (out.new.items ≡ out.old.items ++ session_text session) }
 {
     match session {
         Some(session) => write_number(out, " session ", session),
+        None => Ok(()),
+    }
+}
+
+pub(crate) fn write_timeout(out: &mut Vec<u8>, timeout: Option<u32>) -> Result<(), NoMemory>
+    ensures { OnOk result (out.new.items ≡ out.old.items ++ timeout_text timeout) }
+{
+    match timeout {
+        Some(seconds) => write_number(out, " timeout ", seconds),
         None => Ok(()),
     }
 }

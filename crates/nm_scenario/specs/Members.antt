@@ -24,17 +24,18 @@ knows_scenario name =
     bytes_eq name (codes "netm") || bytes_eq name (codes "contents") || bytes_eq name (codes "modules")
     || bytes_eq name (codes "devices") || bytes_eq name (codes "changes") || bytes_eq name (codes "operators")
     || bytes_eq name (codes "faults") || bytes_eq name (codes "events") || bytes_eq name (codes "drain") || bytes_eq name (codes "trace")
+    || bytes_eq name (codes "notices")
 
 -- what makes members of what each says. No faults of links are built
 abbrev pub Makes : Type 0 → Type 0 → Type 0
-Makes C E = List C → List (ReadChange E) → List (List ℕ) → Unit {0} → List (ReadEvent E) → Bool → Bool → Members C E
+Makes C E = List C → List (ReadChange E) → List (List ℕ) → Unit {0} → List (ReadEvent E) → Bool → Bool → Bool → Members C E
 
 -- the members of a scenario from what each of them says
 abbrev pub makes : {C E : Type 0} → Makes C E
-makes devices changes operators faults events drain trace = record {
+makes devices changes operators faults events drain trace notices = record {
   devices = devices;
   changes = changes;
-  rest = record { operators = operators; events = events; drain = drain; trace = trace };
+  rest = record { operators = operators; events = events; drain = drain; trace = trace; notices = notices };
 }
 
 -- the members, in a scenario of so many change sets, devices and operators
@@ -46,7 +47,8 @@ member_parts config edit counts =
     (optional (codes "faults") tt (nothing NotBuilt)
     (optional (codes "events") [] (events_form (leaf edit) counts)
     (optional (codes "drain") false switch
-    (optional (codes "trace") false switch done))))))
+    (optional (codes "trace") false switch
+    (optional (codes "notices") false switch done)))))))
 
 -- the counts are those of the members as they stand there, whatever is wrong with them
 unfoldable pub members_form : {C E : Type 0} → (Data → Result C Cause) → (Data → Result E Cause) → Form (Members C E)

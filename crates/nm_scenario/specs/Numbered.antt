@@ -16,4 +16,5 @@ numbered changes rest = record {
   selects = selects_of_events rest.events;
   drain = rest.drain;
   trace = rest.trace;
+  notices = rest.notices;
 }

@@ -38,8 +38,16 @@ use Rattle.nm_scenario.specs.Numbered.{numbered}
 
 -- the scenario of what is numbered, with these contents
 abbrev pub scenario_of : {E : Type 0} → (List E → Body) → Numbered E → Scenario
-scenario_of body n =
-    record { body = body n.edits; changes = n.changes; operators = n.operators; events = n.events; selects = n.selects; drain = n.drain; trace = n.trace }
+scenario_of body n = record {
+  body = body n.edits;
+  changes = n.changes;
+  operators = n.operators;
+  events = n.events;
+  selects = n.selects;
+  drain = n.drain;
+  trace = n.trace;
+  notices = n.notices;
+}
 
 -- the scenario of members, with these contents
 abbrev pub scenario_with : {C E : Type 0} → (List C → List E → Body) → Members C E → Scenario

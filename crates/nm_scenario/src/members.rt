@@ -39,6 +39,7 @@ pub struct Rest<E> {
     pub events: Listed<ReadEvent<E>>,
     pub drain: bool,
     pub trace: bool,
+    pub notices: bool,
 }
 
 #[derive(Drop)]
@@ -58,6 +59,7 @@ impl KnownNames for ScenarioNames {
             || name == "events"
             || name == "drain"
             || name == "trace"
+            || name == "notices"
     }
 }
 
@@ -113,6 +115,7 @@ pub fn read_members<W: Written>(
     let events = optional(alloc, whole, "events", Listed::new(alloc), &events)?;
     let drain = optional(alloc, whole, "drain", false, &Switch)?;
     let trace = optional(alloc, whole, "trace", false, &Switch)?;
+    let notices = optional(alloc, whole, "notices", false, &Switch)?;
     no_other_names(alloc, whole, &ScenarioNames)?;
     Ok(Members {
         devices,
@@ -122,6 +125,7 @@ pub fn read_members<W: Written>(
             events,
             drain,
             trace,
+            notices,
         },
     })
 }

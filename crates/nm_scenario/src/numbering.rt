@@ -21,6 +21,7 @@ pub struct Numbered<E> {
     pub selects: Listed<Listed<Label>>,
     pub drain: bool,
     pub trace: bool,
+    pub notices: bool,
 }
 
 /// Gives the edits and the selections of what was read numbers. The edits of the events come after those of the change sets.
@@ -37,6 +38,7 @@ pub fn number_all<E: Drop>(
         events,
         drain,
         trace,
+        notices,
     } = rest;
     let mut selects = Listed::new(alloc);
     let events = with_event_numbers(alloc, &operators, events, &mut edits, &mut selects)?;
@@ -48,6 +50,7 @@ pub fn number_all<E: Drop>(
         selects,
         drain,
         trace,
+        notices,
     })
 }
 

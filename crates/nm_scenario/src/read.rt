@@ -129,6 +129,7 @@ fn read_flat(alloc: Global, whole: &Value) -> Result<Scenario, ReadError>
         selects,
         drain,
         trace,
+        notices,
     } = number_all(alloc, changes, rest)?;
     Ok(Scenario {
         body: Body::Flat { devices, edits },
@@ -138,5 +139,6 @@ fn read_flat(alloc: Global, whole: &Value) -> Result<Scenario, ReadError>
         selects,
         drain,
         trace,
+        notices,
     })
 }

@@ -24,6 +24,8 @@ pub struct Scenario {
     pub drain: bool,
     /// Whether each event is told.
     pub trace: bool,
+    /// Whether it is told what became of each confirmed commit at each device (RFC 6470 section 2.2).
+    pub notices: bool,
 }
 
 /// The contents of a scenario.

@@ -95,6 +95,7 @@ fn read_built(
         selects,
         drain,
         trace,
+        notices,
     } = number_all(alloc, changes, rest)?;
     Ok(Scenario {
         body: Body::Yang {
@@ -109,5 +110,6 @@ fn read_built(
         selects,
         drain,
         trace,
+        notices,
     })
 }

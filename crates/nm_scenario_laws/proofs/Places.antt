@@ -223,7 +223,7 @@ members_in_order config edit configs edits =
     (member_in_order _ _ _ _ operators_in_order
     (member_in_order _ _ _ _ (nothing_in_order kind.NotBuilt (λ e. cc))
     (member_in_order _ _ _ _ (events_in_order (leaf edit) (leaf_in_order edit edits) (counts_of whole))
-    (member_in_order _ _ _ _ switch_in_order (member_in_order _ _ _ _ switch_in_order (no_more_named _)))))))))
+    (member_in_order _ _ _ _ switch_in_order (member_in_order _ _ _ _ switch_in_order (member_in_order _ _ _ _ switch_in_order (no_more_named _))))))))))
 
 -- ---- modules
 

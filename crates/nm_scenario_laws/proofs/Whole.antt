@@ -95,7 +95,7 @@ module _ {C E : Type 0} (config : Data → Result C Cause) (edit : Data → Resu
       let c : Counts = counts_of whole in
       let parts = says.parts in
       let rest = parts.2.2.2.2 in
-      let is : MembersKeep P Q c (makes parts.0 parts.2.0 parts.2.2.0 parts.2.2.2.0 rest.0 rest.2.0 rest.2.2.0) = record {
+      let is : MembersKeep P Q c (makes parts.0 parts.2.0 parts.2.2.0 parts.2.2.2.0 rest.0 rest.2.0 rest.2.2.0 rest.2.2.2.0) = record {
         devices = required_list P 1 device_limit (λ part b. Says (devices_form config) part b) (devices_keep config P configs)
             (get (codes "devices") whole) parts.0 parts.1;
         changes = optional_list (ReadKeeps Q c.devices) change_limit (λ part b. Says (changes_form (leaf edit) c.devices) part b)
@@ -105,7 +105,7 @@ module _ {C E : Type 0} (config : Data → Result C Cause) (edit : Data → Resu
         events = slot_kept (λ part b. Says (events_form (leaf edit) c) part b) (EventsAre Q c) (Some []) (get (codes "events") whole) rest.0
             (λ part said. events_are (leaf edit) Q edits_hold c part rest.0 said) (no_events Q c) rest.1;
       } in
-      subst (MembersKeep P Q c) rest.2.2.2 is
+      subst (MembersKeep P Q c) rest.2.2.2.2 is
 
   -- all edits, those of change sets and of events
   edits_keep : (c : Counts) (m : Members C E) → MembersKeep P Q c m → All Q (edits_of m.changes ++ edits_of_events m.rest.events)

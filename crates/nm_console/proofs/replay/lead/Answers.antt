@@ -1,6 +1,6 @@
 use Rattle.std.proofs.Common.{◌∙◌, rules}
 use Rattle.nm_world.proofs.Passing.{rose_since}
-use Rattle.nm_console.proofs.Led.{rest_done, rest_others, rest_straight, ran_left, rest_left}
+use Rattle.nm_console.proofs.Led.{rest_done, rest_others, rest_reached, rest_straight, ran_left, ran_reached, rest_left}
 use Rattle.nm_console.proofs.replay.lead.Goals as goal
 
 pub returns-in_err-last-clause-read : goal.returns-in_err-last-clause-read
@@ -22,6 +22,10 @@ pub returns-then-drain-clause-others : goal.returns-then-drain-clause-others
 returns-then-drain-clause-others g c =
     rest_others g.C.Content.meaning c.args.world c.in_ok-last.last c.args.events.now c.drain.result c.in_ok-last.ensures.others c.drain.ensures.others
 
+pub returns-then-drain-clause-reached : goal.returns-then-drain-clause-reached
+returns-then-drain-clause-reached g c =
+    rest_reached g.C.Content.meaning c.args.world c.in_ok-last.last c.args.events.now c.args.drain c.drain.result c.if-drain.true c.in_ok-last.ensures.others c.in_ok-last.ensures.reached c.drain.ensures.reached
+
 pub returns-then-drain-clause-straight : goal.returns-then-drain-clause-straight
 returns-then-drain-clause-straight g c = λ there.
     rest_straight g.C.Content.meaning c.args.world c.in_ok-last.last c.args.events.now c.drain.result (c.in_ok-last.ensures.straight there ∙ c.requires.straight) c.drain.ensures.straight
@@ -40,6 +44,10 @@ returns-then-drain-clause-any_moment g c = λ there.
     rest_left g.C.Content.meaning c.args.world c.in_ok-last.last c.args.events.now c.args.drain (g.D.Disk.state c.args.disk.now) (g.D.Disk.state c.run.new.disk) (g.D.Disk.state c.drain.new.disk)
     c.if-drain.true (c.in_ok-last.ensures.done straight) (c.run.ensures.any_moment there c.requires.straight)
     (c.drain.ensures.any_moment (c.run.ensures.keeps.tells ∙ there) straight)
+
+pub returns-else-drain-clause-reached : goal.returns-else-drain-clause-reached
+returns-else-drain-clause-reached g c =
+    ran_reached g.C.Content.meaning c.args.world c.in_ok-last.last c.args.events.now c.args.drain c.if-drain.false c.in_ok-last.ensures.reached
 
 pub returns-else-drain-clause-calm : goal.returns-else-drain-clause-calm
 returns-else-drain-clause-calm g c = λ calm. c.in_ok-last.ensures.calm calm ∙ c.requires.straight

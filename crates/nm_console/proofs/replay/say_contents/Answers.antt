@@ -2,12 +2,13 @@ use Rattle.std.proofs.Common.{◌*◌, ◌^◌, ◌∙◌, Err, IfOk, length, ap
 use Rattle.std.specs.List.{All}
 use Rattle.std.proofs.lemmas.List.Elements.{All-nil}
 use Rattle.nm_world.specs.Runs.{IsBetween, IsNumbered, NoneStrange}
-use Rattle.nm_world.specs.World.{WorldValue, fresh_world, journal_of}
+use Rattle.nm_world.specs.World.{Setting, WorldValue, fresh_world, journal_of, start}
 use Rattle.nm_disk.specs.Image.{AnyMoment}
 use Rattle.nm_journal.specs.Fits.{Fits}
-use Rattle.nm_console.specs.Console.{TellsLast, led_to, world_told}
+use Rattle.nm_console.specs.Console.{IsLedTo, TellsLast, led_to, world_told}
 use Rattle.nm_world.proofs.Clocks.{time_now}
 use Rattle.nm_console.proofs.Crashes.{run_so}
+use Rattle.nm_console.proofs.Notices.{led_tells}
 use Rattle.nm_console.proofs.Replays.{run_told, unopened_told}
 use Rattle.nm_console.proofs.replay.say_contents.Goals as goal
 
@@ -37,8 +38,13 @@ pub returns-in_ok-world-in-Ok-clause-told : goal.returns-in_ok-world-in-Ok-claus
 returns-in_ok-world-in-Ok-clause-told g c =
     let mid = (g.D.Disk.state c.fresh.new.disk).contents in
     let after = (g.D.Disk.state c.say_run.new.disk).contents in
-    run_told _ _ c.args.events.now (g.D.Disk.state c.args.disk.now).contents after mid c.say_run.result c.in-Ok.ensures.empty (λ there. c.fresh.ensures.keeps.tells ∙ there)
-    (subst (λ (w : WorldValue _ _ _ _). IfOk c.say_run.result (λ said. TellsLast (world_told (g.C.Show.shown w.content) c.args.trace w.setting) (led_to (g.C.Content.meaning w.content) w.setting c.args.events.now c.args.drain w.state) c.args.events.now mid after said.status said.text.items))
+    let meaning = g.C.Content.meaning c.args.content in
+    let setting : Setting _ = record { tables = c.args.tables; plans = c.args.changes; users = c.args.users } in
+    run_told _ _ _ c.args.events.now (g.D.Disk.state c.args.disk.now).contents after
+    (IsLedTo meaning setting c.args.events.now c.args.drain (start setting c.args.devices))
+    (led_tells meaning (g.met.C.Content.laws c.args.content) setting c.args.devices c.requires.begins.first c.args.events.now c.args.drain)
+    mid c.say_run.result c.in-Ok.ensures.empty (λ there. c.fresh.ensures.keeps.tells ∙ there)
+    (subst (λ (w : WorldValue _ _ _ _). IfOk c.say_run.result (λ said. TellsLast (world_told (g.C.Show.shown w.content) c.args.details w.setting) (IsLedTo (g.C.Content.meaning w.content) w.setting c.args.events.now c.args.drain w.state) (led_to (g.C.Content.meaning w.content) w.setting c.args.events.now c.args.drain w.state) c.args.events.now mid after said.status said.text.items))
     (c.in_ok-world-in-Ok.ensures.begun ∙ ap fresh_world c.in_ok-setup-in-Ok.ensures) c.say_run.ensures.told)
 
 pub returns-in_ok-world-in-Ok-clause-any_moment : goal.returns-in_ok-world-in-Ok-clause-any_moment
@@ -49,5 +55,5 @@ returns-in_ok-world-in-Ok-clause-any_moment g c = λ there empty.
 
 pub returns-in-Err-clause-told : goal.returns-in-Err-clause-told
 returns-in-Err-clause-told g c =
-    unopened_told _ _ c.args.events.now (g.D.Disk.state c.args.disk.now).contents (g.D.Disk.state c.fresh.new.disk).contents c.in-Err.fault c.say_unopened.result
+    unopened_told _ _ _ c.args.events.now (g.D.Disk.state c.args.disk.now).contents (g.D.Disk.state c.fresh.new.disk).contents c.in-Err.fault c.say_unopened.result
     (λ size is. c.in-Err.ensures.not_empty size (ap Err is)) c.say_unopened.ensures.told

@@ -4,7 +4,8 @@ use Rattle.nm_world.specs.World.{start}
 use Rattle.nm_flat.specs.Flat.{flat_text}
 use Rattle.nm_flat.specs.FlatContent.{flat_meaning}
 use Rattle.nm_content.specs.Meaning.{lifted, yang_meaning, yang_text}
-use Rattle.nm_console.specs.Console.{CanRun, TellsRun, led_to, setting_of, world_told}
+use Rattle.nm_notice_laws.specs.Replays.{TellAsReplayed}
+use Rattle.nm_console.specs.Console.{CanRun, TellsRun, details_of, led_to, setting_of, world_told}
 use Rattle.nm_console.proofs.Given.{flat_runs, yang_keeps, yang_runs}
 use Rattle.nm_console.proofs.Replays.{flat_replays, yang_replays}
 use Rattle.nm_console.proofs.replay.say_scenario.Goals as goal
@@ -22,9 +23,11 @@ returns-in-Flat-clause-told g c =
     let stored = (g.D.Disk.state c.args.disk.now).contents in
     let after = (g.D.Disk.state c.say_contents.new.disk).contents in
     flat_replays s devices c.in-Flat.edits stored after c.say_contents.result c.in-Flat.is
-    (subst (λ events. IfOk c.say_contents.result (λ said. TellsRun (world_told flat_text s.trace (setting_of c.in-Flat.edits s))
+    (subst (λ events. IfOk c.say_contents.result (λ said. TellsRun (world_told flat_text (details_of s) (setting_of c.in-Flat.edits s))
+    (TellAsReplayed flat_meaning (setting_of c.in-Flat.edits s) devices)
     (led_to flat_meaning (setting_of c.in-Flat.edits s) events s.drain (start (setting_of c.in-Flat.edits s) devices)) events stored after said.status said.text.items)) c.as_slice.ensures
-    (subst (λ tables. IfOk c.say_contents.result (λ said. TellsRun (world_told flat_text s.trace (record { tables = tables; plans = s.changes; users = s.operators }))
+    (subst (λ tables. IfOk c.say_contents.result (λ said. TellsRun (world_told flat_text (details_of s) (record { tables = tables; plans = s.changes; users = s.operators }))
+    (TellAsReplayed flat_meaning (record { tables = tables; plans = s.changes; users = s.operators }) devices)
     (led_to flat_meaning (record { tables = tables; plans = s.changes; users = s.operators }) c.as_slice.result.now s.drain (start (record { tables = tables; plans = s.changes; users = s.operators }) devices))
     c.as_slice.result.now stored after said.status said.text.items)) c.new-in-Flat.ensures c.say_contents.ensures.told))
 
@@ -46,11 +49,14 @@ returns-clause-told g c =
     let stored = (g.D.Disk.state c.args.disk.now).contents in
     let after = (g.D.Disk.state c.say_contents-in-Yang.new.disk).contents in
     yang_replays s y.modules y.content y.devices y.edits stored after c.say_contents-in-Yang.result y.is
-    (subst (λ events. IfOk c.say_contents-in-Yang.result (λ said. TellsRun (world_told (yang_text y.content) s.trace (setting_of y.edits s))
+    (subst (λ events. IfOk c.say_contents-in-Yang.result (λ said. TellsRun (world_told (yang_text y.content) (details_of s) (setting_of y.edits s))
+    (TellAsReplayed (yang_meaning y.content) (setting_of y.edits s) (map lifted y.devices))
     (led_to (yang_meaning y.content) (setting_of y.edits s) events s.drain (start (setting_of y.edits s) (map lifted y.devices))) events stored after said.status said.text.items)) c.as_slice-in-Yang.ensures
-    (subst (λ tables. IfOk c.say_contents-in-Yang.result (λ said. TellsRun (world_told (yang_text y.content) s.trace (record { tables = tables; plans = s.changes; users = s.operators }))
+    (subst (λ tables. IfOk c.say_contents-in-Yang.result (λ said. TellsRun (world_told (yang_text y.content) (details_of s) (record { tables = tables; plans = s.changes; users = s.operators }))
+    (TellAsReplayed (yang_meaning y.content) (record { tables = tables; plans = s.changes; users = s.operators }) (map lifted y.devices))
     (led_to (yang_meaning y.content) (record { tables = tables; plans = s.changes; users = s.operators }) c.as_slice-in-Yang.result.now s.drain (start (record { tables = tables; plans = s.changes; users = s.operators }) (map lifted y.devices)))
     c.as_slice-in-Yang.result.now stored after said.status said.text.items)) c.new-in-Yang.ensures
-    (subst (λ (devices : List Overlaid). IfOk c.say_contents-in-Yang.result (λ said. TellsRun (world_told (yang_text y.content) s.trace (record { tables = c.new-in-Yang.result; plans = s.changes; users = s.operators }))
+    (subst (λ (devices : List Overlaid). IfOk c.say_contents-in-Yang.result (λ said. TellsRun (world_told (yang_text y.content) (details_of s) (record { tables = c.new-in-Yang.result; plans = s.changes; users = s.operators }))
+    (TellAsReplayed (yang_meaning y.content) (record { tables = c.new-in-Yang.result; plans = s.changes; users = s.operators }) devices)
     (led_to (yang_meaning y.content) (record { tables = c.new-in-Yang.result; plans = s.changes; users = s.operators }) c.as_slice-in-Yang.result.now s.drain (start (record { tables = c.new-in-Yang.result; plans = s.changes; users = s.operators }) devices))
     c.as_slice-in-Yang.result.now stored after said.status said.text.items)) c.in_ok-devices-in-Yang.ensures c.say_contents-in-Yang.ensures.told)))
